@@ -1,9 +1,10 @@
--- Reading the like of a thing again and again.
+-- Reading lists.
 use Rattle.std.specs.Prelude.{ℕ, zero, suc, List, [], ◌∷◌, Option, Result, Ok}
 use Rattle.std.specs.Option.{option_map_or}
 use Rattle.byte_files.specs.Fields.{Input, ◌>>=◌}
 
--- so many, one after the other, each read by what the one before hands on
+-- reading `left` values in order; each is read with the state that `handed` makes of the previous value, the first
+-- with s
 unfoldable pub times_at : {S X F : Type 0} → (X → S) → (S → Input → Result (X × Input) F) → (left : ℕ) → S → Input → Result (List X × Input) F
 times_at handed one zero s i = Ok ([], i)
 times_at handed one (suc left) s i = do
@@ -11,16 +12,16 @@ times_at handed one (suc left) s i = do
   xs ← times_at handed one left (handed x.0) x.1
   Ok (x.0 ∷ xs.0, xs.1)
 
--- so many, each read the same
+-- reading `left` values, each independently of the others
 abbrev pub many_at : {X F : Type 0} → (Input → Result (X × Input) F) → (left : ℕ) → Input → Result (List X × Input) F
 many_at one left i = times_at {S = Unit {0}} (λ x. tt) (λ u. one) left tt i
 
--- what the last of a list hands on, or else what was handed to the first
+-- the state that `handed` makes of the last value of a list, or s for the empty list
 abbrev pub handed_on : {S X : Type 0} → (X → S) → S → List X → S
 handed_on handed s [] = s
 handed_on handed s (x ∷ xs) = handed_on handed (handed x) xs
 
--- at most so many, up to a mark of the end; where no more may stand, the mark alone
+-- reading at most `left` values, up to the mark of the end; after `left` values only the mark may follow
 unfoldable pub until_at : {X F : Type 0} → (next : Input → Result (Option X × Input) F) → (last : Input → Result Input F) → (left : ℕ) → Input
     → Result (List X × Input) F
 until_at next last zero i = do

@@ -1,4 +1,4 @@
-//! Fetching what a reader has, to its end or to one byte more than it may have.
+//! Fetches all bytes of a reader, up to one byte past a limit.
 
 ghost use Rattle.std.specs.Prelude.{◌≤◌, ◌<◌, ◌≡◌, ◌+◌, ◌++◌, length, take, vec_len, IfSome, IfOk, OnErr};
 ghost use Rattle.std.specs.Io.KnownBytes.{Consumes, IsAtEnd};
@@ -8,15 +8,15 @@ use crate::filling::{ReadFailed, fill};
 use std::alloc::{AllocError, Global};
 use std::io::Read;
 
-/// How many bytes are asked for at a time.
+/// Number of bytes requested at a time.
 const CHUNK: usize = 65_536;
 
-/// Why what a reader has was not fetched.
+/// Why the bytes of a reader were not fetched.
 #[derive(Clone, Copy, Debug, PartialEq, Eq)]
 pub enum FetchFault {
     /// A read failed.
     Read,
-    /// There is no memory for what was read.
+    /// There is no memory for the bytes.
     Memory,
 }
 
@@ -40,8 +40,8 @@ impl From<ReadFailed> for FetchFault {
     }
 }
 
-/// Adds what a reader has next, as much as the chunk takes, and answers how many bytes these are:
-/// fewer than the chunk has only at the end of the reader.
+/// Appends the next bytes of a reader, as many as the chunk holds; returns their number, which is
+/// smaller than the chunk only at the end of the reader.
 fn fetch_more<R: Read>(
     reader: &mut R,
     chunk: &mut [u8],
@@ -59,8 +59,8 @@ fn fetch_more<R: Read>(
     Ok(filled)
 }
 
-/// How many bytes may still be fetched at once, where so many were and no more than the most: as
-/// many as the chunk has, and one past the most at the end.
+/// Number of bytes to fetch next, after `fetched` bytes, which are at most `most`: a whole chunk,
+/// or fewer if that reaches one byte past `most`.
 fn room(chunk: usize, most: u64, fetched: usize) -> usize
     requires few { fetched ≤ most }
     requires chunk { 0 < chunk }
@@ -77,7 +77,7 @@ fn room(chunk: usize, most: u64, fetched: usize) -> usize
     }
 }
 
-/// As [`fetch`], through a chunk.
+/// Like [`fetch`], with a chunk as buffer.
 fn fetch_chunks<R: Read>(
     alloc: Global,
     reader: &mut R,
@@ -104,8 +104,8 @@ fn fetch_chunks<R: Read>(
     Err(FetchFault::Read)
 }
 
-/// What a reader has, of which no more is taken than one byte past the most that it may have, with a
-/// fault, too. What is held grows as it comes.
+/// Fetches all bytes of a reader, up to one byte past `most`; takes no more from the reader, even
+/// if it fails. The memory grows with the bytes that arrive.
 pub fn fetch<R: Read>(alloc: Global, reader: &mut R, most: u64) -> Result<Vec<u8>, FetchFault>
     ensures text { IfOk result (λ bytes. IfSome (R.remaining reader.old) (λ there. bytes.items ≡ fetched most there)) }
     ensures taken { IfOk result (λ bytes. Consumes (R.remaining reader.old) (R.remaining reader.new) bytes.items) }

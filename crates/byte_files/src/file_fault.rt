@@ -1,28 +1,28 @@
-//! How the format of a file tells what is wrong with a field.
+//! Faults of a file format that reading a field can cause.
 
-/// Why a file was not read, in the words of its format.
+/// A fault of reading a file of some format.
 pub trait FileFault: Drop {
     ghost use Rattle.std.specs.Prelude.{◌≡◌, Option, Some, None};
     ghost use Rattle.byte_files.specs.Fields.{Names};
 
-    /// What the format finds wrong with a file.
+    /// Faults of the format itself.
     type Format;
 
-    /// How the format names a field that is not there.
+    /// Names of the format for a field that is incomplete or past the limit.
     ghost names: { Names Self.Format };
 
-    /// What the format found wrong, where that is why the file was not read.
+    /// The fault of the format, if the format refused the file.
     ghost format_of: { Self → Option Self.Format };
 
-    /// A field is not wholly there: the length of the input, in bytes.
+    /// Fault of a field that is missing or incomplete; takes the length of the input, in bytes.
     fn truncated(length: u64) -> Self
         ensures { format_of result ≡ Some (names.truncated length) };
 
-    /// A field would end past the limit: its offset in bytes, from 0.
+    /// Fault of a field that would end past the limit; takes its offset in bytes, from 0.
     fn over_limit(offset: u64) -> Self
         ensures { format_of result ≡ Some (names.over_limit offset) };
 
-    /// A read failed.
+    /// Fault of a failed read.
     fn read_failed() -> Self
         ensures { format_of result ≡ None };
 }

@@ -1,14 +1,12 @@
-//! Files of fields: reading one field after the other up to a limit, and writing bytes of which a
-//! failed write leaves a prefix.
+//! Reads files field by field up to a limit, and writes bytes of which a failed write leaves a
+//! prefix. It never knows a format: a field is a number of bytes, refused at its offset if it is
+//! incomplete or would end past the limit, and each format names these faults. The crates of the
+//! formats may rely on [`Source`], whose value in contracts is the input that is still to be read
+//! (`specs/Fields.antt`), on [`fill`] and [`fetch`], and on [`put`] (`specs/Writing.antt`).
 //!
-//! It knows no format: a field is so many bytes, refused with its offset where it is not wholly
-//! there or would end past the limit, and each format names these faults in its own words. The
-//! crates of the formats rest on [`Source`], whose meaning is the input that is still to be read
-//! (`specs/Fields.antt`), on [`fill`] and [`fetch`], and on [`put`] (`specs/Writing.antt`). Only
-//! [`Source::buffered`] and [`fetch`] take memory.
-//!
-//! The laws that tie reading and text are said once, for fields and what is made of them
-//! (`proofs/Codec.antt`), and so is which field is wrong where a reading fails (`proofs/Wrong.antt`).
+//! Only [`Source::buffered`] and [`fetch`] take memory. The laws that tie reading and text are
+//! proved once for fields and whatever is composed of them (`proofs/Codec.antt`), and so is which
+//! field is wrong when reading fails (`proofs/Wrong.antt`).
 #![tactic(auto)]
 
 mod fetching;

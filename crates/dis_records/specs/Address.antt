@@ -4,16 +4,16 @@ use Rattle.dis_records.specs.declared.address.TheConstants.{LARGEST_ADDRESS_PART
 use Rattle.std.specs.Ordering.{nat_cmp, then_cmp, on}
 use Rattle.std.specs.declared.cmp.Ordering.{Ordering}
 
--- the site and the application of an address
+-- site and application of an address
 pub record Pair : Type 0 where
   pub site : ℕ
   pub application : ℕ
 
--- a site or an application number that names one: not none (0) and not all (0xFFFF)
+-- the number of a single site or application: not none (0) and not all (0xFFFF)
 abbrev pub is_address_part : ℕ → Bool
 is_address_part n = nat_le 1 n && nat_le n LARGEST_ADDRESS_PART
 
--- an address: site and application name one each
+-- an address: a single site and a single application
 abbrev pub is_address : Pair → Bool
 is_address p = is_address_part p.site && is_address_part p.application
 
@@ -21,6 +21,6 @@ is_address p = is_address_part p.site && is_address_part p.application
 abbrev pub compared : Pair → Pair → Ordering
 compared a b = then_cmp (on (λ (p : Pair). p.site) nat_cmp) (on (λ (p : Pair). p.application) nat_cmp) a b
 
--- One comes before the other: its site is the lower one, or, at the same site, its application.
+-- One is before the other: its site is lower, or, at an equal site, its application.
 abbrev pub IsBefore : Pair → Pair → Type 0
 IsBefore a b = (a.site < b.site) ⊎ ((a.site ≡ b.site) × (a.application < b.application))

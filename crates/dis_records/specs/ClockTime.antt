@@ -8,6 +8,6 @@ use Rattle.dis_records.specs.Layout.{Field, Number, spelled_number}
 abbrev pub clock_time_layout : ClockTime → List Field
 clock_time_layout t = Number w32 t.hour ∷ Number w32 t.past ∷ []
 
--- the clock time that stands at an offset
+-- the clock time at an offset
 abbrev pub clock_time_at : ℕ → List ℕ → ClockTime
 clock_time_at at b = record { hour = spelled_number w32 at b; past = spelled_number w32 (at + 4) b }

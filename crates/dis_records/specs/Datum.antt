@@ -5,22 +5,22 @@ use Rattle.std.specs.Cmp.Lexicographic.{pointwise}
 use Rattle.dis_records.specs.declared.datum.FixedDatum.{FixedDatum}
 use Rattle.dis_records.specs.Layout.{Field, Number, Padding, Value, bytes_for, cleared}
 
--- a variable datum: an identifier, how many bits its value has, and the bytes that hold them
+-- a variable datum: an identifier, the number of bits of its value, and the bytes of the value
 pub record Datum : Type 0 where
   pub id : ℕ
   pub bits : ℕ
   pub bytes : List ℕ
 
--- There are as many bytes as the bits need, and the bits that are left over are zero.
+-- There are as many bytes as the bits need, and the unused bits are zero.
 pub record IsDatum (d : Datum) : Type 0 where
   pub size : length d.bytes ≡ bytes_for d.bits
   pub unused : cleared d.bits d.bytes ≡ d.bytes
 
--- two datums are the same, field by field
+-- two datums are equal, field by field
 abbrev pub same_datum : Datum → Datum → Bool
 same_datum d e = (d.id == e.id) && ((d.bits == e.bits) && pointwise ◌==◌ d.bytes e.bytes)
 
--- the size of a variable datum record: identifier, number of bits, and the value up to a boundary of 64 bits
+-- size in bytes of a variable datum record: identifier, number of bits, and the value padded to a multiple of 64 bits
 abbrev pub padded : ℕ → ℕ
 padded bits = 8 + 8 * ((bits + 63) / 64)
 
@@ -28,7 +28,7 @@ padded bits = 8 + 8 * ((bits + 63) / 64)
 abbrev pub fixed_layout : FixedDatum → List Field
 fixed_layout d = Number w32 d.id ∷ Number w32 d.value ∷ []
 
--- identifier, number of bits, value, padding to a boundary of 64 bits
+-- identifier, number of bits, value, padding to a multiple of 64 bits
 abbrev pub variable_layout : Datum → List Field
 variable_layout d = Number w32 d.id ∷ Number w32 d.bits ∷ Value d.bits d.bytes ∷ Padding (padded d.bits - 8 - bytes_for d.bits) ∷ []
 

@@ -1,4 +1,4 @@
--- Entity identifiers (IEEE 1278.1-2012, 6.2.28): who is meant, and which entities.
+-- Entity identifiers (IEEE 1278.1-2012, 6.2.28): addressed stations, and entities.
 use Rattle.std.specs.Prelude.{ℕ, Bool, true, false, ◌&&◌, ◌||◌, ◌==◌, not, List, [], ◌∷◌, ◌+◌, if◌then◌else◌}
 use Rattle.std.specs.Int.{w16}
 use Rattle.dis_records.specs.declared.entity.EntityId.{EntityId}
@@ -14,15 +14,16 @@ use Rattle.dis_records.specs.Address.{Pair}
 abbrev pub entity_layout : EntityId → List Field
 entity_layout id = Number w16 id.site ∷ Number w16 id.application ∷ Number w16 id.entity ∷ []
 
--- the identifier that stands at an offset
+-- the identifier at an offset
 abbrev pub entity_at : ℕ → List ℕ → EntityId
 entity_at at b = record { site = spelled_number w16 at b; application = spelled_number w16 (at + 2) b; entity = spelled_number w16 (at + 4) b }
 
--- the site and the application of an identifier
+-- site and application of an identifier
 abbrev pub pair_of : EntityId → Pair
 pair_of id = record { site = id.site; application = id.application }
 
--- A receiving identifier addresses a site and an application where each is named or is all of them, 0xFFFF (profile).
+-- A receiving identifier addresses a site and an application if each is equal to its own or its own is 0xFFFF, all
+-- (profile).
 abbrev pub is_addressed : EntityId → Pair → Bool
 is_addressed id p = ((id.site == p.site) || (id.site == 0xFFFF)) && ((id.application == p.application) || (id.application == 0xFFFF))
 
@@ -30,11 +31,13 @@ abbrev pub is_create : Kind → Bool
 is_create kinds.CreateEntity = true
 is_create kind = false
 
--- An entity number is open where it names no single entity: 0, 0xFFFF, and in a Create Entity 0xFFFE, the wish for a number of the receiver's choice (profile).
+-- An entity number is open if it names no single entity: 0, 0xFFFF, and in a Create Entity 0xFFFE, by which the
+-- receiver chooses a number (profile).
 abbrev pub is_open : Kind → ℕ → Bool
 is_open kind n = (n == 0) || (n == 0xFFFF) || ((n == ANY_NUMBER) && is_create kind)
 
--- A request's receiving number n and its answer's originating number m fit where they are equal or one of them is open (profile).
+-- A request's receiving number n and its answer's originating number m fit if they are equal or one of them is open
+-- (profile).
 abbrev pub are_fitting : Kind → ℕ → ℕ → Bool
 are_fitting kind n m = (n == m) || is_open kind n || is_open kind m
 

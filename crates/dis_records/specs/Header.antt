@@ -11,20 +11,20 @@ use Rattle.dis_records.specs.declared.header.TheConstants.{LARGEST_DATAGRAM, VER
 use Rattle.dis_records.specs.Kind.{kind_code, kind_from, is_kind_code}
 use Rattle.dis_records.specs.Layout.{Field, Byte, ByteIf, Number, Padding, StandAt, spelled_number}
 
--- The table of the protocol versions that are read is VERSIONS: the number, and whether byte 10 is the PDU status or padding.
--- It has version 6 (IEEE 1278.1A-1998), without a status, and version 7 (IEEE 1278.1-2012), with one.
+-- The table of the supported protocol versions is VERSIONS: the number, and whether byte 10 is the PDU status or
+-- padding. It has version 6 (IEEE 1278.1A-1998), without a status, and version 7 (IEEE 1278.1-2012), with one.
 
 abbrev pub same_version : Version → Version → Bool
 same_version versions.V6 versions.V6 = true
 same_version versions.V7 versions.V7 = true
 same_version v w = false
 
--- the first row that a test holds of; no row is asked for that is not there
+-- the first row that passes a test; used only where such a row exists
 abbrev pub row_where : (VersionRow → Bool) → List VersionRow → VersionRow
 row_where test [] = record { number = 0; version = versions.V7; has_status = false }
 row_where test (row ∷ rows) = if test row then row else row_where test rows
 
--- one of the rows has the number
+-- one of the rows has this number
 abbrev pub has_number : List VersionRow → ℕ → Bool
 has_number [] n = false
 has_number (row ∷ rows) n = (row.number == n) || has_number rows n
@@ -36,11 +36,11 @@ version_row version = row_where (λ row. same_version row.version version) VERSI
 abbrev pub version_code : Version → ℕ
 version_code version = (version_row version).number
 
--- a number that is that of a version
+-- the number of a supported version
 abbrev pub is_version : ℕ → Bool
 is_version n = has_number VERSIONS n
 
--- the version of a number; only those of the table are asked for
+-- the version with this number; used only for numbers in the table
 unfoldable pub version_from : ℕ → Version
 version_from n = (row_where (λ row. row.number == n) VERSIONS).version
 
@@ -48,7 +48,7 @@ version_from n = (row_where (λ row. row.number == n) VERSIONS).version
 abbrev pub has_status : Version → Bool
 has_status version = (version_row version).has_status
 
--- the PDU status that a header of a version carries: 0 where it has none (profile)
+-- the PDU status that a header of a version carries: 0 if it has none (profile)
 abbrev pub carried_status : Version → ℕ → ℕ
 carried_status version status = if has_status version then status else 0
 
@@ -59,7 +59,7 @@ header_layout h =
     Byte (version_code h.version) ∷ Byte h.exercise ∷ Byte (kind_code h.kind) ∷ Byte 5
     ∷ Number w32 h.stamp ∷ Number w16 h.length ∷ ByteIf (has_status h.version) h.status ∷ Padding 1 ∷ []
 
--- the header that stands at the head of bytes
+-- the header at the front of bytes
 abbrev pub header_at : List ℕ → Header
 header_at b = record {
   version = version_from (spelled_number w8 0 b);
@@ -70,7 +70,7 @@ header_at b = record {
   status = carried_status (version_from (spelled_number w8 0 b)) (spelled_number w8 10 b);
 }
 
--- b begins with the header, which gives the length of b, at most 8192, and status 0 where its version has none (profile).
+-- b begins with the header, which has the length of b, at most 8192, and status 0 if its version has none (profile).
 pub record IsHeader (h : Header) (b : List ℕ) : Type 0 where
   pub stands : StandAt (header_layout h) 0 b
   pub length_is : h.length ≡ length b

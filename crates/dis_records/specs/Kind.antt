@@ -18,11 +18,11 @@ kind_code kinds.DataPdu = 20
 kind_code kinds.EventReport = 21
 kind_code kinds.Comment = 22
 
--- a PDU type that is one of the twelve
+-- a number that is the PDU type of one of the twelve
 abbrev pub is_kind_code : ℕ → Bool
 is_kind_code n = nat_le 11 n && nat_le n 22
 
--- the kind of a PDU type; only types from 11 to 22 are asked for
+-- the kind of a PDU type; used only for 11 to 22
 unfoldable pub kind_from : ℕ → Kind
 kind_from n =
     if n == 11 then kinds.CreateEntity

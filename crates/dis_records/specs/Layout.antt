@@ -2,8 +2,8 @@
 use Rattle.std.specs.Prelude.{◌≡◌, ℕ, Bool, true, false, ◌+◌, ◌-◌, ◌*◌, ◌/◌, ◌%◌, ◌^◌, ◌==◌, List, [], ◌∷◌, ◌++◌, length, take, drop, replicate, nat_le, if◌then◌else◌}
 use Rattle.std.specs.Int.{Width, w8, byte_len, from_be_bytes, to_be_bytes}
 
--- A field: a byte, a number in the bytes of its width, bytes that may be anything, or the first so many bits of a value in whole bytes.
--- ByteIf is a byte where its test holds, and else one that may be anything.
+-- A field: a byte, a number of a width, bytes of any value, or the first bits of a value in whole bytes. ByteIf is a
+-- byte if its test holds, and else one of any value.
 pub data Field : Type 0 where
   Byte : ℕ → Field
   ByteIf : Bool → ℕ → Field
@@ -11,28 +11,28 @@ pub data Field : Type 0 where
   Padding : ℕ → Field
   Value : ℕ → List ℕ → Field
 
--- the number of bytes that hold so many bits
+-- number of bytes for this number of bits
 abbrev pub bytes_for : ℕ → ℕ
 bytes_for bits = (bits + 7) / 8
 
--- a byte with only its first so many bits, the others zero
+-- the byte with only its first `bits` bits, the others zero
 abbrev pub first_bits : ℕ → ℕ → ℕ
 first_bits bits byte = if nat_le 8 bits then byte else (byte / 2 ^ (8 - bits)) * 2 ^ (8 - bits)
 
--- bytes with only their first so many bits, the others zero
+-- the bytes with only their first `bits` bits, the others zero
 abbrev pub cleared : ℕ → List ℕ → List ℕ
 cleared bits [] = []
 cleared bits (byte ∷ bytes) = first_bits bits byte ∷ cleared (bits - 8) bytes
 
--- the last byte of a value of so many bits, its unused low bits zero
+-- the last byte of a value of `bits` bits, its unused low bits zero
 abbrev pub last_cleared : ℕ → ℕ → ℕ
 last_cleared bits byte = if bits % 8 == 0 then byte else (byte / 2 ^ (8 - bits % 8)) * 2 ^ (8 - bits % 8)
 
--- the number that the bytes of a width at an offset spell
+-- the number in the bytes of a width at an offset
 unfoldable pub spelled_number : Width → ℕ → List ℕ → ℕ
 spelled_number w at b = from_be_bytes w (take (byte_len w) (drop at b))
 
--- the value that so many bits at an offset are, its unused low bits zero
+-- the value of `bits` bits at an offset, its unused low bits zero
 unfoldable pub value_at : ℕ → ℕ → List ℕ → List ℕ
 value_at bits at b = cleared bits (take (bytes_for bits) (drop at b))
 
@@ -43,7 +43,7 @@ field_size (Number w n) = byte_len w
 field_size (Padding n) = n
 field_size (Value bits bytes) = bytes_for bits
 
--- The field stands in b at the offset.
+-- The field is in b at the offset.
 abbrev pub StandsAt : Field → ℕ → List ℕ → Type 0
 StandsAt (Byte n) at b = n ≡ spelled_number w8 at b
 StandsAt (ByteIf true n) at b = n ≡ spelled_number w8 at b
@@ -52,7 +52,7 @@ StandsAt (Number w n) at b = n ≡ spelled_number w at b
 StandsAt (Padding n) at b = Unit {0}
 StandsAt (Value bits bytes) at b = bytes ≡ value_at bits at b
 
--- The fields stand in b one after the other, from the offset on.
+-- The fields are in b one after the other, from the offset on.
 abbrev pub StandAt : List Field → ℕ → List ℕ → Type 0
 StandAt [] at b = Unit {0}
 StandAt (f ∷ fs) at b = StandsAt f at b × StandAt fs (at + field_size f) b
@@ -62,17 +62,17 @@ abbrev pub total : List ℕ → ℕ
 total [] = 0
 total (n ∷ ns) = n + total ns
 
--- the size of fields one after the other
+-- the size of all fields together
 abbrev pub size : List Field → ℕ
 size [] = 0
 size (f ∷ fs) = field_size f + size fs
 
--- b is the fields, one after the other, and nothing else.
+-- b consists of the fields, one after the other, and nothing else.
 pub record Spell (fs : List Field) (b : List ℕ) : Type 0 where
   pub stand : StandAt fs 0 b
   pub whole : length b ≡ size fs
 
--- the spelling of a field in which padding is zero
+-- the spelling of a field with zero padding
 abbrev pub field_text : Field → List ℕ
 field_text (Byte n) = n ∷ []
 field_text (ByteIf there n) = (if there then n else 0) ∷ []
@@ -80,12 +80,12 @@ field_text (Number w n) = to_be_bytes w n
 field_text (Padding n) = replicate n 0
 field_text (Value bits bytes) = bytes
 
--- the spelling of fields in which padding is zero
+-- the spelling of fields with zero padding
 abbrev pub text : List Field → List ℕ
 text [] = []
 text (f ∷ fs) = field_text f ++ text fs
 
--- The text of the field is of its size, and reads as the field.
+-- The text of the field has its size, and reads as the field.
 abbrev pub FieldFits : Field → Type 0
 FieldFits (Byte n) = Unit {0}
 FieldFits (ByteIf there n) = Unit {0}

@@ -1,4 +1,4 @@
--- Datum records that stand in a datagram from an offset on, by how many there are.
+-- Datum records in a datagram, given their offset and number.
 use Rattle.std.specs.Prelude.{ℕ, zero, suc, ◌+◌, List, [], ◌∷◌, take, drop}
 use Rattle.std.specs.Int.{w32}
 use Rattle.dis_records.specs.declared.datum.FixedDatum.{FixedDatum}
@@ -11,7 +11,7 @@ unfoldable pub fixed_at : ℕ → ℕ → List ℕ → List FixedDatum
 fixed_at zero at b = []
 fixed_at (suc n) at b = record { id = spelled_number w32 at b; value = spelled_number w32 (at + 4) b } ∷ fixed_at n (at + 8) b
 
--- the sizes of the variable records, each by the number of bits that stands in it
+-- sizes of the variable records, each by its own number of bits
 unfoldable pub variable_sizes : ℕ → ℕ → List ℕ → List ℕ
 variable_sizes zero at b = []
 variable_sizes (suc n) at b = padded (spelled_number w32 (at + 4) b) ∷ variable_sizes n (at + padded (spelled_number w32 (at + 4) b)) b
@@ -21,13 +21,13 @@ unfoldable pub ids_at : ℕ → ℕ → List ℕ → List ℕ
 ids_at zero at b = []
 ids_at (suc n) at b = spelled_number w32 at b ∷ ids_at n (at + 4) b
 
--- the variable records, their bytes as they stand
+-- the variable records, with their bytes unchanged
 unfoldable pub variable_at : ℕ → ℕ → List ℕ → List Datum
 variable_at zero at b = []
 variable_at (suc n) at b =
     record { id = spelled_number w32 at b; bits = spelled_number w32 (at + 4) b; bytes = take (bytes_for (spelled_number w32 (at + 4) b)) (drop (at + 8) b) }
     ∷ variable_at n (at + padded (spelled_number w32 (at + 4) b)) b
 
--- a view without where it lies in memory
+-- value of a view
 abbrev pub shown : VariableView → Datum
 shown v = record { id = v.id; bits = v.bits; bytes = v.bytes.now }

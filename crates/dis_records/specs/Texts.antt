@@ -1,4 +1,4 @@
--- How records are shown: identifiers, times, kinds, states and the refusals of a header (profile).
+-- Printed texts of records: identifiers, times, kinds, states and the refusals of a header (profile).
 use Rattle.std.specs.Prelude.{ℕ, List, ◌++◌, codes, decimal}
 use Rattle.dis_records.specs.declared.clock_time.ClockTime.{ClockTime}
 use Rattle.dis_records.specs.declared.entity.EntityId.{EntityId}
@@ -17,7 +17,7 @@ entity_text id = decimal id.site ++ codes ":" ++ decimal id.application ++ codes
 abbrev pub clock_text : ClockTime → List ℕ
 clock_text time = decimal time.hour ++ codes "/" ++ decimal time.past
 
--- the name of a kind of PDU
+-- name of a kind of PDU
 abbrev pub kind_text : Kind → List ℕ
 kind_text kinds.CreateEntity = codes "create-entity"
 kind_text kinds.RemoveEntity = codes "remove-entity"
@@ -32,13 +32,13 @@ kind_text kinds.DataPdu = codes "data"
 kind_text kinds.EventReport = codes "event-report"
 kind_text kinds.Comment = codes "comment"
 
--- the name of a state
+-- name of a state
 abbrev pub state_text : EntityState → List ℕ
 state_text states.Absent = codes "absent"
 state_text states.Stopped = codes "stopped"
 state_text states.Running = codes "running"
 
--- the name of a refusal of a header, with what was found
+-- name of a refusal of a header, with the bad number
 abbrev pub header_fault_text : HeaderFault → List ℕ
 header_fault_text faults.Truncated = codes "truncated"
 header_fault_text (faults.Version version) = codes "version " ++ decimal version

@@ -1,4 +1,4 @@
-//! The address of a station: which simulation application of which site.
+//! Address of a station: its site and its simulation application.
 
 ghost use Rattle.std.specs.Prelude.{◌≡◌, ◌↔◌, true};
 ghost use Rattle.std.specs.declared.cmp.Ordering.TheVariants.{Less, Equal};
@@ -7,20 +7,19 @@ ghost use Rattle.dis_records.specs.Address.{Pair, is_address_part, is_address, c
 
 use std::marker::Model;
 
-/// The largest site or application number that names one (profile); 0xFFFF names all.
+/// Largest site or application number of an address (profile); 0xFFFF means all.
 pub const LARGEST_ADDRESS_PART: u16 = 0xFFFE;
 
-/// The address of one simulation application: its site and its application number, each in
-/// 1..=0xFFFE (IEEE 1278.1-2012, 6.2.79; the range is this project's profile: 0 names none and
-/// 0xFFFF all). Addresses are compared first by site, then by application
-/// ([`addresses_are_ordered`]).
+/// Address of one simulation application: its site and its application number, each in 1..=0xFFFE
+/// (IEEE 1278.1-2012, 6.2.79; the range is this project's profile: 0 means none and 0xFFFF all).
+/// Addresses are compared first by site, then by application ([`addresses_are_ordered`]).
 #[derive(Clone, Copy, PartialEq, Eq, PartialOrd, Ord)]
 pub struct Address {
     site: u16,
     application: u16,
 }
 
-/// Whether a site or application number names one: it is in 1..=0xFFFE.
+/// Whether a site or application number can be part of an address: it is in 1..=0xFFFE.
 pub fn is_address_part(number: u16) -> bool
     ensures { result ≡ is_address_part number }
 {
@@ -41,7 +40,7 @@ impl Model for Address {
 }
 
 impl Address {
-    /// The address of these two numbers, or `None` where one of them is 0 or 0xFFFF.
+    /// Address with these two numbers, or `None` if one of them is 0 or 0xFFFF.
     pub fn new(site: u16, application: u16) -> Option<Address>
         ensures { let pair : Pair = record { site = site; application = application } in SomeIff result (is_address pair ≡ true) pair }
     {
@@ -51,7 +50,7 @@ impl Address {
         Some(Address { site, application })
     }
 
-    /// The site's number, in 1..=0xFFFE.
+    /// Number of the site, in 1..=0xFFFE.
     pub fn site(&self) -> u16
         ensures site { result ≡ self.now.site }
         ensures address { is_address self.now ≡ true }
@@ -59,7 +58,7 @@ impl Address {
         self.site
     }
 
-    /// The application's number at its site, in 1..=0xFFFE.
+    /// Number of the application at its site, in 1..=0xFFFE.
     pub fn application(&self) -> u16
         ensures application { result ≡ self.now.application }
         ensures address { is_address self.now ≡ true }
@@ -68,17 +67,17 @@ impl Address {
     }
 }
 
-/// Laws of the order of addresses: they are compared first by site, then by application, which
-/// says the same as that one is before the other, and they are equal where both numbers are. The
-/// call does nothing when it runs.
+/// Laws of comparing addresses: first by site, then by application; the result is Less exactly if
+/// one is before the other, and Equal exactly if both numbers are equal. The call does nothing at
+/// run time.
 pub fn addresses_are_ordered(a: Address, b: Address)
     ensures order { ⟦<Address as Ord>⟧.cmp a b ≡ compared a b }
     ensures below { (compared a b ≡ Less) ↔ IsBefore a b }
     ensures equal { (compared a b ≡ Equal) ↔ (a ≡ b) }
 {}
 
-/// A law of addresses: each names one simulation application, so that both numbers are in
-/// 1..=0xFFFE. The call does nothing when it runs.
+/// Both numbers of an address are in 1..=0xFFFE, so that it names one simulation application. The
+/// call does nothing at run time.
 pub fn addresses_name_one(address: Address)
     ensures { is_address address ≡ true }
 {}

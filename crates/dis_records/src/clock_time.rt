@@ -2,18 +2,18 @@
 
 use std::fmt;
 
-/// A time that exceeds one hour (IEEE 1278.1-2012, 6.2.14). Both numbers are carried and shown as
-/// they stand, and nothing is computed from them (profile).
+/// A time that exceeds one hour (IEEE 1278.1-2012, 6.2.14). Both numbers are carried and printed
+/// unchanged, and nothing is computed from them (profile).
 #[derive(Clone, Copy, PartialEq, Eq)]
 pub struct ClockTime {
-    /// Hours since 0000 h on 1 January 1970 UTC; its 32 bits are shown as an unsigned number.
+    /// Hours since 0000 h on 1 January 1970 UTC; its 32 bits are printed as an unsigned number.
     pub hour: u32,
-    /// The time past the hour, built like a timestamp: upper 31 bits the time, lowest bit 1 for
+    /// Time past the hour, encoded like a timestamp: upper 31 bits the time, lowest bit 1 for
     /// absolute time.
     pub past: u32,
 }
 
-/// `hour/past`, two numbers as they were carried.
+/// Prints `hour/past`, the two numbers unchanged.
 impl fmt::Display for ClockTime {
     ghost use Rattle.std.specs.Prelude.{Some};
     ghost use Rattle.dis_records.specs.Texts.{clock_text};

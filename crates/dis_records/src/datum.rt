@@ -15,28 +15,28 @@ pub struct FixedDatum {
     pub value: u32,
 }
 
-/// The size in bytes of a variable datum record whose value has so many bits: identifier and
-/// length (8 bytes), and the value up to a boundary of 64 bits.
+/// Size in bytes of a variable datum record with a value of `bits` bits: identifier and length (8
+/// bytes), and the value padded to a multiple of 64 bits.
 pub fn padded_size(bits: u32) -> u64
     ensures { result ≡ padded bits }
 {
     8 + 8 * u64::from(bits.div_ceil(64))
 }
 
-/// Why bytes are no value of so many bits. The bytes are handed back.
+/// Why bytes are not the value of a datum; holds these bytes.
 #[derive(Debug, Drop, Error)]
 pub enum DatumFault {
-    /// There are not `ceil(bits / 8)` bytes.
+    /// The number of bytes is not `ceil(bits / 8)`.
     #[error("wrong size")]
     WrongSize(Vec<u8>),
-    /// A low bit of the last byte that the value does not use is not zero.
+    /// An unused low bit of the last byte is not zero.
     #[error("unused bits")]
     UnusedBits(Vec<u8>),
 }
 
-/// A variable datum record (IEEE 1278.1-2012, 6.2.93): a value of so many bits under a datum
-/// identifier. The bits fill `ceil(bits / 8)` bytes from the most significant bit on, and the low
-/// bits of the last byte that are left over are zero (profile).
+/// A variable datum record (IEEE 1278.1-2012, 6.2.93): a value of `bits` bits under a datum
+/// identifier. The bits fill `ceil(bits / 8)` bytes from the most significant bit on; unused low
+/// bits of the last byte are zero (profile).
 #[derive(Drop)]
 pub struct VariableDatum {
     id: u32,
@@ -57,9 +57,8 @@ impl Model for VariableDatum {
 impl VariableDatum {
     ghost use Rattle.dis_records.specs.Refusals.{RefusesBytes};
 
-    /// The value of these bits under an identifier. It is refused where the bytes are not
-    /// `ceil(bits / 8)`, or else where an unused bit of the last one is not zero; the bytes are
-    /// handed back then.
+    /// Datum with this value. Returns WrongSize if there are not `ceil(bits / 8)` bytes, else
+    /// UnusedBits if an unused bit of the last byte is not zero; the fault has the bytes.
     pub fn new(id: u32, bits: u32, bytes: Vec<u8>) -> Result<VariableDatum, DatumFault>
         ensures value { let d : Datum = record { id = id; bits = bits; bytes = bytes.items } in IfOk result (λ datum. datum ≡ d) }
         ensures succeeds { let d : Datum = record { id = id; bits = bits; bytes = bytes.items } in IsDatum d → IsOk result }
@@ -74,21 +73,21 @@ impl VariableDatum {
         Ok(VariableDatum { id, bits, bytes })
     }
 
-    /// The datum identifier.
+    /// Datum identifier.
     pub fn id(&self) -> u32
         ensures { result ≡ self.now.id }
     {
         self.id
     }
 
-    /// How many bits the value has.
+    /// Number of bits of the value.
     pub fn bits(&self) -> u32
         ensures { result ≡ self.now.bits }
     {
         self.bits
     }
 
-    /// The bytes that hold the bits, from the most significant on.
+    /// Bytes of the value, from the most significant bit on.
     pub fn bytes(&self) -> &[u8]
         ensures bytes { result.now ≡ self.now.bytes }
         ensures size { length result.now ≡ bytes_for self.now.bits }
@@ -97,7 +96,7 @@ impl VariableDatum {
         &self.bytes
     }
 
-    /// An equal datum.
+    /// An owned copy of the datum.
     pub fn copy(&self, alloc: Global) -> Result<VariableDatum, AllocError>
         ensures { IfOk result (λ datum. datum ≡ self.now) }
     {
@@ -137,7 +136,7 @@ impl Eq for VariableDatum {
     ghost laws = { Prim.search (comparing, rules) };
 }
 
-/// The last byte of a value of so many bits, its unused low bits zero.
+/// Last byte of a value of `bits` bits, its unused low bits set to zero.
 fn cleared_last(bits: u32, last: u8) -> u8
     ensures { result ≡ last_cleared bits last }
 {
@@ -149,7 +148,7 @@ fn cleared_last(bits: u32, last: u8) -> u8
     last / step * step
 }
 
-/// Whether a low bit of the last byte that is left over is not zero.
+/// Whether an unused low bit of the last byte is not zero.
 fn has_unused(bits: u32, bytes: &[u8]) -> bool
     requires { length bytes.now ≡ bytes_for bits }
     ensures { IsTrue result ↔ ¬ (cleared bits bytes.now ≡ bytes.now) }
@@ -160,8 +159,7 @@ fn has_unused(bits: u32, bytes: &[u8]) -> bool
     }
 }
 
-/// A variable datum record as it stands in a datagram: its unused bits and its padding may be
-/// anything.
+/// A variable datum record in a datagram: its unused bits and its padding may have any value.
 #[derive(Clone, Copy)]
 pub struct VariableView<'a> {
     pub id: u32,
@@ -171,7 +169,7 @@ pub struct VariableView<'a> {
 }
 
 impl<'a> VariableView<'a> {
-    /// The last byte with its unused low bits cleared, or `None` for a value of 0 bits.
+    /// Last byte with its unused low bits cleared, or `None` for a value of 0 bits.
     pub fn last(&self) -> Option<u8>
         ensures { result ≡ slice_get (cleared self.now.bits self.now.bytes.now) (length self.now.bytes.now - 1) }
     {

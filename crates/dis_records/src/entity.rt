@@ -1,4 +1,4 @@
-//! Entity identifiers: who sends, who is meant, and which entities.
+//! Entity identifiers: originator or receiver of a PDU, and its entities.
 
 ghost use Rattle.std.specs.Prelude.{◌≡◌};
 ghost use Rattle.dis_records.specs.Address.{Pair};
@@ -7,11 +7,11 @@ ghost use Rattle.dis_records.specs.Entity.{is_addressed};
 use crate::address::Address;
 use std::fmt;
 
-/// All sites or all applications, in its place (IEEE 1278.1-2012, 6.2.28).
+/// Site or application number that means all (IEEE 1278.1-2012, 6.2.28).
 const ALL: u16 = 0xFFFF;
 
 /// An entity identifier (IEEE 1278.1-2012, 6.2.28): site, application and entity number, each
-/// 0..=0xFFFF, where 0xFFFF stands for all.
+/// 0..=0xFFFF; 0xFFFF means all.
 #[derive(Clone, Copy, PartialEq, Eq)]
 pub struct EntityId {
     pub site: u16,
@@ -19,7 +19,7 @@ pub struct EntityId {
     pub entity: u16,
 }
 
-/// `site:application:entity`.
+/// Prints `site:application:entity`.
 impl fmt::Display for EntityId {
     ghost use Rattle.std.specs.Prelude.{Some};
     ghost use Rattle.dis_records.specs.Texts.{entity_text};
@@ -31,24 +31,25 @@ impl fmt::Display for EntityId {
     }
 }
 
-/// The entities that a request and its answer speak of (profile).
+/// Entities that a request and its answer name together (profile).
 #[derive(Clone, Copy, PartialEq, Eq)]
 pub enum Scope {
-    /// The entity of this number.
+    /// The entity with this number.
     One(u16),
     /// All entities of the application.
     All,
 }
 
-/// Whether a receiving identifier addresses a station: site and application each are the
-/// station's or 0xFFFF (profile).
+/// Whether a receiving identifier addresses a station: site and application are each the station's
+/// or 0xFFFF (profile).
 pub fn addressed(target: EntityId, station: Address) -> bool
     ensures { result ≡ is_addressed target station }
 {
     addresses(target, station.site(), station.application())
 }
 
-/// Whether a receiving identifier addresses a site and an application, be they a station's or not.
+/// Whether a receiving identifier addresses this site and application; they need not be a
+/// station's.
 pub fn addresses(target: EntityId, site: u16, application: u16) -> bool
     ensures { let pair : Pair = record { site = site; application = application } in result ≡ is_addressed target pair }
 {

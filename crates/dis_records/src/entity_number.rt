@@ -1,4 +1,4 @@
-//! Entity numbers of a request and its answer: whether they fit, and whom they speak of.
+//! Entity numbers of a request and its answer: whether they fit, and which entities they name.
 
 ghost use Rattle.std.specs.Prelude.{◌≡◌, IsTrue};
 ghost use Rattle.dis_records.specs.Entity.{is_open, are_fitting, scope_of};
@@ -6,16 +6,16 @@ ghost use Rattle.dis_records.specs.Entity.{is_open, are_fitting, scope_of};
 use crate::entity::Scope;
 use crate::kind::Kind;
 
-/// No entity in particular.
+/// Entity number that means none.
 const NO_ENTITY: u16 = 0;
 
-/// All entities of the application (IEEE 1278.1-2012, 6.2.28).
+/// Entity number that means all entities of the application (IEEE 1278.1-2012, 6.2.28).
 const ALL_ENTITIES: u16 = 0xFFFF;
 
-/// In a Create Entity: a number of the receiver's choice (profile).
+/// Entity number of a Create Entity that lets the receiver choose one (profile).
 pub const ANY_NUMBER: u16 = 0xFFFE;
 
-/// Whether a number names no single entity in a request of this kind, or in its answer: 0, 0xFFFF,
+/// Whether a number names no single entity in a request of this kind or in its answer: 0, 0xFFFF,
 /// and in a Create Entity 0xFFFE (profile).
 pub fn is_open(kind: Kind, number: u16) -> bool
     ensures { result ≡ is_open kind number }
@@ -31,8 +31,8 @@ pub fn fits(kind: Kind, receiving: u16, originating: u16) -> bool
     receiving == originating || is_open(kind, receiving) || is_open(kind, originating)
 }
 
-/// The entities that the receiving number of a request of this kind and the originating number of
-/// its answer speak of: the number that is not open, or all (profile).
+/// Entities that the receiving number of a request of this kind and the originating number of its
+/// answer name together: that of the number that is not open, or all (profile).
 pub fn scope(kind: Kind, receiving: u16, originating: u16) -> Scope
     requires { IsTrue (are_fitting kind receiving originating) }
     ensures { result ≡ scope_of kind receiving originating }

@@ -1,24 +1,24 @@
-//! What an exercise knows of an entity.
+//! State of an entity in an exercise.
 
 ghost use Rattle.std.specs.Prelude.{◌≡◌};
 ghost use Rattle.dis_records.specs.Texts.{state_text};
 
 use std::fmt;
 
-/// The state of an entity in an exercise: not there, there and frozen, or there and simulated
-/// (IEEE 1278.1-2012, 5.6.5; that an entity has exactly one of these is this project's profile).
+/// State of an entity in an exercise: absent, frozen or simulated (IEEE 1278.1-2012, 5.6.5; that an
+/// entity has exactly one of these is this project's profile).
 #[derive(Clone, Copy, PartialEq, Eq)]
 pub enum EntityState {
-    /// It is not there.
+    /// The entity does not exist.
     Absent,
-    /// It is there, and its simulation is stopped.
+    /// The entity exists, and its simulation is stopped.
     Stopped,
-    /// It is there, and its simulation runs.
+    /// The entity exists, and its simulation runs.
     Running,
 }
 
 impl EntityState {
-    /// Its name, as `absent`.
+    /// Name of the state, such as `absent`.
     pub fn name(self) -> &'static str
         ensures { result.now ≡ state_text self }
     {
@@ -30,7 +30,7 @@ impl EntityState {
     }
 }
 
-/// `absent`, `stopped` or `running`.
+/// Prints `absent`, `stopped` or `running`.
 impl fmt::Display for EntityState {
     ghost use Rattle.std.specs.Prelude.{Some};
     ghost use Rattle.dis_records.specs.Texts.{state_text};

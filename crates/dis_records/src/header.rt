@@ -1,4 +1,4 @@
-//! The header that each datagram begins with.
+//! Header of a PDU, at the front of each datagram.
 
 ghost use Rattle.std.specs.Prelude.{◌≡◌, ◌↔◌, ◌⊎◌, ℕ, nat_le, length, not, IfOk, IfErr, IfSome, IsNone, IsTrue, Some, None, Ok};
 ghost use Rattle.dis_records.specs.Layout.{Fit, text};
@@ -10,16 +10,16 @@ use crate::kind::Kind;
 use std::error::Error;
 use std::fmt;
 
-/// The size of a header in bytes.
+/// Size of a header in bytes.
 pub const HEADER_SIZE: usize = 12;
 
-/// The size in bytes of the largest datagram (profile).
+/// Size in bytes of the largest datagram (profile).
 pub const LARGEST_DATAGRAM: usize = 8192;
 
-/// The protocol family Simulation Management.
+/// Protocol family Simulation Management.
 const FAMILY: u8 = 5;
 
-/// A protocol version that is read.
+/// A supported protocol version.
 #[derive(Clone, Copy, PartialEq, Eq)]
 pub enum Version {
     /// IEEE 1278.1A-1998.
@@ -28,19 +28,18 @@ pub enum Version {
     V7,
 }
 
-/// What the headers of a protocol version are.
+/// Properties of the headers of a protocol version.
 #[derive(Clone, Copy)]
 pub struct VersionRow {
-    /// The number that the header carries.
+    /// Version number in the header.
     pub number: u8,
     pub version: Version,
     /// Whether byte 10 of the header is the PDU status. Otherwise it is padding, as byte 11 is in
-    /// each version.
+    /// every version.
     pub has_status: bool,
 }
 
-/// The table of the protocol versions that are read, a row each. A datagram of any other is
-/// refused.
+/// Supported protocol versions, a row each. A datagram of any other is refused.
 pub const VERSIONS: [VersionRow; 2] = [
     VersionRow {
         number: 6,
@@ -61,14 +60,14 @@ impl Version {
         VERSIONS[self as usize]
     }
 
-    /// The number that the header carries.
+    /// Version number in the header.
     pub fn code(self) -> u8
         ensures { result ≡ version_code self }
     {
         self.row().number
     }
 
-    /// The version of a number, if it is one that is read.
+    /// Version with this number, if it is supported.
     pub fn from_code(code: u8) -> Option<Version>
         ensures version { IfSome result (λ version. version_code version ≡ code) }
         ensures none { IsNone result ↔ IsTrue (not (is_version code)) }
@@ -81,7 +80,7 @@ impl Version {
         None
     }
 
-    /// The PDU status that a header of this version carries: this one, or 0 where it carries none.
+    /// PDU status that a header of this version carries: `status`, or 0 if it carries none.
     pub fn carried_status(self, status: u8) -> u8
         ensures { result ≡ carried_status self status }
     {
@@ -89,7 +88,7 @@ impl Version {
     }
 }
 
-/// Laws of the table of versions: those that are read are 6 and 7, under these names, and headers
+/// Laws of the table of versions: the supported ones are 6 and 7, under these names, and headers
 /// have a PDU status from version 7 on.
 pub fn versions_are_known()
     ensures names { (version_code Version.V6 ≡ 6) × (version_code Version.V7 ≡ 7) }
@@ -103,33 +102,33 @@ pub struct Header {
     pub version: Version,
     pub exercise: u8,
     pub kind: Kind,
-    /// The timestamp: the upper 31 bits tell the time past the hour, the lowest bit is 1 where it
-    /// is absolute. No rule depends on it (profile).
+    /// Timestamp: the upper 31 bits are the time past the hour, the lowest bit is 1 if it is
+    /// absolute. No rule depends on it (profile).
     pub stamp: u32,
-    /// The length of the whole PDU in bytes, header included.
+    /// Length of the whole PDU in bytes, header included.
     pub length: u16,
-    /// The PDU status, carried as a number; 0 in a version whose headers have none.
+    /// PDU status, carried as a number; 0 in a version whose headers have none.
     pub status: u8,
 }
 
 /// Why a datagram does not begin with a header: the first of these, in this order, that holds.
 #[derive(Clone, Copy, Debug, PartialEq, Eq)]
 pub enum HeaderFault {
-    /// It has fewer than 12 bytes.
+    /// The datagram has fewer than 12 bytes.
     Truncated,
-    /// The protocol version is this number, which is none that is read.
+    /// The protocol version is this number, which is not supported.
     Version(u8),
-    /// The protocol family is this number and not 5.
+    /// The protocol family is this number instead of 5.
     Family(u8),
-    /// The PDU type is this number and none of 11 to 22.
+    /// The PDU type is this number, which is not in 11..=22.
     Kind(u8),
-    /// It has more than 8192 bytes.
+    /// The datagram has more than 8192 bytes.
     Long,
-    /// The length field has this number, which is not the number of its bytes.
+    /// The length field has this number, which is not the length of the datagram.
     LengthField(u16),
 }
 
-/// Its name, and what was found.
+/// Prints the name of the fault, with the bad number.
 impl fmt::Display for HeaderFault {
     ghost use Rattle.std.specs.Prelude.{Some};
     ghost use Rattle.dis_records.specs.Texts.{header_fault_text};
@@ -150,15 +149,15 @@ impl fmt::Display for HeaderFault {
 
 impl Error for HeaderFault {}
 
-/// The header of a datagram, whose length field is its number of bytes, at most 8192.
+/// Reads the header of a datagram, whose length field must be its number of bytes, at most 8192.
 pub fn read_header(bytes: &[u8]) -> Result<Header, HeaderFault>
-    // What is read is the header.
+    // The result is the header.
     ensures header { IfOk result (λ header. IsHeader header bytes.now) }
-    // A header is read.
+    // A header is accepted.
     ensures only { (header : Header) → IsHeader header bytes.now → result ≡ Ok header }
-    // It is the one that stands at the head of the bytes, of which none is refused.
+    // The bytes are not refused, and the result is the header at their front.
     ensures at { IfOk result (λ header. (header_refusal bytes.now ≡ None) × (header ≡ header_at bytes.now)) }
-    // A refusal is the first in order that holds.
+    // A fault is the first in order that holds.
     ensures refused { IfErr result (λ fault. header_refusal bytes.now ≡ Some fault) }
 {
     read_fields(bytes)
@@ -200,8 +199,8 @@ fn read_fields(bytes: &[u8]) -> Result<Header, HeaderFault>
     })
 }
 
-/// The header of a datagram that is known to begin with one: as [`read_header`] reads it, without another
-/// look at what it could be refused for.
+/// Reads the header of a datagram that is known to begin with one: equals [`read_header`], but
+/// checks nothing again.
 #[tactic(auto, using(crate::proofs::Headers::header_known))]
 pub fn header_again(bytes: &[u8]) -> Header
     requires { header_refusal bytes.now ≡ None }
@@ -220,8 +219,8 @@ pub fn header_again(bytes: &[u8]) -> Header
     }
 }
 
-/// The text of a header, with its padding zero; so the status of a version whose headers have none
-/// is not written.
+/// Text of a header, with zero padding; so the status is not written for a version whose headers
+/// have none.
 pub fn write_header(header: &Header) -> [u8; 12]
     ensures text { result ≡ text (header_layout header.now) }
     ensures fits { Fit (header_layout header.now) }

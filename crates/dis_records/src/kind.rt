@@ -25,14 +25,14 @@ pub enum Kind {
 }
 
 impl Kind {
-    /// The PDU type.
+    /// PDU type.
     pub fn code(self) -> u8
         ensures { result ≡ kind_code self }
     {
         self as u8
     }
 
-    /// The kind of a PDU type, if it is one of the twelve.
+    /// Kind of a PDU type, if it is one of the twelve.
     pub fn from_code(code: u8) -> Option<Kind>
         ensures kind { IfSome result (λ kind. kind_code kind ≡ code) }
         ensures none { IsNone result ↔ IsTrue (not (is_kind_code code)) }
@@ -65,7 +65,7 @@ impl Kind {
         }
     }
 
-    /// Its name, as `create-entity`.
+    /// Name of the kind, such as `create-entity`.
     pub fn name(self) -> &'static str
         ensures { result.now ≡ kind_text self }
     {
@@ -86,7 +86,7 @@ impl Kind {
     }
 }
 
-/// Its name, as `create-entity`.
+/// Prints the name of the kind, such as `create-entity`.
 impl fmt::Display for Kind {
     ghost use Rattle.std.specs.Prelude.{Some};
     ghost use Rattle.dis_records.specs.Texts.{kind_text};

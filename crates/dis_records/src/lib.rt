@@ -1,14 +1,13 @@
-//! The records that every Simulation Management PDU of DIS is made of (IEEE 1278.1-2012, 6.2):
-//! the header, addresses and entity identifiers, clock times and datum records, the last also in
-//! place, as views of a datagram.
+//! Records of the Simulation Management PDUs of DIS (IEEE 1278.1-2012, 6.2): the header, addresses
+//! and entity identifiers, clock times and datum records, the last also in place, as views of a
+//! datagram. It never sees the body of a PDU as a whole, and only [`VariableDatum::copy`] takes
+//! memory. The layers above may rely on `read_header`, which accepts exactly the headers of the
+//! layout; on `scope`; on the invariant of [`VariableDatum`], which has as many bytes as its bits
+//! need, the unused bits zero; and on [`DatumsView`] and [`IdsView`], whose iterators yield the
+//! records of a datagram, in order.
 //!
-//! It knows no body of a PDU, and only [`VariableDatum::copy`] takes memory. The layers above rest
-//! on `read_header`, which accepts exactly the headers of the layout, on `scope`, on the fact that
-//! a [`VariableDatum`] has as many bytes as its bits need, the unused bits zero, and on
-//! [`DatumsView`] and [`IdsView`], whose iterators give what stands in a datagram, in order.
-//!
-//! What the crate of the bodies needs to walk a datagram (numbers at an offset, the records one
-//! after the other) stands under [`field`] and [`records`].
+//! [`field`] and [`records`] have the functions to walk a datagram: numbers at an offset, and
+//! records one after the other.
 #![tactic(auto)]
 
 mod address;

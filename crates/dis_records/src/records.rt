@@ -1,4 +1,4 @@
-//! Datum records and identifiers that stand in a datagram one after the other, walked in order.
+//! Iterators over the datum records and identifiers in a datagram.
 
 ghost use Rattle.std.specs.Prelude.{◌≡◌, ◌+◌, ◌*◌, ◌≤◌, length};
 ghost use Rattle.std.specs.Iterator.{YieldsFirst, YieldsFirstBy, item_count};
@@ -9,7 +9,7 @@ use crate::datum::{FixedDatum, VariableView, padded_size};
 use crate::field::u32_at;
 use std::marker::Model;
 
-/// Walks fixed datum records of a datagram; contracts see the list of those that are left.
+/// Iterator over fixed datum records of a datagram; contracts see the list of the remaining ones.
 #[derive(Drop)]
 pub struct FixedRecords<'a> {
     bytes: &'a [u8],
@@ -30,7 +30,7 @@ impl<'a> Model for FixedRecords<'a> {
 }
 
 impl<'a> FixedRecords<'a> {
-    /// So many records from an offset on, which are all wholly there.
+    /// Iterator over `count` records from an offset on, which are all complete.
     pub fn over(bytes: &'a [u8], at: usize, count: u32) -> FixedRecords<'a>
         requires { at + 8 * count ≤ length bytes.now }
         ensures { result ≡ fixed_at count at bytes.now }
@@ -65,7 +65,7 @@ impl<'a> Iterator for FixedRecords<'a> {
     }
 }
 
-/// Walks datum identifiers of a datagram; contracts see the list of those that are left.
+/// Iterator over datum identifiers of a datagram; contracts see the list of the remaining ones.
 #[derive(Drop)]
 pub struct DatumIdRecords<'a> {
     bytes: &'a [u8],
@@ -85,7 +85,7 @@ impl<'a> Model for DatumIdRecords<'a> {
 }
 
 impl<'a> DatumIdRecords<'a> {
-    /// So many identifiers from an offset on, which are all wholly there.
+    /// Iterator over `count` identifiers from an offset on, which are all complete.
     pub fn over(bytes: &'a [u8], at: usize, count: u32) -> DatumIdRecords<'a>
         requires { at + 4 * count ≤ length bytes.now }
         ensures { result ≡ ids_at count at bytes.now }
@@ -117,7 +117,8 @@ impl<'a> Iterator for DatumIdRecords<'a> {
     }
 }
 
-/// Walks variable datum records of a datagram; contracts see the list of those that are left.
+/// Iterator over variable datum records of a datagram; contracts see the list of the remaining
+/// ones.
 #[derive(Drop)]
 pub struct VariableRecords<'a> {
     bytes: &'a [u8],
@@ -139,7 +140,7 @@ impl<'a> Model for VariableRecords<'a> {
 }
 
 impl<'a> VariableRecords<'a> {
-    /// So many records from an offset on, which are all wholly there.
+    /// Iterator over `count` records from an offset on, which are all complete.
     pub fn over(bytes: &'a [u8], at: usize, count: u32) -> VariableRecords<'a>
         requires { at + total (variable_sizes count at bytes.now) ≤ length bytes.now }
         ensures { result ≡ variable_at count at bytes.now }

@@ -1,4 +1,4 @@
-//! The datums of a body, and the identifiers of a query, where they stand in a datagram.
+//! Datums of a body, and identifiers of a query, in place in a datagram.
 
 ghost use Rattle.std.specs.Prelude.{◌≡◌, length};
 ghost use Rattle.dis_records.specs.Views.{DatumsFit, IdsFit, shown_datums, shown_ids};
@@ -8,8 +8,8 @@ use crate::records::{DatumIdRecords, FixedRecords, VariableRecords};
 use std::marker::Model;
 
 /// A datum specification (IEEE 1278.1-2012, 6.2.18) in a datagram: fixed datum records, then
-/// variable datum records, walked in order and none copied. Contracts see it as two lists, the
-/// bytes of a variable record as they stand.
+/// variable datum records, read in order and not copied. Contracts see it as two lists, with the
+/// bytes of a variable record unchanged.
 #[derive(Drop)]
 pub struct DatumsView<'a> {
     bytes: &'a [u8],
@@ -27,8 +27,7 @@ impl<'a> Model for DatumsView<'a> {
 }
 
 impl<'a> DatumsView<'a> {
-    /// The datums whose two counts stand at an offset in bytes, from 0, and which are all wholly
-    /// there.
+    /// Datums whose two counts are at this offset in bytes, from 0, and which are all complete.
     pub fn over(bytes: &'a [u8], counts: usize) -> DatumsView<'a>
         requires { DatumsFit counts bytes.now }
         ensures { result ≡ shown_datums counts bytes.now }
@@ -36,7 +35,7 @@ impl<'a> DatumsView<'a> {
         DatumsView { bytes, counts }
     }
 
-    /// How many fixed datum records there are.
+    /// Number of fixed datum records.
     #[tactic(auto, using(crate::proofs::Lists::fixed_count))]
     pub fn fixed_count(&self) -> u32
         ensures { result ≡ length self.now.fixed }
@@ -44,7 +43,7 @@ impl<'a> DatumsView<'a> {
         u32_at(self.bytes, self.counts)
     }
 
-    /// How many variable datum records there are.
+    /// Number of variable datum records.
     #[tactic(auto, using(crate::proofs::Lists::variable_count))]
     pub fn variable_count(&self) -> u32
         ensures { result ≡ length self.now.variable }
@@ -52,7 +51,7 @@ impl<'a> DatumsView<'a> {
         u32_at(self.bytes, self.counts + 4)
     }
 
-    /// The fixed datum records, in order.
+    /// Fixed datum records, in order.
     #[tactic(auto, unfolding(crate::specs::Views::shown_datums))]
     pub fn fixed(&self) -> FixedRecords<'a>
         ensures { result ≡ self.now.fixed }
@@ -61,7 +60,7 @@ impl<'a> DatumsView<'a> {
         FixedRecords::over(self.bytes, self.counts + 8, count)
     }
 
-    /// The variable datum records, in order.
+    /// Variable datum records, in order.
     #[tactic(auto, unfolding(crate::specs::Views::shown_datums))]
     pub fn variable(&self) -> VariableRecords<'a>
         ensures { result ≡ self.now.variable }
@@ -73,9 +72,8 @@ impl<'a> DatumsView<'a> {
     }
 }
 
-/// The datum identifiers that a query asks for (IEEE 1278.1-2012, 6.2.17) in a datagram: those of
-/// fixed datums, then those of variable datums, walked in order and none copied. Contracts see it
-/// as two lists.
+/// Datum identifiers of a query (IEEE 1278.1-2012, 6.2.17) in a datagram: those of fixed datums,
+/// then those of variable datums, read in order and not copied. Contracts see it as two lists.
 #[derive(Drop)]
 pub struct IdsView<'a> {
     bytes: &'a [u8],
@@ -93,8 +91,8 @@ impl<'a> Model for IdsView<'a> {
 }
 
 impl<'a> IdsView<'a> {
-    /// The identifiers whose two counts stand at an offset in bytes, from 0, and which are all
-    /// wholly there.
+    /// Identifiers whose two counts are at this offset in bytes, from 0, and which are all
+    /// complete.
     pub fn over(bytes: &'a [u8], counts: usize) -> IdsView<'a>
         requires { IdsFit counts bytes.now }
         ensures { result ≡ shown_ids counts bytes.now }
@@ -102,7 +100,7 @@ impl<'a> IdsView<'a> {
         IdsView { bytes, counts }
     }
 
-    /// How many identifiers of fixed datums there are.
+    /// Number of identifiers of fixed datums.
     #[tactic(auto, using(crate::proofs::Lists::fixed_id_count))]
     pub fn fixed_count(&self) -> u32
         ensures { result ≡ length self.now.fixed }
@@ -110,7 +108,7 @@ impl<'a> IdsView<'a> {
         u32_at(self.bytes, self.counts)
     }
 
-    /// How many identifiers of variable datums there are.
+    /// Number of identifiers of variable datums.
     #[tactic(auto, using(crate::proofs::Lists::variable_id_count))]
     pub fn variable_count(&self) -> u32
         ensures { result ≡ length self.now.variable }
@@ -118,7 +116,7 @@ impl<'a> IdsView<'a> {
         u32_at(self.bytes, self.counts + 4)
     }
 
-    /// The identifiers of fixed datums, in order.
+    /// Identifiers of fixed datums, in order.
     #[tactic(auto, unfolding(crate::specs::Views::shown_ids))]
     pub fn fixed(&self) -> DatumIdRecords<'a>
         ensures { result ≡ self.now.fixed }
@@ -127,7 +125,7 @@ impl<'a> IdsView<'a> {
         DatumIdRecords::over(self.bytes, self.counts + 8, count)
     }
 
-    /// The identifiers of variable datums, in order.
+    /// Identifiers of variable datums, in order.
     #[tactic(auto, unfolding(crate::specs::Views::shown_ids))]
     pub fn variable(&self) -> DatumIdRecords<'a>
         ensures { result ≡ self.now.variable }

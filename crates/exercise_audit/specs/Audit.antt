@@ -1,4 +1,4 @@
--- What a search for an order says (profile).
+-- Result of a search for a sequence (profile).
 use Rattle.std.specs.Prelude.{◌≡◌, ◌≢◌, ◌⊎◌, ℕ, zero, suc, List, [], ◌∷◌, ◌++◌, length, Some, None, Bool, true, false}
 use Rattle.exercise_model.specs.Recording.{PlainRecording}
 use Rattle.exercise_model.specs.History.{Event, History, log_at, log_of}
@@ -15,25 +15,25 @@ pub record IsNextEntry (r : PlainRecording) (h : History) (s i : ℕ) (v : Event
   pub own : own_event r s i ≡ Some v
   pub place : length (log_before r s i) ≡ length (log_at s h)
 
--- the station did all that its log holds
+-- the station did all entries of its log
 abbrev pub IsDone : PlainRecording → History → ℕ → Type 0
 IsDone r h s = log_at s h ≡ log_of r s
 
--- the block says what stands in the way of its station after h
+-- the block has the next entry of its station after h and the first cause against it
 pub record IsBlock (r : PlainRecording) (h : History) (s : ℕ) (b : Block) : Type 0 where
   pub station : b.station ≡ s
   pub event : Event
   pub next : IsNextEntry r h s b.entry event
   pub cause : cause_of r.setting h event ≡ Some b.cause
 
--- the blocks of the first n stations after h, in their order: one for each station that is not done
+-- the blocks of the first n stations after h, by rising indices: one for each station that is not done
 abbrev pub AreBlocks : PlainRecording → History → ℕ → List Block → Type 0
 AreBlocks r h zero blocks = blocks ≡ []
 AreBlocks r h (suc s) blocks =
     (IsDone r h s × AreBlocks r h s blocks)
     ⊎ ((others : List Block) × (b : Block) × (blocks ≡ others ++ b ∷ []) × AreBlocks r h s others × IsBlock r h s b)
 
--- NO RUN EXPLAINS the recording, some run can't go on, and the blocks are those of every run that can't
+-- NO RUN EXPLAINS the recording, some run is stuck, and the blocks are those of every stuck run
 pub record IsBlocked (r : PlainRecording) (blocks : List Block) : Type 0 where
   pub unexplained : (k : History) → Explains r k → ⊥
   pub some_end : (end : History) × IsStuck r end

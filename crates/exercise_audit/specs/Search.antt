@@ -1,4 +1,4 @@
--- What the search by waiting lists does with its lists at an entry (profile).
+-- Effect of the search by waiting lists on its lists (profile).
 use Rattle.std.specs.Prelude.{◌≡◌, ◌≢◌, ◌⊎◌, ◌+◌, ◌<◌, ℕ, List, ◌++◌, length, slice_get, slice_index_or, Option, Some, None, IfSome}
 use Rattle.exercise_model.specs.declared.cause.Cause.{Cause}
 use Rattle.exercise_model.specs.declared.cause.Cause.TheVariants.{NeverSent}
@@ -10,27 +10,29 @@ use Rattle.exercise_audit.specs.declared.blocks.Block.{Block}
 use Rattle.exercise_audit.specs.Audit.{IsBlock, IsDone}
 use Rattle.exercise_audit.specs.Waiting.{Waiting, waiting_for, Joins, Leaves}
 
--- the stations from s on, of n, the last one first
+-- the stations s to n - 1, the last one first
 pub record AreFromLast (n s : ℕ) (stations : List ℕ) : Type 0 where
   pub count : length stations + s ≡ n
   pub each : (j : ℕ) → j < length stations → slice_index_or stations j 0 + j + 1 ≡ n
 
--- once entry i is taken those may go on that waited for it, and nobody waits for it any more; all others wait as they did
+-- once entry i is taken, the stations that waited for it are ready, and none waits for it any more; all others wait
+-- as before
 pub record IsWoken (i : ℕ) (old new : Waiting) (was ready : List ℕ) : Type 0 where
   pub woken : ready ≡ was ++ waiting_for old i
   pub waits : Leaves old new i
 
--- a station that can't go on waits for this entry, if there is one; all others wait as they did
+-- a station that cannot go on waits for this entry, if there is any; all others wait as before
 abbrev pub Waits : ℕ → Waiting → Waiting → Option ℕ → Type 0
 Waits station old new (Some source) = Joins old new source station
 Waits station old new None = new ≡ old
 
--- a station that can't go on by entry i for this cause waits for the source of what it receives there, where that was not sent
+-- a station that cannot go on at entry i for this cause waits for the source of the datagram that it receives there,
+-- if that was not sent
 pub record WaitsFor (r : PlainRecording) (i station : ℕ) (cause : Cause) (old new : Waiting) : Type 0 where
   pub unsent : cause ≡ NeverSent → Waits station old new (source_of r i)
   pub other : cause ≢ NeverSent → new ≡ old
 
--- A STATION GOES ON: it takes one of its entries, and those may go on that waited for what it sends
+-- A STATION GOES ON: it takes one of its entries, and the stations that waited for this entry are ready
 pub record GoesOnBy (old new : CourseData) (station : ℕ) (waited waits : Waiting) (was ready : List ℕ) : Type 0 where
   pub place : ℕ
   pub link : ℕ
@@ -38,12 +40,12 @@ pub record GoesOnBy (old new : CourseData) (station : ℕ) (waited waits : Waiti
   pub step : new ≡ with_step old (record { place = place; link = link })
   pub woken : IsWoken place waited waits was ready
 
--- A STATION IS HELD UP: this stands in its way, and it waits for what it is to receive, where that was not sent
+-- A STATION IS HELD UP: it has this block, and waits for the source of its receipt, if that was not sent
 pub record IsHeldUp (c : CourseData) (station : ℕ) (waited waits : Waiting) : Type 0 where
   pub block : Block
   pub stands : IsBlock c.recording (so_far c) station block
   pub waiting : WaitsFor c.recording block.entry station block.cause waited waits
 
--- a station stays where it is: it is done, or held up
+-- a station does not go on: it is done, or held up
 abbrev pub Stays : CourseData → ℕ → Waiting → Waiting → Type 0
 Stays c station waited waits = (IsDone c.recording (so_far c) station × (waits ≡ waited)) ⊎ IsHeldUp c station waited waits

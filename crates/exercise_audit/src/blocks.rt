@@ -1,25 +1,25 @@
-//! What a search for an order found.
+//! Result of a search for a sequence.
 
 use exercise_check::Certificate;
 use exercise_model::Cause;
 
-/// The next entry of a station that can't go on, and why.
+/// Next entry of a station that cannot go on, and its cause.
 #[derive(Clone, Copy, PartialEq, Eq)]
 pub struct Block {
-    /// The station's index in the recording, from 0.
+    /// Index of the station in the recording, from 0.
     pub station: usize,
-    /// The entry's number in the recording, from 0.
+    /// Number of the entry in the recording, from 0.
     pub entry: usize,
-    /// The first cause of 5 to 13 that holds there.
+    /// First cause of 5 to 13 that holds there.
     pub cause: Cause,
 }
 
-/// What a search for an order found.
+/// Result of a search for a sequence.
 #[derive(Drop)]
 pub enum Audit {
-    /// An order that explains the recording.
+    /// A sequence that explains the recording.
     Explained(Certificate),
-    /// No order does. There is one block for each station that still has entries when nothing can
-    /// go on, by rising indices; every search comes to the same.
+    /// No sequence explains it. One block, by rising indices, for each station that still has
+    /// entries when no station can go on; every search ends with these blocks.
     Blocked(Vec<Block>),
 }

@@ -1,5 +1,5 @@
-//! Whether some run explains a recording. Mostly the entries happened in the order in which they are
-//! written, which is seen at once; only where it is not a search is made.
+//! Decides whether some run explains a recording. Mostly the sequence of the entries in the file is
+//! such a run, which one pass shows; a search is made only if it is not.
 
 ghost use Rattle.std.specs.Prelude.{◌≡◌, ◌<◌, ◌+◌, true, length, IfOk};
 ghost use Rattle.exercise_audit.specs.Audit.{IsAuditOf, IsExplained};
@@ -11,7 +11,7 @@ use exercise_findings::Findings;
 use exercise_model::{Cause, ExerciseLog};
 use std::alloc::{AllocError, Global};
 
-/// Whether what an entry receives from a recorded station was sent by an entry before it.
+/// Whether an earlier entry sent the datagram that this entry received from a recorded station.
 fn is_sent_before<L: ExerciseLog>(findings: &mut Findings<'_, L>, entry: usize) -> bool
     ensures findings { findings.new ≡ findings.old }
     ensures sent { result ≡ is_sent_before findings.old entry }
@@ -23,7 +23,7 @@ fn is_sent_before<L: ExerciseLog>(findings: &mut Findings<'_, L>, entry: usize) 
     }
 }
 
-/// Whether an entry is seen to be allowed after those before it, which are a run.
+/// Whether an entry is found to be allowed after those before it, which are a run.
 #[tactic(auto, using(crate::proofs::Written::alone_follows, crate::proofs::Written::sent_follows))]
 fn follows<L: ExerciseLog>(findings: &mut Findings<'_, L>, entry: usize) -> bool
     requires within { entry < length findings.old.entries }
@@ -38,7 +38,7 @@ fn follows<L: ExerciseLog>(findings: &mut Findings<'_, L>, entry: usize) -> bool
     }
 }
 
-/// Whether the entries are seen to be a run in the order in which they are written.
+/// Whether the entries, in the sequence of the recording, are found to be a run.
 fn runs_as_written<L: ExerciseLog>(findings: &mut Findings<'_, L>) -> bool
     ensures findings { findings.new ≡ findings.old }
     ensures run { result ≡ true → RunsAsWritten findings.old (length findings.old.entries) }
@@ -51,16 +51,16 @@ fn runs_as_written<L: ExerciseLog>(findings: &mut Findings<'_, L>) -> bool
     true
 }
 
-/// Whether some run explains a recording, and what was found in it.
+/// Whether some run explains a recording, and the findings in it.
 #[derive(Drop)]
 pub struct Explanation<'a, L: ExerciseLog> {
-    /// Whether some run explains it.
+    /// Whether some run explains the recording.
     pub is_explained: bool,
-    /// What the log of each station says of its own entries.
+    /// Findings of each station's log about its own entries.
     pub findings: Findings<'a, L>,
 }
 
-/// Whether what a search came to says that some run explains the recording.
+/// Whether the result of a search shows that some run explains the recording.
 #[tactic(auto, using(crate::proofs::Written::good_explained, crate::proofs::Written::blocked_unexplained))]
 fn tells_run<L: ExerciseLog>(log: &L, audit: Audit) -> bool
     requires { IsAuditOf (L.recording log.now) audit }
@@ -73,9 +73,9 @@ fn tells_run<L: ExerciseLog>(log: &L, audit: Audit) -> bool
     }
 }
 
-/// Whether some run explains a recording of which this was found, which is given back. No order is
-/// named: [`audit_found`] does that. It is searched for one only where the entries are not a run in the
-/// order in which they are written.
+/// Whether some run explains a recording with these findings, which are returned too. It names no
+/// sequence: [`audit_found`] does. It searches only if the entries, in the sequence of the
+/// recording, are not a run.
 #[tactic(auto, using(crate::proofs::Written::written_explained))]
 pub fn explanation_of<'a, L: ExerciseLog>(
     alloc: Global,

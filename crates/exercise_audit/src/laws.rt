@@ -10,10 +10,10 @@ ghost use Rattle.exercise_audit.specs.declared.blocks.Block.{Block};
 ghost use Rattle.exercise_audit.specs.declared.blocks.Audit.{Audit};
 ghost use Rattle.exercise_audit.specs.Audit.{IsBlocked, IsAuditOf};
 
-/// The law of conversion: a recording of the first form and the one that is equal to it in all but
-/// the form, which is Closed, are blocked alike (`blocked`), and what a search may answer of the one it
-/// may answer of the other (`answers`); so [`audit`] explains the one exactly where it explains the
-/// other (`one`, `other`), want of memory aside.
+/// Converting a recording of the first form changes no search. It and the recording that differs
+/// only in its form, Closed, are blocked alike (`blocked`), and a search may return equal results
+/// for both (`answers`); so [`audit`] explains one exactly if it explains the other (`one`,
+/// `other`), except for want of memory.
 ///
 /// [`audit`]: crate::audit
 pub fn conversion_keeps_searches()

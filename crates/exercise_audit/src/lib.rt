@@ -1,11 +1,13 @@
-//! The search for an order of events that explains a recording.
+//! Searches for a sequence of the entries that explains a recording. It is never trusted: its
+//! result is a certificate, which the checker judges. The layer above may rely on the contract of
+//! [`audit`]: it finds a sequence exactly if one explains the recording, and otherwise returns the
+//! next entry and its cause for each station that cannot go on.
 //!
-//! It is not trusted: what it finds is a certificate, which the checker judges. [`audit`] finds one
-//! exactly where there is one, and else says what stands in the way of each station that can't go
-//! on; [`audit_found`] does so where what the log says is found already, and gives that back. A station
-//! that is to receive what was not sent so far waits for it in a list; in the end it sweeps over the
-//! stations until a whole sweep adds no step, which is what the promise rests on. The law of a recording
-//! that is carried over to the second format is [`conversion_keeps_searches`].
+//! [`audit_found`] searches with findings that were made before, and returns them. A station whose
+//! next entry received a datagram that was not sent so far waits in a list for the send. At the end
+//! the search sweeps over the stations until a whole sweep adds no step; the contract rests on
+//! these sweeps. The law of a recording converted to the second format is
+//! [`conversion_keeps_searches`].
 #![tactic(auto)]
 
 mod blocks;

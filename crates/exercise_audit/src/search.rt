@@ -1,5 +1,5 @@
-//! The search by waiting lists: each station goes on as far as it may, and then waits for the
-//! entry that sends what it is to receive next, if that one was not taken so far.
+//! Search by waiting lists: each station goes on as far as it can, and then waits for the entry
+//! that sends the datagram of its next receipt, if that entry was not taken so far.
 
 ghost use Rattle.std.specs.Prelude.{◌≡◌, ◌<◌, length, OnOk, IfOk, true, false};
 ghost use Rattle.exercise_audit.specs.Search.{AreFromLast, IsWoken, WaitsFor, GoesOnBy, Stays};
@@ -9,7 +9,7 @@ use exercise_check::{Course, Progress};
 use exercise_model::{Cause, ExerciseLog};
 use std::alloc::{AllocError, Global};
 
-/// Lets those go on that wait for an entry, which is taken.
+/// Makes the stations ready that wait for an entry, which is taken.
 fn wake_at(
     alloc: Global,
     waiting: &mut Waiting,
@@ -25,8 +25,8 @@ fn wake_at(
     ready.extend_from_slice(woken.as_slice())
 }
 
-/// Lets a station wait for the source of what an entry receives, if the station can't go on because
-/// that was not sent.
+/// Makes a station wait for the source of its entry, if the station cannot go on because the
+/// datagram was not sent.
 fn wait_for<L: ExerciseLog>(
     alloc: Global,
     course: &Course<'_, L>,
@@ -46,9 +46,9 @@ fn wait_for<L: ExerciseLog>(
     }
 }
 
-/// Lets a station go on by its next entry, if it has one and may, and answers whether it did. Those
-/// that wait for what it sends may go on then; where it is to receive what was not sent so far, it
-/// waits for that.
+/// Lets a station take its next entry, if it has one and may; returns whether it did. Then makes
+/// those ready that wait for this entry. If the entry received a datagram that was not sent so far,
+/// the station waits for its source.
 fn go_on<L: ExerciseLog>(
     alloc: Global,
     course: &mut Course<'_, L>,
@@ -76,7 +76,7 @@ fn go_on<L: ExerciseLog>(
     }
 }
 
-/// Lets a station go on as far as it may.
+/// Lets a station take entries as far as it can.
 fn go_far<L: ExerciseLog>(
     alloc: Global,
     course: &mut Course<'_, L>,
@@ -87,7 +87,7 @@ fn go_far<L: ExerciseLog>(
 ) -> Result<(), AllocError>
     ensures { course.new.recording ≡ course.old.recording }
 {
-    // It has at most as many entries as there are.
+    // A station has at most all entries.
     for _entry in 0..entries {
         if !go_on(alloc, course, waiting, ready, station)? {
             break;
@@ -96,7 +96,7 @@ fn go_far<L: ExerciseLog>(
     Ok(())
 }
 
-/// All stations, the last one first.
+/// Indices of all stations, the last one first.
 #[tactic(auto, using(crate::proofs::Turns::from_before))]
 fn all_stations(alloc: Global, stations: usize) -> Result<Vec<usize>, AllocError>
     ensures { IfOk result (λ all. AreFromLast stations 0 all.items) }
@@ -108,8 +108,8 @@ fn all_stations(alloc: Global, stations: usize) -> Result<Vec<usize>, AllocError
     Ok(all)
 }
 
-/// Lets all stations go on, until each has no more entries, waits, or can't go on at all. No entry
-/// is looked at more than twice: once where it is waited for, and once where it is taken.
+/// Lets all stations go on until each is finished, waits, or cannot go on. No entry is looked at
+/// more than twice: once when its station has to wait, and once when it is taken.
 pub(crate) fn go_on_by_lists<L: ExerciseLog>(
     alloc: Global,
     log: &L,

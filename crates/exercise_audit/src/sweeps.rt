@@ -1,5 +1,5 @@
-//! The search: the stations go on by waiting lists, and then it sweeps over them until a whole sweep
-//! adds no step.
+//! The search: the stations go on by waiting lists, and then in sweeps until a whole sweep adds no
+//! step.
 
 ghost use Rattle.std.specs.Prelude.{◌≡◌, ◌<◌, length, IfSome, IfNone, IfOk, OnOk, true, false, ℕ};
 ghost use Rattle.exercise_check.specs.Course.{IsCourse, so_far};
@@ -13,7 +13,7 @@ use exercise_findings::Findings;
 use exercise_model::ExerciseLog;
 use std::alloc::{AllocError, Global};
 
-/// Lets a station go on by its next entry, if it has one and may, and answers whether it did.
+/// Lets a station take its next entry, if it has one and may; returns whether it did.
 fn let_go_on<L: ExerciseLog>(
     alloc: Global,
     course: &mut Course<'_, L>,
@@ -34,7 +34,7 @@ fn let_go_on<L: ExerciseLog>(
     }
 }
 
-/// Lets each station take one step, if it can, and answers whether one did.
+/// Lets each station take one step, if it can; returns whether any did.
 fn sweep<L: ExerciseLog>(
     alloc: Global,
     course: &mut Course<'_, L>,
@@ -54,7 +54,7 @@ fn sweep<L: ExerciseLog>(
     Ok(more)
 }
 
-/// Lets the stations go on, by the waiting lists and then by sweeps, until none of them can.
+/// Lets the stations go on, by waiting lists and then in sweeps, until none of them can.
 fn go_on_to_the_end<L: ExerciseLog>(
     alloc: Global,
     log: &L,
@@ -66,7 +66,7 @@ fn go_on_to_the_end<L: ExerciseLog>(
     ensures stuck { OnOk result ((s : ℕ) → s < stations → IsHeld course.new.recording (so_far course.new) s) }
 {
     go_on_by_lists(alloc, log, course)?;
-    // A sweep over the stations shows that nothing can go on.
+    // The last sweep shows that no station can go on.
     loop {
         if !sweep(alloc, course, stations)? {
             break;
@@ -75,7 +75,7 @@ fn go_on_to_the_end<L: ExerciseLog>(
     Ok(())
 }
 
-/// What stands in the way of a station that is held.
+/// Block of a station that cannot go on; `None` if all its entries are taken.
 fn block_at<L: ExerciseLog>(
     alloc: Global,
     course: &mut Course<'_, L>,
@@ -95,12 +95,12 @@ fn block_at<L: ExerciseLog>(
             entry,
             cause,
         })),
-        // A station that is held can't go on.
+        // A held station takes no step.
         Progress::Taken(_) => Ok(None),
     }
 }
 
-/// What stands in the way of each station that is not done.
+/// Blocks of all stations that have entries left.
 fn blocks<L: ExerciseLog>(
     alloc: Global,
     course: &mut Course<'_, L>,
@@ -120,8 +120,8 @@ fn blocks<L: ExerciseLog>(
     Ok(blocks)
 }
 
-/// Lets the stations go on until none of them can, and answers what stands in the way; nothing where
-/// every entry was taken.
+/// Lets the stations go on until none of them can; returns the blocks, or `None` if every entry was
+/// taken.
 fn held_up<L: ExerciseLog>(
     alloc: Global,
     log: &L,
@@ -140,16 +140,16 @@ fn held_up<L: ExerciseLog>(
     Ok(Some(blocks(alloc, course, stations)?))
 }
 
-/// What a search comes to, and what was found in the log that it looked at.
+/// Result of a search, with the findings in the log.
 #[derive(Drop)]
 pub struct Searched<'a, L: ExerciseLog> {
-    /// What it comes to.
+    /// Result of the search.
     pub audit: Audit,
-    /// What the log of each station says of its own entries.
+    /// Findings of each station's log about its own entries.
     pub findings: Findings<'a, L>,
 }
 
-/// As [`audit`], where what the log says is found already; it is given back.
+/// Like [`audit`], with findings that were made before; returns them.
 pub fn audit_found<'a, L: ExerciseLog>(
     alloc: Global,
     findings: Findings<'a, L>,
@@ -168,9 +168,9 @@ pub fn audit_found<'a, L: ExerciseLog>(
     Ok(Searched { audit, findings })
 }
 
-/// Looks for an order of events that explains a recording. It finds a certificate, which the
-/// checker accepts, exactly where some order explains it; else it tells, for each station that has
-/// entries left when nothing can go on, its next entry and the first cause that stands in the way.
+/// Searches for a sequence of the entries that explains a recording. Finds a certificate, which the
+/// checker accepts, exactly if some sequence explains it; otherwise returns, for each station that
+/// has entries left when no station can go on, its next entry and the first cause that holds there.
 /// Which certificate is found is not promised.
 pub fn audit<L: ExerciseLog>(alloc: Global, log: &L) -> Result<Audit, AllocError>
     ensures { IfOk result (IsAuditOf (L.recording log.now)) }

@@ -6,11 +6,11 @@ ghost use Rattle.exercise_audit.specs.Waiting.{waiting_for, NoneWaits, Joins, Le
 use indexmap::IndexMap;
 use std::alloc::{AllocError, Global};
 
-/// The stations that wait for each entry. A station waits for one entry at a time, so there are at
-/// most as many as stations.
+/// For each entry, the stations that wait for it. A station waits for one entry at a time, so there
+/// are at most as many entries here as stations.
 pub(crate) type Waiting = IndexMap<usize, Vec<usize>>;
 
-/// Nobody waits. It takes no memory.
+/// Empty table of waiting stations. Takes no memory.
 #[tactic(auto, unfolding(crate::specs::Waiting::waiting_for))]
 pub(crate) fn no_waiting(alloc: Global) -> Waiting
     ensures { NoneWaits result }
@@ -18,7 +18,7 @@ pub(crate) fn no_waiting(alloc: Global) -> Waiting
     Waiting::new(alloc)
 }
 
-/// Lets a station wait for an entry. Without memory for that, those wait that did.
+/// Adds a station that waits for an entry. Without memory for that, the table is unchanged.
 pub(crate) fn wait(
     alloc: Global,
     waiting: &mut Waiting,
@@ -35,13 +35,13 @@ pub(crate) fn wait(
     Ok(())
 }
 
-/// Takes out the stations that wait for an entry, and no others. It takes no memory.
+/// Removes and returns the stations that wait for an entry. Takes no memory.
 #[tactic(auto, unfolding(crate::specs::Waiting::waiting_for))]
 pub(crate) fn wake(alloc: Global, waiting: &mut Waiting, entry: usize) -> Vec<usize>
     ensures woken { result.items ≡ waiting_for waiting.old entry }
     ensures leaves { Leaves waiting.old waiting.new entry }
 {
-    // Where nobody waits, which is often, nothing is looked up.
+    // While no station waits, which is often, nothing is looked up.
     if waiting.is_empty() {
         return Vec::new(alloc);
     }

@@ -15,18 +15,18 @@ use Rattle.exercise_chart.specs.Scene.{SceneData, point_in}
 abbrev pub arrow_between : SceneData → (j i : ℕ) → Arrow
 arrow_between c j i = record { from = point_in c j; to = point_in c i; said = option_map saying_of (meant_at c.recording i) }
 
--- it is drawn where one of the two is in a row
+-- the arrow to entry i from entry j, if one of the two is in a row
 abbrev pub arrow_from : SceneData → (i j : ℕ) → Option Arrow
 arrow_from c i j =
     if is_row c.rows (step_of c.recording c.steps j) || is_row c.rows (step_of c.recording c.steps i) then Some (arrow_between c j i) else None
 
--- THE ARROW TO ENTRY i, where it has a source and one of the two is in a row
+-- THE ARROW TO ENTRY i, if it has a source and one of the two is in a row
 unfoldable pub arrow_to : SceneData → ℕ → Option Arrow
 arrow_to c i = option_and_then (arrow_from c i) (source_of c.recording i)
 
 abbrev pub arrows_to : SceneData → ℕ → List Arrow
 arrows_to c i = option_to_list (arrow_to c i)
 
--- THE ARROWS, by the entries that they lead to
+-- ALL ARROWS, in the order of the receipts in the recording
 unfoldable pub arrows_of : SceneData → List Arrow
 arrows_of c = lists_below (arrows_to c) (length c.recording.entries)

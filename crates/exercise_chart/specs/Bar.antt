@@ -1,4 +1,4 @@
--- The bars of a picture: how the entities of the stations lived (profile).
+-- The bars of a picture: the states of the stations' entities over the steps (profile).
 use Rattle.std.specs.Prelude.{◌≡◌, ℕ, ◌+◌, ◌-◌, ◌<◌, List, [], ◌∷◌, ◌++◌, length, Bool, true, ◌&&◌, nat_lt, nat_le, Option, Some, None, option_map, Result, Ok, Err, Vec, if◌then◌else◌}
 use Rattle.std.specs.declared.alloc.Global.{Global}
 use Rattle.std.specs.Option.{option_map_or}
@@ -15,15 +15,15 @@ use Rattle.exercise_chart.specs.declared.fault.ChartFault.TheVariants.{OverLimit
 use Rattle.exercise_chart.specs.Point.{step_of}
 use Rattle.exercise_chart.specs.Scene.{SceneData, point_in}
 
--- a stretch began in the last row or before it, if it did not go on from the start
+-- a span began in the last row or before it, or lasts from the start
 abbrev pub began : SceneData → Span → Bool
 began c x = option_map_or (λ i. nat_lt (step_of c.recording c.steps i) c.rows.end) x.from true
 
--- it did not end before the first row, if it ended
+-- a span ends in the first row or after it, or never
 abbrev pub reaches : SceneData → Span → Bool
 reaches c x = option_map_or (λ i. nat_le c.rows.first (step_of c.recording c.steps i)) x.to true
 
--- A STRETCH IS SHOWN
+-- A SPAN IS SHOWN
 abbrev pub is_shown : SceneData → Span → Bool
 is_shown c x = began c x && reaches c x
 
@@ -31,11 +31,11 @@ is_shown c x = began c x && reaches c x
 abbrev pub no_slots : Slots
 no_slots = record { used = 0; last = None }
 
--- the slots with one for entity e: its own, if it was the last that came, else another
+-- the slots after entity e: unchanged if it has the last slot, else with one more
 abbrev pub slots_with : Slots → ℕ → Slots
 slots_with l e = if same_id l.last (Some e) then l else record { used = l.used + 1; last = Some e }
 
--- the bar of a stretch of station s, in a slot
+-- the bar of a span of station s, in a slot
 abbrev pub bar_of : SceneData → (s slot : ℕ) → Span → Bar
 bar_of c s slot x = record {
   station = s;
@@ -46,37 +46,38 @@ bar_of c s slot x = record {
   to = option_map (point_in c) x.to;
 }
 
--- it is drawn for so many entities of a station
+-- the bar of a span, if its entity is among the first MOST_ENTITIES
 abbrev pub bars_in : SceneData → (s : ℕ) → Slots → Span → List Bar
 bars_in c s l x = if nat_le l.used MOST_ENTITIES then bar_of c s (l.used - 1) x ∷ [] else []
 
--- the bars of stretches that come by entity, with the slots before them
+-- the bars of spans that are sorted by entity, given the slots used so far
 unfoldable pub bars_from : SceneData → (s : ℕ) → Slots → List Span → List Bar
 bars_from c s l [] = []
 bars_from c s l (x ∷ xs) =
     if is_shown c x then bars_in c s (slots_with l x.entity.entity) x ++ bars_from c s (slots_with l x.entity.entity) xs else bars_from c s l xs
 
--- THE BARS OF STATION s: the stretches that are shown of its 8 least entities that have one
+-- THE BARS OF STATION s: the shown spans of the 8 least entities that have one
 unfoldable pub station_bars : SceneData → ℕ → List Bar
 station_bars c s = bars_from c s no_slots (spans_of c.recording s)
 
--- THE BARS, by station, entity and time
+-- ALL BARS, by station, entity and time
 unfoldable pub bars_of : SceneData → List Bar
 bars_of c = lists_below (station_bars c) (length c.recording.setting.stations)
 
--- ---- what a function returned
+-- ---- results of functions
 
--- the entities of some station have too many stretches
+-- the entities of some station have too many spans
 abbrev pub IsOverfull : PlainRecording → Type 0
 IsOverfull r = (s : ℕ) × (MOST_STRETCHES < length (spans_of r s))
 
--- what came stands behind what was there, or the fault says why not; of want of memory nothing is said
+-- the bars are appended; OverLimit says that some station has too many spans; of memory nothing is
+-- said
 abbrev pub Adds : PlainRecording → (old added : List Bar) → Result (Unit {0}) ChartFault → (new : List Bar) → Type 0
 Adds r old added (Ok x) new = new ≡ old ++ added
 Adds r old added (Err OverLimit) new = IsOverfull r
 Adds r old added (Err Memory) new = Unit {0}
 
--- the same of a list that is made
+-- the result of a function that makes a list of bars
 abbrev pub Makes : PlainRecording → List Bar → Result (Vec Bar Global) ChartFault → Type 0
 Makes r bars (Ok made) = made.items ≡ bars
 Makes r bars (Err OverLimit) = IsOverfull r

@@ -1,4 +1,4 @@
--- Where each station sent, or received, each datagram first (profile).
+-- The first send, or the first receipt, of each datagram at each station (profile).
 use Rattle.std.specs.Prelude.{◌≡◌, ℕ, List, ◌∷◌, length, Bool, true, false, ◌&&◌, ◌==◌, bytes_eq, Option}
 use Rattle.std.specs.Option.{option_map_or}
 use Rattle.std.specs.Hash.{HashWrites, u16}
@@ -13,7 +13,8 @@ use Rattle.exercise_model.specs.Place.{first_below}
 use Rattle.exercise_review.specs.Entries.{bytes_sent, bytes_got}
 use Rattle.exercise_chart.specs.declared.deeds.Deed.{Deed}
 
--- entry i has these bytes at station s, where `by` tells what it sends or receives there
+-- entry i has these bytes at station s, where `by` maps a station and an entry to bytes sent, or
+-- received
 unfoldable pub has_bytes : (ℕ → ℕ → Option (List ℕ)) → ℕ → List ℕ → ℕ → Bool
 has_bytes by s b i = option_map_or (bytes_eq b) (by s i) false
 
@@ -21,34 +22,35 @@ has_bytes by s b i = option_map_or (bytes_eq b) (by s i) false
 abbrev pub first_sent : PlainRecording → ℕ → List ℕ → Option ℕ
 first_sent r s b = first_below (has_bytes (bytes_sent r) s b) (length r.entries)
 
--- THE FIRST AT WHICH IT RECEIVES THEM
+-- THE FIRST ENTRY AT WHICH STATION s RECEIVES THESE BYTES
 abbrev pub first_got : PlainRecording → ℕ → List ℕ → Option ℕ
 first_got r s b = first_below (has_bytes (bytes_got r) s b) (length r.entries)
 
--- ---- how they are kept
+-- ---- the index of first entries
 
--- the same station, and the same bytes
+-- equality of keys: equal station, and equal bytes
 abbrev pub same_deed : Deed → Deed → Bool
 same_deed x y = (x.station == y.station) && bytes_eq x.bytes.now y.bytes.now
 
--- what a hasher is fed
+-- the input of the hasher
 abbrev pub deed_fed : Deed → HashWrites
 deed_fed x = x.bytes.now ∷ u16 x.station
 
--- the same is fed alike
+-- equal keys give the hasher equal input
 pub deeds_alike : (x y : Deed) → same_deed x y ≡ true → deed_fed x ≡ deed_fed y
 deeds_alike x y same =
     let parts = and_parts (x.station == y.station) _ same in
     ap (λ (b : List ℕ). b ∷ u16 x.station) ((bytes_decides x.bytes.now y.bytes.now).0 parts.1)
     ∙ ap (λ (s : ℕ). y.bytes.now ∷ u16 s) (eqb-true x.station y.station parts.0)
 
--- the entry that was kept, or this one
+-- the entry that is in the index, else this one
 abbrev pub first_kept : ℕ → Option ℕ → ℕ
 first_kept entry kept = option_map_or (λ (first : ℕ). first) kept entry
 
 abbrev pub Firsts : Type 0
 Firsts = IndexMap Deed ℕ (BuildHasherDefault DefaultHasher)
 
--- THE TIE: of the entries below n that have the same bytes at a station, the first
+-- THE INVARIANT: each key maps to the first of the entries below n that has these bytes at this
+-- station
 abbrev pub AreFirsts : (ℕ → ℕ → Option (List ℕ)) → ℕ → Firsts → Type 0
 AreFirsts by n firsts = (k : Deed) → get same_deed firsts k ≡ first_below (has_bytes by k.station k.bytes.now) n

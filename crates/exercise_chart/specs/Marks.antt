@@ -1,4 +1,4 @@
--- THE MARKS OF A PICTURE: what is told of the steps from one to another of a certificate of a recording (profile).
+-- THE MARKS OF A PICTURE of a range of steps of a certificate of a recording (profile).
 use Rattle.std.specs.Prelude.{◌≡◌, ℕ, ◌<◌, ◌⊎◌, List, Result, Ok, Err}
 use Rattle.exercise_model.specs.Recording.{PlainRecording}
 use Rattle.exercise_check.specs.declared.certificate.Step.{Step}
@@ -23,12 +23,12 @@ use Rattle.exercise_chart.specs.Unanswered.{unanswered_of}
 
 -- | Mark       | One for each                                                                                                              |
 -- |------------|---------------------------------------------------------------------------------------------------------------------------|
--- | row        | step that is shown: its entry, and what the station did: sent or received what means something, or what means nothing, or told a state |
--- | arrow      | receipt with its source, one of them at least in a row                                                                    |
--- | outside    | receipt in a row of what came from outside, and from which address                                                        |
--- | loss       | first send of its bytes, in a row, and other recorded station that it addresses and that never received it                |
--- | bar        | stretch of a life that began in the last row or before and did not end before the first, of the 8 least entities of a station that have one |
--- | unanswered | first copy, in a row, of an order at a party whose fate there is unanswered                                               |
+-- | row        | shown step: its entry, and what the station did: sent or received a PDU or other bytes, or reported a state               |
+-- | arrow      | receipt with its source, at least one of them in a row                                                                    |
+-- | outside    | receipt, in a row, from an address that nobody recorded, with that address                                                |
+-- | loss       | first send of its bytes, in a row, and other recorded station that it is addressed to and that never received it          |
+-- | bar        | span that began in the last row or before and did not end before the first, of the 8 least entities of a station that have one |
+-- | unanswered | first receipt, in a row, of a request at a receiver whose fate there is unanswered                                        |
 pub record MarksData : Type 0 where
   pub rows : List Row
   pub arrows : List Arrow
@@ -50,11 +50,11 @@ marks_in c = record {
 abbrev pub scene_of : PlainRecording → List Step → Rows → SceneData
 scene_of r steps rows = record { recording = r; steps = steps; rows = rows }
 
--- THE MARKS of the rows of steps of a certificate
+-- THE MARKS of a range of steps of a certificate
 abbrev pub marks_of : PlainRecording → List Step → Rows → MarksData
 marks_of r steps rows = marks_in (scene_of r steps rows)
 
--- the marks that are kept
+-- the marks in a value of the program
 abbrev pub marks_kept : Marks → MarksData
 marks_kept m = record {
   rows = m.rows.items;
@@ -65,9 +65,9 @@ marks_kept m = record {
   unanswered = m.unanswered.items;
 }
 
--- ---- what a function returned
+-- ---- results of functions
 
--- the marks; OverLimit says that the rows are too many, or the stretches of some station
+-- the marks; OverLimit says that there are too many rows, or too many spans of some station
 abbrev pub Marked : SceneData → Result Marks ChartFault → Type 0
 Marked c (Ok marks) = marks_kept marks ≡ marks_in c
 Marked c (Err OverLimit) = (MOST_ROWS < row_count c) ⊎ IsOverfull c.recording

@@ -1,4 +1,4 @@
--- What came from outside in a picture (profile).
+-- The receipts from outside in a picture (profile).
 use Rattle.std.specs.Prelude.{ℕ, ◌+◌, List, Option, Some, None, option_map, option_and_then, slice_get, if◌then◌else◌}
 use Rattle.std.specs.Option.{option_to_list}
 use Rattle.dis_records.specs.Entity.{pair_of}
@@ -15,7 +15,7 @@ use Rattle.exercise_chart.specs.Saying.{saying_of}
 use Rattle.exercise_chart.specs.Scene.{SceneData, point_in}
 use Rattle.exercise_chart.specs.Row.{row_count}
 
--- what entry i received, which means p, if that came from outside: from its address
+-- the receipt of p at entry i, if p is from outside: with the address of its sender
 abbrev pub outside_meant : SceneData → ℕ → Pdu → Option FromOutside
 outside_meant c i p =
     if is_outside c.recording p then Some (record { by = outsider_at (pair_of p.origin); to = point_in c i; said = saying_of p }) else None
@@ -28,13 +28,13 @@ outside_entry c i (Told s e y) = None
 abbrev pub outside_taken : SceneData → ℕ → Option FromOutside
 outside_taken c i = option_and_then (outside_entry c i) (slice_get c.recording.entries i)
 
--- WHAT CAME FROM OUTSIDE in the row of a step
+-- THE RECEIPT FROM OUTSIDE in the row of a step
 unfoldable pub outside_at : SceneData → ℕ → Option FromOutside
 outside_at c step = option_and_then (outside_taken c) (place_at c.steps step)
 
 abbrev pub outside_shown : SceneData → ℕ → List FromOutside
 outside_shown c n = option_to_list (outside_at c (c.rows.first + n))
 
--- ALL OF IT, by rows
+-- ALL RECEIPTS FROM OUTSIDE, by row
 unfoldable pub outside_of : SceneData → List FromOutside
 outside_of c = lists_below (outside_shown c) (row_count c)

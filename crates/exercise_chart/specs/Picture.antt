@@ -1,4 +1,4 @@
--- What the marks of a good certificate are (profile).
+-- Properties of the marks of a good certificate (profile).
 use Rattle.std.specs.Prelude.{◌≡◌, ◌<◌, ℕ, ◌+◌, List, length, take, Bool, true, ◌&&◌, ◌||◌, nat_le, nat_lt, Option, Some}
 use Rattle.std.specs.Option.{option_map_or}
 use Rattle.dis_records.specs.declared.entity_state.EntityState.{EntityState}
@@ -17,11 +17,11 @@ use Rattle.exercise_chart.specs.declared.bar.Bar.{Bar}
 use Rattle.exercise_chart.specs.Window.{is_row}
 use Rattle.exercise_chart.specs.Point.{point_of}
 
--- the step of a row, and the entry that it takes
+-- the step and the entry of a row
 abbrev pub row_fact : Row → ℕ × ℕ
 row_fact row = (row.at.step, row.at.entry)
 
--- the same of the n-th step that is shown, by the certificate
+-- the step and the entry of the n-th shown step of a certificate
 abbrev pub step_fact : List Step → Rows → ℕ → ℕ × ℕ
 step_fact steps w n = (w.first + n, (step_at steps (w.first + n)).place)
 
@@ -33,15 +33,15 @@ pub record LeadsDown (r : PlainRecording) (steps : List Step) (w : Rows) (a : Ar
   pub down : a.from.step < a.to.step
   pub shown : (is_row w a.from.step || is_row w a.to.step) ≡ true
 
--- a change stands in step k or before it, if there is one
+-- a change, if one is given, is at step k or before it
 abbrev pub is_done : Option Point → ℕ → Bool
 is_done change k = option_map_or (λ (p : Point). nat_le p.step k) change true
 
--- it stands behind step k, if there is one
+-- a change, if one is given, is after step k
 abbrev pub is_ahead : Option Point → ℕ → Bool
 is_ahead change k = option_map_or (λ (p : Point). nat_lt k p.step) change true
 
--- A BAR COVERS STEP k: it began there or before, and ends behind
+-- A BAR COVERS STEP k: it began there or before, and ends after
 abbrev pub bar_covers : Bar → ℕ → Bool
 bar_covers b k = is_done b.from k && is_ahead b.to k
 

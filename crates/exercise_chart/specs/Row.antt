@@ -1,4 +1,4 @@
--- The rows of a picture: one for each step that is shown (profile).
+-- The rows of a picture: one for each shown step (profile).
 use Rattle.std.specs.Prelude.{ℕ, ◌+◌, ◌-◌, List, length, Bool, false, not, ◌==◌, Option, Some, None, option_map, option_and_then, slice_get, if◌then◌else◌}
 use Rattle.std.specs.Option.{option_map_or, option_to_list}
 use Rattle.siman_pdus.specs.declared.pdu.Pdu.{Pdu}
@@ -18,16 +18,17 @@ use Rattle.exercise_chart.specs.Deeds.{first_sent}
 use Rattle.exercise_chart.specs.Saying.{saying_of}
 use Rattle.exercise_chart.specs.Scene.{SceneData}
 
--- an order that entry i sends stood before: its head is another entry
+-- entry i sends a request whose head, its first entry, is another entry
 abbrev pub is_repeat : SceneData → ℕ → Bool
 is_repeat c i = option_map_or (λ h. not (h == i)) (head_of c.recording i) false
 
--- SENT AGAIN: the station sent the same bytes before; or, in other bytes, the same order
+-- WHETHER AND HOW A SEND REPEATS AN EARLIER ONE: equal bytes of this station; or the request, in
+-- other bytes
 abbrev pub again_of : SceneData → ℕ → ℕ → List ℕ → Again
 again_of c i s b =
     if same_id (first_sent c.recording s b) (Some i) then (if is_repeat c i then agains.Repeated else agains.No) else agains.SameBytes
 
--- what station s does at entry i, where the bytes mean this
+-- what station s does when it sends bytes with this meaning at entry i
 abbrev pub sent_did : SceneData → ℕ → ℕ → List ℕ → Option Pdu → Did
 sent_did c i s b None = deeds.SentOther (length b)
 sent_did c i s b (Some p) = deeds.Sent (saying_of p) (again_of c i s b)
@@ -49,18 +50,18 @@ row_of c step i e = record { at = record { entry = i; step = step; station = sta
 abbrev pub row_taking : SceneData → (step i : ℕ) → Option Row
 row_taking c step i = option_map (row_of c step i) (slice_get c.recording.entries i)
 
--- THE ROW OF A STEP, if there is such a step and it takes an entry of the recording
+-- THE ROW OF A STEP, if there is such a step and the recording has its entry
 unfoldable pub row_at : SceneData → ℕ → Option Row
 row_at c step = option_and_then (row_taking c step) (place_at c.steps step)
 
--- how many steps are shown
+-- the number of shown steps
 abbrev pub row_count : SceneData → ℕ
 row_count c = c.rows.end - c.rows.first
 
--- the row of the n-th step that is shown, from 0
+-- the row of the n-th shown step, from 0
 abbrev pub row_shown : SceneData → ℕ → List Row
 row_shown c n = option_to_list (row_at c (c.rows.first + n))
 
--- THE ROWS, in the order of the steps
+-- ALL ROWS, in the order of the steps
 unfoldable pub rows_of : SceneData → List Row
 rows_of c = lists_below (row_shown c) (row_count c)

@@ -1,4 +1,4 @@
--- What is told of a PDU in a picture (profile).
+-- Summary of a PDU, as a picture shows it (profile).
 use Rattle.siman_pdus.specs.declared.pdu.Pdu.{Pdu}
 use Rattle.siman_pdus.specs.Spelling.{body_kind}
 use Rattle.siman_pdus.specs.Role.{request_id_of}

@@ -1,4 +1,5 @@
--- What is drawn: a recording, the steps of a certificate of it, and which of them are shown (profile).
+-- The input of a picture: a recording, the steps of a certificate of it, and the range of steps to
+-- show (profile).
 use Rattle.std.specs.Prelude.{◌≡◌, ℕ, List, length, Option}
 use Rattle.exercise_model.specs.Recording.{PlainRecording}
 use Rattle.exercise_check.specs.declared.certificate.Step.{Step}
@@ -13,11 +14,12 @@ pub record SceneData : Type 0 where
   pub steps : List Step
   pub rows : Rows
 
--- where entry i stands
+-- the point of entry i
 abbrev pub point_in : SceneData → ℕ → Point
 point_in c i = point_of c.recording c.steps i
 
--- what is kept beside it: the step of each entry, and where each station sent and received each datagram first
+-- the indexes of a scene: the step of each entry, and the first send and the first receipt of each
+-- datagram at each station
 pub record IsScene (r : PlainRecording) (steps : List Step) (taken : List (Option ℕ)) (sent got : Firsts) : Type 0 where
   pub stepped : AreTaken steps (length steps) (length r.entries) taken
   pub sends : AreFirsts (bytes_sent r) (length r.entries) sent

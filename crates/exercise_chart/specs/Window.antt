@@ -1,4 +1,4 @@
--- Which steps are shown (profile).
+-- The range of shown steps (profile).
 use Rattle.std.specs.Prelude.{ℕ, Bool, ◌&&◌, nat_le, nat_lt}
 use Rattle.exercise_chart.specs.declared.point.Rows.{Rows}
 

@@ -11,17 +11,17 @@ use crate::scene::Scene;
 use exercise_model::{EntryView, ExerciseLog};
 use std::alloc::{AllocError, Global};
 
-/// A receipt with its source: the first entry of the sender that has the same bytes. One of them at
-/// least is in a row; the other may lie beyond the edge.
+/// An arrow: a receipt and its source, the first entry of the sender with equal bytes. At least one
+/// end is in a row; the other may lie beyond the edge.
 #[derive(Clone, Copy)]
 pub struct Arrow {
     pub from: Point,
     pub to: Point,
-    /// What was received.
+    /// What the received PDU says; `None` if the bytes mean nothing in the exercise.
     pub said: Option<Saying>,
 }
 
-/// What is told of the datagram of an entry, if it means something.
+/// What the datagram of an entry says, if it means something in the exercise.
 #[tactic(auto, unfolding(exercise_review::specs::Entries::meant_at))]
 fn said_at<L: ExerciseLog>(scene: &Scene<'_, L>, entry: usize) -> Option<Saying>
     ensures { result ≡ option_map saying_of (meant_at scene.now.recording entry) }
@@ -36,7 +36,7 @@ fn said_at<L: ExerciseLog>(scene: &Scene<'_, L>, entry: usize) -> Option<Saying>
     }
 }
 
-/// The arrow to an entry from its source, where one of the two is in a row.
+/// The arrow from `source` to `entry`, if at least one of the two is in a row.
 fn arrow_from<L: ExerciseLog>(scene: &Scene<'_, L>, entry: usize, source: usize) -> Option<Arrow>
     ensures { result ≡ arrow_from scene.now entry source }
 {
@@ -53,7 +53,7 @@ fn arrow_from<L: ExerciseLog>(scene: &Scene<'_, L>, entry: usize, source: usize)
     }
 }
 
-/// The arrow to an entry, where it has a source and one of the two is in a row.
+/// The arrow to an entry, if the entry has a source and at least one of the two is in a row.
 #[tactic(auto, unfolding(crate::specs::Arrow::arrow_to))]
 fn arrow_to<L: ExerciseLog>(scene: &Scene<'_, L>, entry: usize) -> Option<Arrow>
     ensures { result ≡ arrow_to scene.now entry }
@@ -64,7 +64,7 @@ fn arrow_to<L: ExerciseLog>(scene: &Scene<'_, L>, entry: usize) -> Option<Arrow>
     }
 }
 
-/// The arrows, by the entries that they lead to.
+/// All arrows, in the order of the receipts in the recording. The list takes memory.
 #[tactic(auto, unfolding(crate::specs::Arrow::arrows_of), using(crate::proofs::Lists::list_steps))]
 pub(crate) fn arrows_of<L: ExerciseLog>(
     alloc: Global,

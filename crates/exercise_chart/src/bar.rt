@@ -1,4 +1,4 @@
-//! The bars of a picture: how the entities of the stations lived.
+//! The bars of a picture: the states of the stations' entities over the steps.
 
 ghost use Rattle.std.specs.Prelude.{◌≡◌, ◌<◌, ◌≤◌, ◌++◌, length, option_map, OnOk};
 ghost use Rattle.exercise_chart.specs.Scene.{point_in};
@@ -12,36 +12,36 @@ use exercise_model::ExerciseLog;
 use exercise_review::{ReviewFault, Span, spans_of};
 use std::alloc::{AllocError, Global};
 
-/// Of how many entities of a station the bars are drawn at most.
+/// Largest number of entities of one station for which bars are drawn.
 pub const MOST_ENTITIES: usize = 8;
 
-/// How many stretches the entities of a station may have at most.
+/// Largest number of spans that the entities of one station may have.
 pub const MOST_STRETCHES: usize = 4_194_304;
 
-/// A stretch of an entity's life, in which it had one state other than Absent.
+/// A bar: one span of an entity's life, in which its state was Stopped or Running.
 #[derive(Clone, Copy)]
 pub struct Bar {
     /// The index of the station.
     pub station: u16,
-    /// Which of the station's entities it is among those that are drawn, from 0, by rising numbers.
+    /// The entity's number, from 0, among the drawn entities of its station, in rising order.
     pub slot: usize,
     pub entity: EntityId,
     /// Stopped or Running.
     pub state: EntityState,
-    /// The change that began it; `None` where it goes on from the start.
+    /// The change that began the span; `None` if the span lasts from the start.
     pub from: Option<Point>,
-    /// The change that ended it; `None` where it goes on to the end.
+    /// The change that ended the span; `None` if it lasts to the end.
     pub to: Option<Point>,
 }
 
-/// How many entities of a station have a slot, and which of them was the last.
+/// How many slots of a station are used so far, and the entity in the last one.
 #[derive(Clone, Copy)]
 pub(crate) struct Slots {
     pub used: usize,
     pub last: Option<u16>,
 }
 
-/// Whether a stretch began in the last row or before it.
+/// Whether a span began in the last row or before it.
 fn began<L: ExerciseLog>(scene: &Scene<'_, L>, span: &Span) -> bool
     ensures { result ≡ began scene.now span.now }
 {
@@ -51,7 +51,7 @@ fn began<L: ExerciseLog>(scene: &Scene<'_, L>, span: &Span) -> bool
     }
 }
 
-/// Whether it did not end before the first row.
+/// Whether a span did not end before the first row.
 fn reaches<L: ExerciseLog>(scene: &Scene<'_, L>, span: &Span) -> bool
     ensures { result ≡ reaches scene.now span.now }
 {
@@ -61,7 +61,7 @@ fn reaches<L: ExerciseLog>(scene: &Scene<'_, L>, span: &Span) -> bool
     }
 }
 
-/// The slots with one for an entity.
+/// The slots after `entity`: unchanged if it has the last slot, else with one more.
 fn slots_with(slots: Slots, entity: u16) -> Slots
     requires { slots.used < 4194304 }
     ensures { result ≡ slots_with slots entity }
@@ -76,7 +76,7 @@ fn slots_with(slots: Slots, entity: u16) -> Slots
     }
 }
 
-/// Where an entry stands, if there is one.
+/// The point of an entry, if an entry is given.
 fn point_if<L: ExerciseLog>(scene: &Scene<'_, L>, entry: Option<usize>) -> Option<Point>
     ensures { result ≡ option_map (point_in scene.now) entry }
 {
@@ -86,7 +86,7 @@ fn point_if<L: ExerciseLog>(scene: &Scene<'_, L>, entry: Option<usize>) -> Optio
     }
 }
 
-/// The bar of a stretch of a station.
+/// The bar of one span of a station's entity.
 fn bar_of<L: ExerciseLog>(scene: &Scene<'_, L>, station: u16, slot: usize, span: &Span) -> Bar
     ensures { result ≡ bar_of scene.now station slot span.now }
 {
@@ -100,7 +100,7 @@ fn bar_of<L: ExerciseLog>(scene: &Scene<'_, L>, station: u16, slot: usize, span:
     }
 }
 
-/// Adds the bar of a stretch, if one is drawn for its entity.
+/// Adds the bar of a span, if its entity is among the first `MOST_ENTITIES`.
 fn push_bar<L: ExerciseLog>(
     bars: &mut Vec<Bar>,
     scene: &Scene<'_, L>,
@@ -116,7 +116,7 @@ fn push_bar<L: ExerciseLog>(
     Ok(())
 }
 
-/// Adds the bars of stretches of a station, which come by entity.
+/// Adds the bars of a station's spans, which are sorted by entity.
 #[tactic(auto, unfolding(crate::specs::Bar::bars_from))]
 fn push_bars<L: ExerciseLog>(
     bars: &mut Vec<Bar>,
@@ -161,8 +161,8 @@ fn push_station<L: ExerciseLog>(
     }
 }
 
-/// The bars, by station, entity and time; `OverLimit` where the entities of a station have too many
-/// stretches.
+/// All bars, by station, entity and time. `OverLimit` if the entities of a station have more than
+/// `MOST_STRETCHES` spans.
 #[tactic(auto, unfolding(crate::specs::Bar::bars_of), using(crate::proofs::Lists::list_steps))]
 pub(crate) fn bars_of<L: ExerciseLog>(
     alloc: Global,

@@ -1,4 +1,4 @@
-//! Where each station sent and received each datagram first, kept in tables under the bytes.
+//! Index of the first send and the first receipt of each datagram at each station, by bytes.
 
 ghost use Rattle.std.specs.Prelude.{◌≡◌, ◌<◌, ◌+◌, ◌==◌, ◌&&◌, length, None, IfOk, OnOk, bytes_eq, Some, if◌then◌else◌};
 ghost use Rattle.std.specs.Cmp.Rules.{comparing, hashing};
@@ -13,7 +13,7 @@ use indexmap::IndexMap;
 use std::alloc::{AllocError, Global};
 use std::hash::{BuildHasherDefault, DefaultHasher, Hash, Hasher};
 
-/// A station and the bytes of a datagram where they lie, as a key.
+/// Key of the index: a station and the borrowed bytes of a datagram.
 #[derive(Clone, Copy)]
 pub(crate) struct Deed<'a> {
     pub station: u16,
@@ -45,18 +45,18 @@ impl<'a> Hash for Deed<'a> {
     }
 }
 
-/// The first entry of each datagram at each station. Strangers choose the bytes, so the hasher is one
-/// for which nobody writes down keys that fall together.
+/// The first entry of each datagram at each station. Strangers choose the bytes, so the hasher is
+/// one for which nobody can prepare colliding keys.
 pub(crate) type Firsts<'a> = IndexMap<Deed<'a>, usize, BuildHasherDefault<DefaultHasher>>;
 
-/// None. It takes no memory.
+/// The empty index. It takes no memory.
 fn no_deeds<'a>(alloc: Global) -> Firsts<'a>
     ensures { (k : Deed) → get same_deed result k ≡ None }
 {
     Firsts::with_hasher(alloc, BuildHasherDefault::default())
 }
 
-/// Keeps an entry, where none before is kept under its key.
+/// Adds an entry under its key, unless an earlier one is there.
 fn keep_first<'a>(firsts: &mut Firsts<'a>, deed: Deed<'a>, entry: usize) -> Result<(), AllocError>
     ensures { OnOk result ((k : Deed) → get same_deed firsts.new k ≡ (if same_deed deed.entry k then Some (first_kept entry (get same_deed firsts.old deed.entry)) else get same_deed firsts.old k)) }
 {
@@ -68,7 +68,7 @@ fn keep_first<'a>(firsts: &mut Firsts<'a>, deed: Deed<'a>, entry: usize) -> Resu
     Ok(())
 }
 
-/// Keeps the next entry, where it sends something.
+/// Adds the next entry, if it is a send.
 fn note_sent<'a, L: ExerciseLog>(
     firsts: &mut Firsts<'a>,
     log: &'a L,
@@ -88,7 +88,7 @@ fn note_sent<'a, L: ExerciseLog>(
     }
 }
 
-/// Keeps the next entry, where it receives something.
+/// Adds the next entry, if it is a receipt.
 fn note_got<'a, L: ExerciseLog>(
     firsts: &mut Firsts<'a>,
     log: &'a L,
@@ -108,7 +108,7 @@ fn note_got<'a, L: ExerciseLog>(
     }
 }
 
-/// Where each station of a log sent each datagram first. What is kept takes memory.
+/// Index of the first send of each datagram at each station of a log. It takes memory.
 pub(crate) fn sent_in<'a, L: ExerciseLog>(
     alloc: Global,
     log: &'a L,
@@ -122,7 +122,7 @@ pub(crate) fn sent_in<'a, L: ExerciseLog>(
     Ok(firsts)
 }
 
-/// Where each station of a log received each datagram first. What is kept takes memory.
+/// Index of the first receipt of each datagram at each station of a log. It takes memory.
 pub(crate) fn got_in<'a, L: ExerciseLog>(
     alloc: Global,
     log: &'a L,

@@ -9,8 +9,8 @@ use thiserror::Error;
 /// Why a picture has no marks.
 #[derive(Clone, Copy, Debug, PartialEq, Eq, Error)]
 pub enum ChartFault {
-    /// It would have more than 2,000 rows, or the entities of a station have more than 4,194,304
-    /// stretches.
+    /// The picture would have more than 2,000 rows, or the entities of a station have more than
+    /// 4,194,304 spans.
     #[error("over-limit")]
     OverLimit,
     /// Memory ran out.

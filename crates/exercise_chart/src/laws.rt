@@ -17,11 +17,13 @@ ghost use Rattle.exercise_chart.specs.Picture.{row_fact, step_fact, LeadsDown, H
 use exercise_check::links_are_of_the_logs;
 use exercise_review::lives_are_states;
 
-/// The law of pictures, of the marks of a good certificate. The rows are the steps that are shown, in
-/// their order, each with the entry that it takes (`rows`). An arrow leads from the source of a receipt
-/// down to the receipt, and one of them is in a row (`arrows`); of each receipt with a source, where one
-/// of the two is in a row, there is an arrow (`drawn`). After each step that a bar covers, its entity has
-/// its state (`bars`).
+/// The law of pictures: properties of the marks of a good certificate.
+///
+/// - `rows`: the rows are the shown steps, in their order, each with the entry that it takes.
+/// - `arrows`: an arrow leads from the source of a receipt down to the receipt, and at least one of
+///   them is in a row.
+/// - `drawn`: every receipt with a source has an arrow, if one of the two is in a row.
+/// - `bars`: after each step that a bar covers, its entity has the state of the bar.
 pub fn pictures_are_runs()
     ensures rows { (r : PlainRecording) (steps : List Step) (w : Rows) → IsGood r steps → w.end ≤ length steps
         → map row_fact (marks_of r steps w).rows ≡ values_below (step_fact steps w) (w.end - w.first) }

@@ -1,12 +1,12 @@
-//! An exercise as a picture, before it is drawn: the marks of a sequence chart, taken from a recording
-//! and a certificate of it.
+//! An exercise as a picture, before it is drawn: the marks of a sequence chart, taken from a
+//! recording and a certificate of it.
 //!
-//! [`marks_of`] gives the [`Marks`] of the steps from one to another: a row for each step, an arrow for
-//! each receipt with its source, what was lost, what came from outside, what was never answered, and
-//! a bar for each stretch of an entity's life. It opens no file, draws nothing and judges nothing: that
-//! the certificate is good is for the checker. The law [`pictures_are_runs`] says what the marks of a
-//! good certificate are: the rows are its steps, no arrow points upwards, and a bar has the state that
-//! the entity has after each step that it covers.
+//! [`marks_of`] computes the [`Marks`] of a range of steps: a row for each step, an arrow for each
+//! receipt with a source, losses, receipts from outside, requests that were never answered, and a
+//! bar for each span of an entity's life. It opens no file, draws nothing and judges nothing:
+//! whether the certificate is good is for the checker to say. A caller may use the law
+//! [`pictures_are_runs`] for the marks of a good certificate: the rows are its steps, no arrow
+//! points upwards, and a bar has the state that the entity has after each step that it covers.
 #![tactic(auto)]
 
 mod arrow;

@@ -1,4 +1,4 @@
-//! What was lost in a picture.
+//! The losses of a picture.
 
 ghost use Rattle.std.specs.Prelude.{◌≡◌, ◌<◌, ◌++◌, length, IfOk, OnOk};
 ghost use Rattle.siman_pdus.specs.Reading.{pdu_of};
@@ -13,19 +13,19 @@ use exercise_model::{EntryView, ExerciseLog};
 use siman_pdus::PduView;
 use std::alloc::{AllocError, Global};
 
-/// A datagram that a recorded station did not receive, which it addresses.
+/// A loss: a datagram sent to a recorded station that never received it.
 #[derive(Clone, Copy)]
 pub struct Loss {
-    /// The first entry that sent its bytes, in a row.
+    /// The first entry that sent the bytes; it is in a row.
     pub from: Point,
-    /// The index of the station.
+    /// The index of the station that did not receive them.
     pub at: u16,
-    /// What was sent.
+    /// What the PDU says.
     pub said: Saying,
 }
 
-/// Whether a PDU that a station sends in these bytes addresses another one, which received them
-/// nowhere.
+/// Whether a PDU, sent by `station` in these bytes, is addressed to another station, `other`, that
+/// never received the bytes.
 fn is_lost_at<L: ExerciseLog>(
     scene: &Scene<'_, L>,
     station: u16,
@@ -40,7 +40,7 @@ fn is_lost_at<L: ExerciseLog>(
     addressed(pdu.target, address) && (other != station && !scene.has_got(other, bytes))
 }
 
-/// What is lost at another station of a PDU that a station sends at an entry.
+/// The loss at `other` of a PDU sent at `entry`, if it is lost there.
 fn loss_of<L: ExerciseLog>(
     scene: &Scene<'_, L>,
     entry: usize,
@@ -63,7 +63,7 @@ fn loss_of<L: ExerciseLog>(
     }
 }
 
-/// What is lost there of a datagram, from the first entry that sends it.
+/// The loss at `other` of a datagram, if `entry` is the first to send it.
 fn loss_of_first<L: ExerciseLog>(
     scene: &Scene<'_, L>,
     entry: usize,
@@ -83,7 +83,7 @@ fn loss_of_first<L: ExerciseLog>(
     }
 }
 
-/// What is lost at a station of an entry that is shown.
+/// The loss at `other` of the given entry, if it has one.
 #[tactic(auto, unfolding(crate::specs::Loss::loss_entry))]
 fn loss_entry<L: ExerciseLog>(
     scene: &Scene<'_, L>,
@@ -102,7 +102,7 @@ fn loss_entry<L: ExerciseLog>(
     }
 }
 
-/// What is lost at a station of an entry.
+/// The loss at `other` of an entry, by its number.
 fn loss_taken<L: ExerciseLog>(scene: &Scene<'_, L>, other: u16, entry: usize) -> Option<Loss>
     requires { other < length scene.now.recording.setting.stations }
     ensures { result ≡ loss_taken scene.now other entry }
@@ -113,7 +113,7 @@ fn loss_taken<L: ExerciseLog>(scene: &Scene<'_, L>, other: u16, entry: usize) ->
     }
 }
 
-/// What is lost at a station of the row of a step.
+/// The loss at `other` of the entry in the row of a step.
 #[tactic(auto, unfolding(crate::specs::Loss::loss_at))]
 fn loss_at<L: ExerciseLog>(scene: &Scene<'_, L>, step: usize, other: u16) -> Option<Loss>
     requires { other < length scene.now.recording.setting.stations }
@@ -125,7 +125,7 @@ fn loss_at<L: ExerciseLog>(scene: &Scene<'_, L>, step: usize, other: u16) -> Opt
     }
 }
 
-/// Adds what is lost of the row of a step, by stations.
+/// Adds the losses in the row of a step, by station.
 #[tactic(auto, unfolding(crate::specs::Loss::losses_at), using(crate::proofs::Lists::list_steps))]
 fn push_losses<L: ExerciseLog>(
     losses: &mut Vec<Loss>,
@@ -142,7 +142,7 @@ fn push_losses<L: ExerciseLog>(
     Ok(())
 }
 
-/// All that is lost, by rows and stations.
+/// All losses, by row and station. The list takes memory.
 #[tactic(auto, unfolding(crate::specs::Loss::losses_of), using(crate::proofs::Lists::list_steps))]
 pub(crate) fn losses_of<L: ExerciseLog>(
     alloc: Global,

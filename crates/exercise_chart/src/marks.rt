@@ -17,26 +17,27 @@ use exercise_model::ExerciseLog;
 use exercise_review::Register;
 use std::alloc::Global;
 
-/// How many rows a picture may have at most.
+/// Largest number of rows in a picture.
 pub const MOST_ROWS: usize = 2000;
 
-/// The marks of a picture, which are all that is drawn.
+/// The marks of a picture: everything that is drawn.
 pub struct Marks {
-    /// One for each step that is shown, in their order.
+    /// One row for each shown step, in their order.
     pub rows: Vec<Row>,
-    /// Receipts with their sources, by the entries of the receipts.
+    /// Receipts with their sources, in the order of the receipts in the recording.
     pub arrows: Vec<Arrow>,
-    /// What came from outside, by rows.
+    /// Receipts from outside, by row.
     pub outside: Vec<FromOutside>,
-    /// What was lost, by rows and stations.
+    /// Losses, by row and station.
     pub losses: Vec<Loss>,
-    /// How entities lived, by station, entity and time.
+    /// Spans of the entities' lives, by station, entity and time.
     pub bars: Vec<Bar>,
-    /// The first copies of orders that were never answered there, by the heads of the orders.
+    /// First receipts of requests that their receiver never answered, in the order of the first
+    /// entries of the requests.
     pub unanswered: Vec<Point>,
 }
 
-// Not derived: who drops it makes one call, and does not take it apart by himself.
+// Not derived, so that a drop is one call and its caller need not take the marks apart.
 impl Drop for Marks {
     fn drop(self) {
         let Marks {
@@ -70,9 +71,9 @@ fn marks_in<L: ExerciseLog>(alloc: Global, scene: &Scene<'_, L>) -> Result<Marks
     })
 }
 
-/// The marks of the rows of steps of a certificate of a recording, which is good or not. `OverLimit`
-/// where these are more than 2,000 rows, or where the entities of a station have more than 4,194,304
-/// stretches; what is made takes memory.
+/// The marks of a range of steps of a certificate, which need not be good. `OverLimit` if the range
+/// has more than 2,000 rows, or the entities of a station have more than 4,194,304 spans. The marks
+/// take memory.
 pub fn marks_of<L: ExerciseLog>(
     alloc: Global,
     register: &Register<'_, L>,

@@ -1,4 +1,4 @@
-//! What came from outside in a picture.
+//! The receipts from outside in a picture.
 
 ghost use Rattle.std.specs.Prelude.{◌≡◌, not, IfOk, is_some};
 ghost use Rattle.siman_pdus.specs.Reading.{pdu_of};
@@ -16,16 +16,16 @@ use exercise_review::Outsider;
 use siman_pdus::PduView;
 use std::alloc::{AllocError, Global};
 
-/// A receipt in a row of what came from an address that nobody recorded.
+/// A receipt, in a row, from an address that nobody recorded.
 #[derive(Clone, Copy)]
 pub struct FromOutside {
     pub by: Outsider,
     pub to: Point,
-    /// What was received.
+    /// What the received PDU says.
     pub said: Saying,
 }
 
-/// Whether a PDU comes from a recorded station.
+/// Whether the sender of a PDU is a recorded station.
 fn is_recorded<L: ExerciseLog>(scene: &Scene<'_, L>, pdu: &PduView<'_>) -> bool
     ensures { result ≡ is_recorded scene.now.recording.setting (pdu_of pdu.now) }
 {
@@ -38,7 +38,8 @@ fn is_recorded<L: ExerciseLog>(scene: &Scene<'_, L>, pdu: &PduView<'_>) -> bool
     false
 }
 
-/// Whether a PDU comes from a station that took part and that nobody recorded.
+/// Whether a PDU is from a station that took part and was not recorded. In a closed recording there
+/// is no such station.
 #[tactic(auto, unfolding(exercise_review::specs::Order::is_outside))]
 fn is_outside<L: ExerciseLog>(scene: &Scene<'_, L>, pdu: &PduView<'_>) -> bool
     ensures { result ≡ is_outside scene.now.recording (pdu_of pdu.now) }
@@ -46,7 +47,7 @@ fn is_outside<L: ExerciseLog>(scene: &Scene<'_, L>, pdu: &PduView<'_>) -> bool
     scene.log().form() == Form::Open && !is_recorded(scene, pdu)
 }
 
-/// What an entry received, if that came from outside.
+/// The receipt of a PDU at an entry, if the PDU is from outside.
 fn outside_meant<L: ExerciseLog>(
     scene: &Scene<'_, L>,
     entry: usize,
@@ -69,7 +70,7 @@ fn outside_meant<L: ExerciseLog>(
     }
 }
 
-/// What came from outside at an entry that is shown.
+/// The receipt at the given entry, if it is one from outside.
 #[tactic(auto, unfolding(crate::specs::Outside::outside_entry))]
 fn outside_entry<L: ExerciseLog>(
     scene: &Scene<'_, L>,
@@ -87,7 +88,7 @@ fn outside_entry<L: ExerciseLog>(
     }
 }
 
-/// What came from outside at an entry.
+/// The receipt at an entry, by its number, if it is one from outside.
 fn outside_taken<L: ExerciseLog>(scene: &Scene<'_, L>, entry: usize) -> Option<FromOutside>
     ensures { result ≡ outside_taken scene.now entry }
 {
@@ -97,7 +98,7 @@ fn outside_taken<L: ExerciseLog>(scene: &Scene<'_, L>, entry: usize) -> Option<F
     }
 }
 
-/// What came from outside in the row of a step.
+/// The receipt in the row of a step, if it is one from outside.
 #[tactic(auto, unfolding(crate::specs::Outside::outside_at))]
 fn outside_at<L: ExerciseLog>(scene: &Scene<'_, L>, step: usize) -> Option<FromOutside>
     ensures { result ≡ outside_at scene.now step }
@@ -108,7 +109,7 @@ fn outside_at<L: ExerciseLog>(scene: &Scene<'_, L>, step: usize) -> Option<FromO
     }
 }
 
-/// All of it, by rows.
+/// All receipts from outside, by row. The list takes memory.
 #[tactic(auto, unfolding(crate::specs::Outside::outside_of), using(crate::proofs::Lists::list_steps))]
 pub(crate) fn outside_of<L: ExerciseLog>(
     alloc: Global,

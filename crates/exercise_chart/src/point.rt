@@ -1,18 +1,18 @@
-//! Where an entry stands in a picture.
+//! Places in a picture: an entry, its step and its station.
 
 ghost use Rattle.std.specs.Prelude.{◌≡◌, ◌≤◌, ◌-◌};
 
-/// An entry of a recording where a certificate has it: with the step that takes it and the station
-/// that it is of. Entries and steps are numbers from 0; the station is an index.
+/// An entry with its step in a certificate and its station. Entries and steps are numbers from 0;
+/// the station is an index.
 #[derive(Clone, Copy)]
 pub struct Point {
     pub entry: usize,
-    /// The first step that takes it; past the last step where none does.
+    /// The first step that takes the entry; past the last step if none does.
     pub step: usize,
     pub station: u16,
 }
 
-/// The steps that are shown, each a row: from the first on, and before the end.
+/// The range of steps that are shown, one row each: `first` is included, `end` is not.
 #[derive(Clone, Copy)]
 pub struct Rows {
     pub first: usize,
@@ -23,7 +23,7 @@ pub struct Rows {
 impl Rows {
     ghost use Rattle.exercise_chart.specs.Window.{is_row};
 
-    /// How many there are.
+    /// The number of steps in the range.
     pub fn count(self) -> usize
         ensures { result ≡ self.end - self.first }
     {

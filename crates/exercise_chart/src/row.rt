@@ -14,40 +14,40 @@ use exercise_model::{EntryView, ExerciseLog};
 use exercise_review::head_of;
 use std::alloc::{AllocError, Global};
 
-/// Whether a datagram was sent before.
+/// Whether a datagram repeats an earlier one.
 #[derive(Clone, Copy)]
 pub enum Again {
-    /// It was not.
+    /// It does not.
     No,
-    /// The same order stood before, in other bytes.
+    /// It repeats an earlier request, in other bytes.
     Repeated,
-    /// The station sent the same bytes before.
+    /// The station sent equal bytes before.
     SameBytes,
 }
 
-/// What a station did.
+/// What a station did at an entry.
 #[derive(Clone, Copy)]
 pub enum Did {
     /// It sent a PDU of the exercise.
     Sent(Saying, Again),
     /// It received one.
     Received(Saying),
-    /// It sent a datagram of so many bytes that means nothing here.
+    /// It sent a datagram, of this many bytes, that means nothing in the exercise.
     SentOther(usize),
-    /// It received one.
+    /// It received such a datagram.
     ReceivedOther(usize),
-    /// It told the state of its entity of this number.
+    /// It reported to its log the state of its entity with this number.
     Told(u16, EntityState),
 }
 
-/// A row: a step, the entry that it takes, and what the station of that did.
+/// A row: a step, the entry that it takes, and what the station did there.
 #[derive(Clone, Copy)]
 pub struct Row {
     pub at: Point,
     pub did: Did,
 }
 
-/// Whether the order that an entry sends stood before.
+/// Whether an entry sends a request that an earlier entry sent first.
 fn is_repeat<L: ExerciseLog>(scene: &Scene<'_, L>, entry: usize) -> bool
     ensures { result ≡ is_repeat scene.now entry }
 {
@@ -57,7 +57,7 @@ fn is_repeat<L: ExerciseLog>(scene: &Scene<'_, L>, entry: usize) -> bool
     }
 }
 
-/// Whether what a station sends at an entry was sent before.
+/// Whether, and how, a datagram sent at an entry repeats an earlier one.
 fn again_of<L: ExerciseLog>(scene: &Scene<'_, L>, entry: usize, station: u16, bytes: &[u8]) -> Again
     ensures { result ≡ again_of scene.now entry station bytes.now }
 {
@@ -70,7 +70,7 @@ fn again_of<L: ExerciseLog>(scene: &Scene<'_, L>, entry: usize, station: u16, by
     }
 }
 
-/// What a station does that sends a datagram.
+/// What a station does when it sends a datagram.
 fn sent_did<L: ExerciseLog>(scene: &Scene<'_, L>, entry: usize, station: u16, bytes: &[u8]) -> Did
     ensures { result ≡ sent_did scene.now entry station bytes.now (meaning scene.now.recording.setting.exercise bytes.now) }
 {
@@ -80,7 +80,7 @@ fn sent_did<L: ExerciseLog>(scene: &Scene<'_, L>, entry: usize, station: u16, by
     }
 }
 
-/// What a station does that receives one.
+/// What a station does when it receives a datagram.
 fn received_did<L: ExerciseLog>(scene: &Scene<'_, L>, bytes: &[u8]) -> Did
     ensures { result ≡ received_did bytes.now (meaning scene.now.recording.setting.exercise bytes.now) }
 {
@@ -102,7 +102,7 @@ fn did_of<L: ExerciseLog>(scene: &Scene<'_, L>, entry: usize, view: EntryView<'_
     }
 }
 
-/// The row of a step that takes an entry, if there is such an entry.
+/// The row of a step with its entry, if the recording has that entry.
 fn row_taking<L: ExerciseLog>(scene: &Scene<'_, L>, step: usize, entry: usize) -> Option<Row>
     ensures { result ≡ row_taking scene.now step entry }
 {
@@ -119,7 +119,7 @@ fn row_taking<L: ExerciseLog>(scene: &Scene<'_, L>, step: usize, entry: usize) -
     }
 }
 
-/// The row of a step, if there is such a step and it takes an entry.
+/// The row of a step, if there is such a step and the recording has its entry.
 #[tactic(auto, unfolding(crate::specs::Row::row_at))]
 pub(crate) fn row_at<L: ExerciseLog>(scene: &Scene<'_, L>, step: usize) -> Option<Row>
     ensures { result ≡ row_at scene.now step }
@@ -130,7 +130,7 @@ pub(crate) fn row_at<L: ExerciseLog>(scene: &Scene<'_, L>, step: usize) -> Optio
     }
 }
 
-/// The rows, in the order of the steps.
+/// All rows, in the order of the steps. The list takes memory.
 #[tactic(auto, unfolding(crate::specs::Row::rows_of), using(crate::proofs::Lists::list_steps))]
 pub(crate) fn rows_of<L: ExerciseLog>(
     alloc: Global,

@@ -1,4 +1,4 @@
-//! What is told of a PDU in a picture.
+//! Summary of a PDU, as a picture shows it.
 
 ghost use Rattle.std.specs.Prelude.{◌≡◌};
 ghost use Rattle.siman_pdus.specs.Reading.{pdu_of};
@@ -8,7 +8,7 @@ use dis_records::{EntityId, Kind};
 use exercise_review::Word;
 use siman_pdus::{Message, PduView, request_id};
 
-/// What is told of a PDU: its kind, from whom to whom it goes, and what it asks or answers.
+/// Summary of a PDU: its kind, sender, receiver, request and answer.
 #[derive(Clone, Copy)]
 pub struct Saying {
     pub kind: Kind,
@@ -16,13 +16,13 @@ pub struct Saying {
     pub origin: EntityId,
     /// The receiving identifier.
     pub target: EntityId,
-    /// The request identifier; `None` of an Event Report and a Comment.
+    /// The request identifier; `None` for an Event Report and a Comment.
     pub request: Option<u32>,
-    /// The word of an answer; `None` of all else.
+    /// What an answer says; `None` for all other kinds.
     pub word: Option<Word>,
 }
 
-/// What is told of a PDU.
+/// Summary of a PDU.
 pub(crate) fn saying_of(pdu: &PduView<'_>) -> Saying
     ensures { result ≡ saying_of (pdu_of pdu.now) }
 {

@@ -1,4 +1,4 @@
-//! What is drawn, with what is looked up in it.
+//! The input of a picture, with indexes for look-up.
 
 ghost use Rattle.std.specs.Prelude.{◌≡◌, ◌<◌, length, true, Some, IfOk, IfSome, is_some, option_map, slice_get};
 ghost use Rattle.siman_pdus.specs.Answers.{same_id};
@@ -20,8 +20,8 @@ use siman_pdus::PduView;
 use std::alloc::{AllocError, Global};
 use std::marker::Model;
 
-/// A recording, the steps of a certificate of it and which of them are shown, with what is looked up
-/// in them. Contracts see these three; what is kept beside them is nobody else's business.
+/// A recording, the steps of a certificate of it and the range of steps to show, with indexes of
+/// both. Contracts see these three; the indexes are private.
 #[derive(Drop)]
 pub(crate) struct Scene<'a, L: ExerciseLog> {
     register: &'a Register<'a, L>,
@@ -43,7 +43,7 @@ impl<'a, L: ExerciseLog> Model for Scene<'a, L> {
 }
 
 impl<'a, L: ExerciseLog> Scene<'a, L> {
-    /// The scene of these. What is kept beside them takes memory.
+    /// Builds the scene. Its indexes take memory.
     pub(crate) fn of(
         alloc: Global,
         register: &'a Register<'a, L>,
@@ -66,28 +66,28 @@ impl<'a, L: ExerciseLog> Scene<'a, L> {
         })
     }
 
-    /// The recording, with its entries looked up.
+    /// The indexed recording.
     pub(crate) fn register(&self) -> &'a Register<'a, L>
         ensures { result.now ≡ self.now.recording }
     {
         self.register
     }
 
-    /// The log.
+    /// The recording as a log.
     pub(crate) fn log(&self) -> &'a L
         ensures { L.recording result.now ≡ self.now.recording }
     {
         self.register.log()
     }
 
-    /// Which steps are shown.
+    /// The range of steps that are shown.
     pub(crate) fn rows(&self) -> Rows
         ensures { result ≡ self.now.rows }
     {
         self.rows
     }
 
-    /// The entry that a step takes, if there is such a step.
+    /// The entry that a step takes, if the certificate has that step.
     pub(crate) fn place_at(&self, step: usize) -> Option<usize>
         ensures { result ≡ place_at self.now.steps step }
     {
@@ -97,7 +97,7 @@ impl<'a, L: ExerciseLog> Scene<'a, L> {
         }
     }
 
-    /// The entry of a number, if there is one.
+    /// An entry by its number, if the recording has it.
     pub(crate) fn entry_at(&self, entry: usize) -> Option<EntryView<'a>>
         ensures entry { option_map shown result ≡ slice_get self.now.recording.entries entry }
         ensures fits { let stations = length self.now.recording.setting.stations in IfSome result (λ view. is_entry stations (shown view) ≡ true) }
@@ -110,7 +110,7 @@ impl<'a, L: ExerciseLog> Scene<'a, L> {
         }
     }
 
-    /// What a datagram means in the exercise.
+    /// The PDU that a datagram means in the exercise, if it means one.
     pub(crate) fn meant<'b>(&self, bytes: &'b [u8]) -> Option<PduView<'b>>
         ensures { option_map pdu_of result ≡ meaning self.now.recording.setting.exercise bytes.now }
     {
@@ -129,7 +129,7 @@ impl<'a, L: ExerciseLog> Scene<'a, L> {
         }
     }
 
-    /// The step of an entry: the first that takes it; past the last step where none does.
+    /// The step of an entry: the first that takes it; past the last step if none does.
     pub(crate) fn step_of(&self, entry: usize) -> usize
         ensures { result ≡ step_of self.now.recording self.now.steps entry }
     {
@@ -139,7 +139,7 @@ impl<'a, L: ExerciseLog> Scene<'a, L> {
         }
     }
 
-    /// The station of an entry.
+    /// The station of an entry; 0 if the recording does not have the entry.
     fn station_of(&self, entry: usize) -> u16
         ensures { result ≡ station_of_entry self.now.recording entry }
     {
@@ -149,7 +149,7 @@ impl<'a, L: ExerciseLog> Scene<'a, L> {
         }
     }
 
-    /// Where an entry stands.
+    /// The point of an entry: its number, step and station.
     pub(crate) fn point(&self, entry: usize) -> Point
         ensures { result ≡ point_in self.now entry }
     {
@@ -170,7 +170,7 @@ impl<'a, L: ExerciseLog> Scene<'a, L> {
         }
     }
 
-    /// Whether a station receives these bytes.
+    /// Whether a station ever receives these bytes.
     pub(crate) fn has_got(&self, station: u16, bytes: &[u8]) -> bool
         ensures { result ≡ is_some (first_got self.now.recording station bytes.now) }
     {

@@ -7,7 +7,7 @@ ghost use Rattle.exercise_chart.specs.Point.{AreTaken};
 use exercise_check::Step;
 use std::alloc::{AllocError, Global};
 
-/// None for each of so many entries.
+/// A list with `None` for each of `entries` entries.
 fn none_taken(alloc: Global, entries: usize) -> Result<Vec<Option<usize>>, AllocError>
     ensures count { IfOk result (λ taken. length taken.items ≡ entries) }
     ensures each { IfOk result (λ taken. (i : ℕ) → slice_index_or taken.items i None ≡ None) }
@@ -19,7 +19,8 @@ fn none_taken(alloc: Global, entries: usize) -> Result<Vec<Option<usize>>, Alloc
     Ok(taken)
 }
 
-/// Notes a step at the entry that it takes, where no step before takes it.
+/// Writes a step to the entry that it takes, unless an earlier step takes it. A place past the list
+/// is ignored.
 fn note_step(taken: &mut Vec<Option<usize>>, place: usize, step: usize)
     ensures count { length taken.new.items ≡ length taken.old.items }
     ensures each { (i : ℕ) → i < length taken.old.items → slice_index_or taken.new.items i None ≡ option_or (slice_index_or taken.old.items i None) (if place == i then Some step else None) }
@@ -29,7 +30,7 @@ fn note_step(taken: &mut Vec<Option<usize>>, place: usize, step: usize)
     }
 }
 
-/// Of each of so many entries the first step that takes it.
+/// For each of `entries` entries, the first step that takes it. The list takes memory.
 pub(crate) fn steps_taken(
     alloc: Global,
     steps: &[Step],

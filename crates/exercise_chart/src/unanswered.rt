@@ -1,4 +1,4 @@
-//! Orders in a picture that were received and never answered.
+//! Requests in a picture that were received and never answered.
 
 ghost use Rattle.std.specs.Prelude.{◌≡◌, ◌++◌, IfOk, OnOk};
 ghost use Rattle.std.specs.List.{flat_map};
@@ -11,7 +11,7 @@ use exercise_model::ExerciseLog;
 use exercise_review::{Fate, Outcome, order_at, outcomes_of};
 use std::alloc::{AllocError, Global};
 
-/// Adds where an entry stands, if it is in a row.
+/// Adds the point of an entry, if it is in a row.
 fn push_shown<L: ExerciseLog>(
     points: &mut Vec<Point>,
     scene: &Scene<'_, L>,
@@ -26,8 +26,8 @@ fn push_shown<L: ExerciseLog>(
     Ok(())
 }
 
-/// Adds the first copy of an order at a party, if it is in a row and the order was never answered
-/// there.
+/// Adds the first receipt of a request at a receiver, if it is in a row and that receiver never
+/// answered.
 fn push_outcome<L: ExerciseLog>(
     points: &mut Vec<Point>,
     scene: &Scene<'_, L>,
@@ -41,7 +41,7 @@ fn push_outcome<L: ExerciseLog>(
     }
 }
 
-/// Adds those of an order at all its parties.
+/// Adds the unanswered receipts of a request at all its receivers.
 fn push_outcomes<L: ExerciseLog>(
     points: &mut Vec<Point>,
     scene: &Scene<'_, L>,
@@ -55,7 +55,7 @@ fn push_outcomes<L: ExerciseLog>(
     Ok(())
 }
 
-/// Adds those of the order at an entry, if there is one.
+/// Adds the unanswered receipts of the request that begins at an entry, if one does.
 #[tactic(auto, unfolding(crate::specs::Unanswered::unanswered_at))]
 fn push_order<L: ExerciseLog>(
     alloc: Global,
@@ -74,8 +74,8 @@ fn push_order<L: ExerciseLog>(
     }
 }
 
-/// The first copies, each in a row, of orders that were never answered at that station, by the heads of
-/// the orders.
+/// The first receipts, in a row, of requests that their receiver never answered, in the order of
+/// the first entries of the requests. The list takes memory.
 #[tactic(auto, unfolding(crate::specs::Unanswered::unanswered_of), using(crate::proofs::Lists::list_steps))]
 pub(crate) fn unanswered_of<L: ExerciseLog>(
     alloc: Global,

@@ -18,7 +18,7 @@ use Rattle.exercise_check.specs.declared.certificate_fault.CertificateFault.TheV
 abbrev pub step_text : Step → List ℕ
 step_text s = to_be_bytes w32 s.place ++ to_be_bytes w32 s.link
 
--- what stands before the steps: the magic, the number of steps
+-- the head, before the steps: the magic, the number of steps
 abbrev pub head_text : ℕ → List ℕ
 head_text count = codes "DSCT0001" ++ to_be_bytes w32 count
 
@@ -32,43 +32,43 @@ is_step s = nat_lt s.place 4294967296 && nat_lt s.link 4294967296
 
 -- ---- reading it
 
--- how a certificate names what is wrong with a field
+-- names of a certificate's format for a field that is incomplete or past the limit
 abbrev pub names : Names CertificateFormatFault
 names = record { over_limit = faults.OverLimit; truncated = faults.Truncated }
 
--- a field, and a number, of a certificate
+-- reading a field, and a number
 abbrev pub field_at : ℕ → Input → Result (List ℕ × Input) CertificateFormatFault
 field_at n i = fields.field_at names n i
 
 abbrev pub number_at : Width → Input → Result (ℕ × Input) CertificateFormatFault
 number_at w i = fields.number_at names w i
 
--- the magic
+-- reading the magic
 unfoldable pub magic_at : Input → Result Input CertificateFormatFault
 magic_at i = do
   m ← field_at 8 i
   tested (bytes_eq m.0 (codes "DSCT0001")) (faults.Magic i.at) m.1
 
--- the number of steps, at most the limit
+-- reading the number of steps, at most the limit
 unfoldable pub count_at : (limit : ℕ) → Input → Result (ℕ × Input) CertificateFormatFault
 count_at limit i = fields.number_where names w32 (λ n. nat_le n limit) faults.OverLimit i
 
--- a step: place, link
+-- reading a step: place, link
 unfoldable pub step_at : Input → Result (Step × Input) CertificateFormatFault
 step_at i = do
   place ← number_at w32 i
   link ← number_at w32 place.1
   Ok (record { place = place.0; link = link.0 }, link.1)
 
--- so many steps
+-- reading `left` steps
 abbrev pub steps_at : (left : ℕ) → Input → Result (List Step × Input) CertificateFormatFault
 steps_at left i = many_at step_at left i
 
--- the end of the bytes
+-- checking that no bytes are left
 abbrev pub ended : {A : Type 0} → A → Input → Result A CertificateFormatFault
 ended x i = fields.ended faults.Trailing x i
 
--- the whole of a certificate of at most so many steps
+-- reading a whole certificate of at most `limit` steps
 unfoldable pub whole_at : (limit : ℕ) → Input → Result (List Step) CertificateFormatFault
 whole_at limit i = do
   m ← magic_at i
@@ -76,15 +76,17 @@ whole_at limit i = do
   ss ← steps_at n.0 n.1
   ended ss.0 ss.1
 
--- The steps of the certificate whose text the bytes are, at most so many, or the first fault. The text of so many steps has 12 + 8 * limit bytes, so no field that is read ends past these.
+-- The steps of the certificate whose text the bytes are, at most `limit`, or the first fault. The text of `limit`
+-- steps has 12 + 8 * limit bytes, so no field that is read ends past these.
 unfoldable pub certificate_at : (limit : ℕ) → List ℕ → Result (List Step) CertificateFormatFault
 certificate_at limit bytes = whole_at limit (record { limit = 12 + 8 * limit; at = 0; bytes = bytes })
 
--- the number that stands where the steps are counted
+-- the number in the field for the number of steps
 abbrev pub count_of : List ℕ → ℕ
 count_of bytes = from_be_bytes w32 (take 4 (drop 8 bytes))
 
--- Why the bytes are refused: eight of them that are no magic; or more steps than the limit; or fewer bytes than the head and its steps have; or the text of a certificate with more behind it.
+-- Why the bytes are refused: their first eight are no magic; or there are more steps than the limit; or fewer bytes
+-- than the head and its steps need; or more bytes behind the text of a certificate.
 abbrev pub IsRefused : (limit : ℕ) → List ℕ → CertificateFormatFault → Type 0
 IsRefused limit bytes (faults.Magic at) = (at ≡ 0) × (8 ≤ length bytes) × (bytes_eq (take 8 bytes) (codes "DSCT0001") ≡ false)
 IsRefused limit bytes (faults.OverLimit at) = (at ≡ 8) × (take 8 bytes ≡ codes "DSCT0001") × (12 ≤ length bytes) × (limit < count_of bytes)
@@ -92,19 +94,19 @@ IsRefused limit bytes (faults.Truncated at) = (at ≡ length bytes) × (length b
 IsRefused limit bytes (faults.Trailing at) =
     (at < length bytes) × ((steps : List Step) × (take at bytes ≡ certificate_text steps) × (length steps ≤ limit))
 
--- ---- what a function returned
+-- ---- the results of functions
 
--- the fault of the format, where it is one
+-- the fault of the format, if the fault is one
 abbrev pub format_of : CertificateFault → Option CertificateFormatFault
 format_of (Format fault) = Some fault
 format_of Read = None
 format_of Memory = None
 
--- the steps, without where they lie in memory
+-- the steps of a certificate, as a list
 abbrev pub steps_of : Certificate → List Step
 steps_of c = c.steps.items
 
--- What a function returned is what reading a certificate gives.
+-- The result of a function is what reading a certificate gives.
 abbrev pub Gives : {X Y : Type 0} → (X → Y) → Result X CertificateFault → Option Input → Result (Y × Input) CertificateFormatFault → Type 0
 Gives view result rest read = fields.Gives format_of view result rest read
 

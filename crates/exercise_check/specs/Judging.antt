@@ -1,4 +1,4 @@
--- How the next event of a station is judged by what its log says of it and by the steps so far (profile).
+-- Judging the next event of a station by the findings in its log and by the steps so far (profile).
 use Rattle.std.specs.Prelude.{ℕ, Bool, true, false, List, length, nat_lt, slice_get, Option, Some, None, IfSome, option_and_then, if◌then◌else◌}
 use Rattle.std.specs.Option.{option_map_or}
 use Rattle.exercise_model.specs.declared.cause.Cause.{Cause}
@@ -16,12 +16,12 @@ use Rattle.exercise_check.specs.Goodness.{IsReady}
 use Rattle.exercise_check.specs.Course.{IsCourse, Judges}
 use Rattle.exercise_check.specs.Cursors.{AreCursors}
 
--- an event that this cause speaks against, or that is allowed, with this link
+-- the judgement for this cause, if there is any, or else for this link
 abbrev pub judged : Option Cause → Option ℕ → Judgement
 judged (Some cause) link = Forbidden cause
 judged None link = Allowed link
 
--- it is judged to receive what was never sent
+-- the cause is that a received datagram was never sent
 abbrev pub is_never_sent : Cause → Bool
 is_never_sent NeverSent = true
 is_never_sent cause = false
@@ -30,31 +30,33 @@ abbrev pub is_unsent : Judgement → Bool
 is_unsent (Allowed link) = false
 is_unsent (Forbidden cause) = is_never_sent cause
 
--- entry e was taken by steps: fewer entries of its station stand before it than were taken
+-- the steps have taken entry e: they have taken more entries of its station than there are before it
 unfoldable pub was_taken : PlainRecording → List Step → ℕ → Bool
 was_taken r steps e =
     option_map_or (λ x. nat_lt (length (log_before r (station_of (event_of x)) e)) (length (log_at (station_of (event_of x)) (order_of r steps))))
     (slice_get r.entries e) false
 
--- an entry, where it was taken
+-- the entry, if it was taken
 abbrev pub if_taken : PlainRecording → List Step → Option ℕ → Option ℕ
 if_taken r steps o = option_and_then (λ e. if was_taken r steps e then Some e else None) o
 
--- what is judged of a datagram that had to be sent before, by the entry that sent it first, where that was taken
+-- the judgement of a received datagram that must have been sent before, given the entry that sent it first, if that
+-- was taken
 abbrev pub by_source : Option ℕ → Judgement
 by_source (Some source) = Allowed (Some source)
 by_source None = Forbidden NeverSent
 
--- What an entry is judged to be after these steps
+-- the judgement is that of this entry after these steps
 abbrev pub JudgesNext : PlainRecording → List Step → ℕ → Judgement → Type 0
 JudgesNext r steps place given = IfSome (slice_get r.entries place) (λ e. Judges (cause_of r.setting (order_of r steps) (event_of e))
     (link_of r steps place (event_of e)) (length r.entries) given)
 
--- The station's log stands before the entry as the steps say.
+-- The steps have taken exactly the entries of its station before this entry.
 abbrev pub IsReadyAt : PlainRecording → List Step → ℕ → Type 0
 IsReadyAt r steps place = IfSome (slice_get r.entries place) (λ e. IsReady r steps place (event_of e))
 
--- WHAT A COURSE KEEPS TO: its recording and steps are those of a course, and the next entry of each station is known
+-- INVARIANT OF A COURSE: its recording and steps are those of a course, and the cursors have the next entry of each
+-- station
 pub record Keeps (r : PlainRecording) (steps : List Step) (cursors : Cursors) : Type 0 where
   pub course : IsCourse (record { recording = r; steps = steps })
   pub next : AreCursors r steps cursors

@@ -1,4 +1,4 @@
--- How links are written (profile).
+-- Links in the format of a certificate (profile).
 use Rattle.std.specs.Prelude.{ℕ, Option, unwrap_or}
 
 -- a link: the number of its entry, or 0xFFFFFFFF for none

@@ -1,4 +1,4 @@
--- The order that a certificate names, and the links of its steps (profile).
+-- Sequence of a certificate, and the links of its steps (profile).
 use Rattle.std.specs.Prelude.{ℕ, List, [], ◌∷◌, ◌++◌, length, slice_get, Option, Some, None, option_and_then, ◌==◌, Bool, false, if◌then◌else◌}
 use Rattle.std.specs.Option.{option_map_or, option_to_list}
 use Rattle.siman_pdus.specs.declared.pdu.Pdu.{Pdu}
@@ -13,16 +13,17 @@ use Rattle.exercise_model.specs.Account.{pair_of_sent}
 use Rattle.exercise_check.specs.declared.certificate.Step.{Step}
 pub use Rattle.exercise_check.specs.Number.{link_number}
 
--- the entries that steps name, in the order of the steps
+-- the entries of the steps, step by step
 unfoldable pub chosen : List Entry → List Step → List Entry
 chosen entries [] = []
 chosen entries (step ∷ steps) = option_to_list (slice_get entries step.place) ++ chosen entries steps
 
--- THE ORDER THAT A CERTIFICATE NAMES: the events of the entries that its steps name, the last first
+-- THE SEQUENCE OF A CERTIFICATE: the events of the entries of its steps, the last first
 unfoldable pub order_of : PlainRecording → List Step → History
 order_of r steps = past (chosen r.entries steps)
 
--- the event of entry `place` is its station's next one: as many events of the station come before it in the order as entries of the station stand before it
+-- the event of entry `place` is its station's next one: the sequence has as many events of the station as there are
+-- entries of it before this one
 unfoldable pub is_next : PlainRecording → List Step → ℕ → Event → Bool
 is_next r before place v = length (log_at (station_of v) (order_of r before)) == length (log_before r (station_of v) place)
 
@@ -32,12 +33,14 @@ first_sender entries b [] = None
 first_sender entries b (step ∷ steps) =
     if option_map_or (λ e. sends b (event_of e)) (slice_get entries step.place) false then Some step.place else first_sender entries b steps
 
--- the entry that brought a datagram of these bytes, which means p: that of the first step before that sends it, where it comes from who must have sent it
+-- the entry that sent a received datagram of these bytes, which means p: that of the first earlier step that sends
+-- it, if p comes from a station that must have sent it
 abbrev pub sender_link : PlainRecording → List ℕ → List Step → Pdu → Option ℕ
 sender_link r b before p = if must_have_sent r.setting p then first_sender r.entries b before else None
 
--- THE LINK OF A STEP: for an answer that is sent the entry of the request that it takes up, for a datagram that is received from a recorded
--- station and means something the entry of the first Send before with the same bytes, for all else none
+-- THE LINK OF A STEP: for a sent answer the entry of the request that it takes up; for a datagram that means
+-- something and was received from a recorded station, the entry of the first earlier Send of equal bytes; otherwise
+-- none
 unfoldable pub link_of : PlainRecording → List Step → ℕ → Event → Option ℕ
 link_of r before place (Send s b) = option_and_then (pair_of_sent r s place) (meaning r.setting.exercise b)
 link_of r before place (Get s b) = option_and_then (sender_link r b before) (meaning r.setting.exercise b)

@@ -1,23 +1,23 @@
-//! Certificates.
+//! Certificates: a sequence of a recording's entries.
 
-/// The link of a step that has none.
+/// Link of a step that links to no entry.
 pub const NO_LINK: u32 = 0xFFFF_FFFF;
 
-/// A step of an order of a recording's entries: which entry comes next, and what it takes up.
+/// A step of a sequence: its entry, and the entry that this one links to.
 #[derive(Clone, Copy, PartialEq, Eq)]
 pub struct Step {
-    /// The number of an entry of the recording, from 0.
+    /// Number of the entry in the recording, from 0.
     pub place: u32,
-    /// For an answer that was sent, the number of the entry of the request that it takes up; for a
-    /// datagram that was received from a recorded station and means something, that of the first
-    /// earlier entry in this order that sent the same bytes; for all else [`NO_LINK`].
+    /// For a sent answer, the number of the entry with its request; for a datagram that means
+    /// something and was received from a recorded station, the number of the first earlier entry of
+    /// the sequence that sent equal bytes; otherwise [`NO_LINK`].
     pub link: u32,
 }
 
-/// An order of a recording's entries, step by step. Any numbers may stand in it: whether it
-/// explains a recording is for the checker.
+/// A sequence of a recording's entries, step by step. It may hold any numbers: only the checker
+/// decides whether it explains a recording.
 #[derive(Drop)]
 pub struct Certificate {
-    /// The steps, the first one first.
+    /// Steps, from the first to the last.
     pub steps: Vec<Step>,
 }

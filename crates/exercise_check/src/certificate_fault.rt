@@ -1,4 +1,4 @@
-//! Why a certificate was not read or written.
+//! Faults of reading and writing a certificate.
 
 ghost use Rattle.std.specs.Prelude.{◌≡◌, Some};
 ghost use Rattle.exercise_check.specs.FaultText.{name_of, place_of, format_fault_text, certificate_fault_text};
@@ -9,23 +9,22 @@ use std::alloc::{AllocError, AllocFailed};
 use std::error::Error;
 use std::fmt;
 
-/// The first field of a certificate's file that is bad, missing or past the limit, in the order of
-/// the format, with the offset in bytes, from 0, of that field; Truncated has the length of the
-/// input.
+/// First field of a certificate's file that is bad, missing or past the limit, in the order of the
+/// format, with its offset in bytes, from 0. Truncated has the length of the input instead.
 #[derive(Clone, Copy, Debug, PartialEq, Eq)]
 pub enum CertificateFormatFault {
     /// The first eight bytes are not the ASCII text `DSCT0001`.
     Magic(u64),
-    /// A field is not wholly there.
+    /// A field is missing or incomplete.
     Truncated(u64),
-    /// A byte stands after the last step.
+    /// There is a byte behind the last step.
     Trailing(u64),
     /// The number of steps is above the limit.
     OverLimit(u64),
 }
 
 impl CertificateFormatFault {
-    /// Its name.
+    /// Name of the fault.
     pub fn name(self) -> &'static str
         ensures { result.now ≡ name_of self }
     {
@@ -37,7 +36,7 @@ impl CertificateFormatFault {
         }
     }
 
-    /// Its offset in bytes, from 0.
+    /// Offset of the fault in bytes, from 0.
     pub fn place(self) -> u64
         ensures { result ≡ place_of self }
     {
@@ -68,7 +67,7 @@ pub enum CertificateFault {
     Format(CertificateFormatFault),
     /// A read failed.
     Read,
-    /// There is no memory for what was read.
+    /// There is no memory for the certificate.
     Memory,
 }
 

@@ -1,4 +1,4 @@
-//! The text of a certificate, and writing it.
+//! Writes the text of a certificate.
 
 ghost use Rattle.std.specs.Prelude.{◌≡◌, ◌≤◌, length};
 ghost use Rattle.std.specs.List.{flat_map};
@@ -11,13 +11,13 @@ use arrayvec::ArrayVec;
 use byte_files::{WriteFailed, put};
 use std::io::Write;
 
-/// The first bytes of a certificate: the format's name and version.
+/// Magic, the first eight bytes of a certificate: the format's name and version.
 pub(crate) const MAGIC: [u8; 8] = *b"DSCT0001";
 
-/// How many steps are put at once.
+/// Number of steps that one write takes.
 const BLOCK: usize = 512;
 
-/// The text of a block of steps, of eight bytes each.
+/// Text of a block of at most 512 steps, eight bytes each.
 type BlockText = ArrayVec<u8, 4096>;
 
 fn step_bytes(step: Step) -> [u8; 8]
@@ -28,7 +28,7 @@ fn step_bytes(step: Step) -> [u8; 8]
     [p0, p1, p2, p3, l0, l1, l2, l3]
 }
 
-/// The text of so few steps.
+/// Text of a block of at most 512 steps.
 fn block_text(steps: &[Step]) -> BlockText
     requires { length steps.now ≤ 512 }
     ensures { result.items ≡ flat_map step_text steps.now }
@@ -40,7 +40,7 @@ fn block_text(steps: &[Step]) -> BlockText
     text
 }
 
-/// Puts so few steps at once.
+/// Writes a block of at most 512 steps in one call.
 fn put_block<W: Write>(writer: &mut W, steps: &[Step]) -> Result<(), WriteFailed>
     requires { length steps.now ≤ 512 }
     ensures { Writes result (W.contents writer.old) (W.contents writer.new) (flat_map step_text steps.now) }
@@ -77,8 +77,8 @@ fn put_certificate<W: Write>(writer: &mut W, steps: &[Step]) -> Result<(), Write
     put_steps(writer, steps)
 }
 
-/// Writes the text of a certificate of at most 0xFFFFFFFF steps, numbers big-endian: all of it, or,
-/// after a Write fault, a prefix. A write that takes no byte is a failed one. It takes no memory and
+/// Writes the text of a certificate of at most 0xFFFFFFFF steps, numbers big-endian, or a prefix of
+/// it if a write fails (Write). A write that takes no byte counts as failed. Takes no memory and
 /// does not flush.
 pub fn write_certificate<W: Write>(
     certificate: &Certificate,

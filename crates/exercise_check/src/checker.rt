@@ -1,4 +1,4 @@
-//! The checker: it takes the steps of a certificate one after the other.
+//! The checker of certificates: judges their steps one after the other.
 
 ghost use Rattle.std.specs.Prelude.{◌≡◌, ◌≢◌, ◌<◌, ◌+◌, [], length, take, OnOk, IfOk, IfSome, IfNone, IfErr, Err};
 ghost use Rattle.exercise_model.specs.Run.{Explains};
@@ -20,13 +20,13 @@ use std::alloc::{AllocError, Global};
 use std::error::Error;
 use std::fmt;
 
-/// Why a certificate is refused.
+/// Why a certificate was refused.
 #[derive(Clone, Copy, Debug, PartialEq, Eq)]
 pub enum CheckFault {
-    /// A step, from 0, and the first cause that holds there; all steps before it are good. Where
-    /// the numbers of steps and entries differ it is step 0 with CountDiffers.
+    /// The first bad step, from 0, and the first cause that holds there. If the numbers of steps
+    /// and entries differ, it is step 0 with CountDiffers.
     Bad { step: usize, cause: Cause },
-    /// There is no memory to judge it.
+    /// There is no memory to judge the certificate.
     Memory,
 }
 
@@ -60,8 +60,8 @@ impl From<AllocError> for CheckFault {
     }
 }
 
-/// Takes a step of a certificate, where those before it were taken, or tells the first cause against
-/// it. It takes no memory.
+/// Takes the step at index `at`, once all steps before it are taken. Returns the first cause
+/// against it, or `None` if it is good and taken. Takes no memory.
 fn take_step<L: ExerciseLog>(
     found: &mut Findings<'_, L>,
     cursors: &mut Cursors,
@@ -93,7 +93,7 @@ fn take_step<L: ExerciseLog>(
     }
 }
 
-/// Takes the steps of a certificate one after the other, up to the first that is bad.
+/// Takes the steps of a certificate up to the first bad one, which is returned.
 fn take_steps<L: ExerciseLog>(
     found: &mut Findings<'_, L>,
     cursors: &mut Cursors,
@@ -113,16 +113,19 @@ fn take_steps<L: ExerciseLog>(
     None
 }
 
-/// Checks a certificate against the logs of an exercise. A yes says that the order that it names is
-/// a run, and that this run explains the recording: each station did exactly what its log holds. Each
-/// Able received from a recorded station then tells what its sender had done before: `knowledge`;
-/// and what the yes tells is so in every run that explains the recording: `said`. A good certificate
-/// is refused for want of memory alone: `only`.
-/// A no names the first bad step and the first cause that holds there: for the step's entry 2 and
-/// 3, then 5 to 13 for its event, then 4 for its link; where the numbers of steps and entries
-/// differ, which is tested first, it is step 0 and cause 1. It is refused with Memory where there
-/// is none for what is found in the log, for which entry follows which at its station, or for what a
-/// yes reports; taking the steps takes none, and datagrams are looked at where they lie.
+/// Checks a certificate against the logs of an exercise.
+///
+/// A yes means that the certificate's sequence is a run that explains the recording: each station
+/// did exactly what its log holds. By the clause `knowledge`, each Able received from a recorded
+/// station then shows what its sender had done before; by `said`, the reported account holds in
+/// every run that explains the recording. By `only`, a good certificate is refused only for want of
+/// memory.
+///
+/// A no is the first bad step and the first cause that holds there. Cause 1 is tested first, for
+/// the whole certificate, and reported at step 0; then for each step 2 and 3 for its entry, 5 to 13
+/// for its event, and 4 for its link. Returns Memory if there is none for the findings in the log,
+/// for the table of each station's next entries, or for the account. Taking the steps needs none,
+/// and datagrams are read in place.
 pub fn check<L: ExerciseLog>(
     alloc: Global,
     log: &L,
@@ -157,25 +160,25 @@ pub fn check<L: ExerciseLog>(
     }
 }
 
-/// A step of a certificate that is bad.
+/// A bad step of a certificate.
 #[derive(Clone, Copy)]
 pub struct BadStep {
-    /// The step, from 0.
+    /// Number of the step, from 0.
     pub step: usize,
-    /// The first cause that holds there.
+    /// First cause that holds against it.
     pub cause: Cause,
 }
 
-/// What a check comes to, and what was found in the log.
+/// Result of a check, with the findings in the log.
 #[derive(Drop)]
 pub struct Stepped<'a, L: ExerciseLog> {
-    /// The first bad step; `None` where the certificate is good.
+    /// First bad step; `None` if the certificate is good.
     pub bad: Option<BadStep>,
-    /// What the log of each station says of its own entries.
+    /// Findings of each station's log about its own entries.
     pub findings: Findings<'a, L>,
 }
 
-/// As [`check`], where what the log says is found already; it is given back.
+/// Like [`check`], with findings that were made before; returns them.
 pub fn check_found<'a, L: ExerciseLog>(
     alloc: Global,
     findings: Findings<'a, L>,

@@ -1,4 +1,4 @@
-//! A course over a log: steps that are taken one after the other, each judged by those before it.
+//! Takes the entries of a log as steps, each judged by the steps before it.
 
 ghost use Rattle.std.specs.Prelude.{◌≡◌, ◌<◌, ◌==◌, length, slice_index_or, slice_get, IfOk, IfSome, IfNone, OnErr};
 ghost use Rattle.exercise_model.specs.Cause.{IsAllowed};
@@ -18,10 +18,9 @@ use exercise_model::{Cause, ExerciseLog};
 use std::alloc::{AllocError, Global};
 use std::marker::Model;
 
-/// The steps that were taken so far over a log, each good after those before it. Contracts see the
-/// recording and the steps; how the next event is judged by them is nobody else's business. The
-/// search sweeps with it. What the log of each station says of its own entries is found in one pass
-/// when a course begins.
+/// Good steps taken so far over a log. The search takes its entries with it. Contracts see the
+/// recording and the steps; how the next event is judged is private to this crate. One pass over
+/// the log at the start finds out everything that a station's log says about its own entries.
 #[derive(Drop)]
 pub struct Course<'a, L: ExerciseLog> {
     found: Findings<'a, L>,
@@ -37,25 +36,25 @@ impl<'a, L: ExerciseLog> Model for Course<'a, L> {
     ghost invariant = { λ c. Keeps c.found c.steps.items c.cursors };
 }
 
-/// What going on by an entry comes to.
+/// Result of trying to take an entry.
 #[derive(Clone, Copy)]
 pub enum Progress {
-    /// It was taken: its event is allowed, and this is the link of its step, as a certificate
-    /// writes it.
+    /// The entry was taken: its event is allowed. The number is the link of its step, as a
+    /// certificate has it.
     Taken(u32),
-    /// Its event may not happen next: the first cause that holds.
+    /// The event may not happen next; this is the first cause that holds.
     Barred(Cause),
 }
 
 impl<'a, L: ExerciseLog> Course<'a, L> {
-    /// The course over a log before its first step.
+    /// Starts a course over a log, before its first step.
     pub fn begin(alloc: Global, log: &'a L) -> Result<Course<'a, L>, AllocError>
         ensures { IfOk result (λ course. course ≡ begun (L.recording log.now)) }
     {
         Course::over(alloc, Findings::of(alloc, log)?)
     }
 
-    /// The course over a log before its first step, where what the log says is found already.
+    /// Starts a course, before its first step, with findings that were made before.
     pub fn over(alloc: Global, found: Findings<'a, L>) -> Result<Course<'a, L>, AllocError>
         ensures { IfOk result (λ course. course ≡ begun found.entry) }
     {
@@ -69,7 +68,7 @@ impl<'a, L: ExerciseLog> Course<'a, L> {
         })
     }
 
-    /// How many steps were taken; each is good after those before it.
+    /// Number of steps taken; each is good after those before it.
     pub fn len(&self) -> usize
         ensures steps { result ≡ length self.now.steps }
         ensures course { IsCourse self.now }
@@ -77,8 +76,8 @@ impl<'a, L: ExerciseLog> Course<'a, L> {
         self.steps.len()
     }
 
-    /// Whether an entry is its station's next one: as many events of its station were taken as
-    /// entries of the station stand before it.
+    /// Whether an entry is its station's next one: the steps have taken exactly the entries of its
+    /// station before it.
     pub fn is_next(&self, place: usize) -> bool
         requires { place < length self.now.recording.entries }
         ensures { IfSome (slice_get self.now.recording.entries place) (λ e. result ≡ is_next self.now.recording self.now.steps place (event_of e)) }
@@ -86,7 +85,7 @@ impl<'a, L: ExerciseLog> Course<'a, L> {
         is_next(self.found.log(), &self.cursors, place)
     }
 
-    /// The next entry of a station, or `None` where all its entries were taken.
+    /// Next entry of a station; `None` if all its entries are taken.
     pub fn next_entry(&self, station: usize) -> Option<usize>
         ensures within { IfSome result (λ place. place < length self.now.recording.entries) }
         ensures own { IfSome result (λ place. IfSome (slice_get self.now.recording.entries place) (λ e. station_of (event_of e) ≡ station)) }
@@ -98,17 +97,17 @@ impl<'a, L: ExerciseLog> Course<'a, L> {
         next_entry(self.found.log(), &self.cursors, station)
     }
 
-    /// Where what an entry received comes from, as the logs say; see [`Findings::source`].
+    /// Entry that sent the datagram received in this one, by the logs; see [`Findings::source`].
     pub fn source(&self, place: usize) -> Option<u32>
         ensures { result ≡ source_of self.now.recording place }
     {
         self.found.source(place)
     }
 
-    /// Goes on by an entry of a station, that is its next one: where its event is allowed after what
-    /// happened so far, the entry is taken, with the link that its step should have; else the first
-    /// cause that holds is told, and the course stays as it is. It does so too where there is no
-    /// memory to take the step; judging the event takes none.
+    /// Tries to take the next entry of a station. If its event is allowed after the steps so far,
+    /// the entry is taken, with the correct link; otherwise the first cause that holds is returned,
+    /// and the course is unchanged. It is also unchanged if there is no memory for the step;
+    /// judging the event takes none.
     pub fn go_on_at(
         &mut self,
         alloc: Global,
@@ -122,7 +121,7 @@ impl<'a, L: ExerciseLog> Course<'a, L> {
         ensures judged { IfOk result (λ progress. IfSome (slice_get self.old.recording.entries place) (GoesOn self.old self.new place progress)) }
         ensures course { IfOk result (λ progress. IsCourse self.new) }
         ensures memory { OnErr result (self.new ≡ self.old) }
-        // It lacks memory only where the event is allowed.
+        // Want of memory is possible only where the event is allowed.
         ensures allowed { OnErr result (IfSome (slice_get self.old.recording.entries place) (λ e. IsAllowed self.old.recording.setting (so_far self.old) (event_of e))) }
     {
         self.found.settle_source(place);
@@ -141,21 +140,21 @@ impl<'a, L: ExerciseLog> Course<'a, L> {
         }
     }
 
-    /// As [`Course::go_on_at`], where it is read from the log which station the entry is one of.
+    /// Like [`Course::go_on_at`], with the station read from the log.
     pub fn go_on(&mut self, alloc: Global, place: usize) -> Result<Progress, AllocError>
         requires within { place < length self.old.recording.entries }
         requires next { IsNext self.old place }
         ensures judged { IfOk result (λ progress. IfSome (slice_get self.old.recording.entries place) (GoesOn self.old self.new place progress)) }
         ensures course { IfOk result (λ progress. IsCourse self.new) }
         ensures memory { OnErr result (self.new ≡ self.old) }
-        // It lacks memory only where the event is allowed.
+        // Want of memory is possible only where the event is allowed.
         ensures allowed { OnErr result (IfSome (slice_get self.old.recording.entries place) (λ e. IsAllowed self.old.recording.setting (so_far self.old) (event_of e))) }
     {
         let station = usize::from(self.found.log().entry(place).station());
         self.go_on_at(alloc, station, place)
     }
 
-    /// What was found in the log. What is kept of the steps is given back.
+    /// Findings in the log; drops the steps.
     pub fn into_found(self) -> Findings<'a, L>
         ensures { result ≡ self.entry.recording }
     {
@@ -163,7 +162,7 @@ impl<'a, L: ExerciseLog> Course<'a, L> {
         found
     }
 
-    /// What the recording says.
+    /// Account of the recording.
     pub fn into_account(self, alloc: Global) -> Result<Account, AllocError>
         ensures { IfOk result (λ account. TellsAccount self.entry.recording account) }
     {
@@ -171,7 +170,7 @@ impl<'a, L: ExerciseLog> Course<'a, L> {
         found.into_account(alloc)
     }
 
-    /// The steps that were taken.
+    /// Steps taken, as a certificate.
     pub fn into_certificate(self) -> Certificate
         ensures { result.steps.items ≡ self.entry.steps }
     {
@@ -179,7 +178,7 @@ impl<'a, L: ExerciseLog> Course<'a, L> {
         Certificate { steps }
     }
 
-    /// What was found in the log, and the steps that were taken.
+    /// Findings in the log, and the steps taken.
     pub fn apart(self) -> (Findings<'a, L>, Certificate)
         ensures found { result.0 ≡ self.entry.recording }
         ensures steps { result.1.steps.items ≡ self.entry.steps }

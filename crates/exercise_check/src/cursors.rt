@@ -1,4 +1,4 @@
-//! Which entry of each station is its next one: found in one pass, and moved on with each step.
+//! Next entry of each station: found in one pass over the log, and advanced with each step.
 
 ghost use Rattle.std.specs.Prelude.{◌≡◌, ◌<◌, ◌≤◌, ◌+◌, ◌==◌, ℕ, List, [], ◌∷◌, ◌++◌, length, slice_get, slice_index_or, IfOk, IfSome, IfNone, if◌then◌else◌};
 ghost use Rattle.exercise_model.specs.History.{event_of, station_of, log_at};
@@ -12,19 +12,19 @@ use exercise_findings::replace;
 use exercise_model::ExerciseLog;
 use std::alloc::{AllocError, Global};
 
-/// Stands where there is no further entry: a number that none has.
+/// Marks the end of a station's entries; no entry has this number.
 const NO_ENTRY: u32 = u32::MAX;
 
-/// The next entry of each station, and what follows each entry.
+/// Next entry of each station, and for each entry the following one of its station.
 #[derive(Drop)]
 pub(crate) struct Cursors {
-    /// For each entry, the one that follows it at its station.
+    /// For each entry, the following entry of its station, or `NO_ENTRY`.
     pub followers: Vec<u32>,
-    /// For each station, its next entry.
+    /// For each station, its next entry, or `NO_ENTRY`.
     pub next: Vec<u32>,
 }
 
-/// Goes over the entry before those that were gone over.
+/// Adds an entry in front of the later ones, which were added before.
 fn go_back<L: ExerciseLog>(cursors: &mut Cursors, log: &L, entry: usize)
     requires within { entry < length (L.recording log.now).entries }
     requires tied { AreCursorsFrom (L.recording log.now) (entry + 1) cursors.old }
@@ -36,7 +36,7 @@ fn go_back<L: ExerciseLog>(cursors: &mut Cursors, log: &L, entry: usize)
     replace(&mut cursors.next, station, entry as u32);
 }
 
-/// The cursors where no entry is gone over.
+/// Cursors before any entry was added.
 fn no_cursors<L: ExerciseLog>(alloc: Global, log: &L) -> Result<Cursors, AllocError>
     ensures { let r = L.recording log.now in IfOk result (AreCursorsFrom r (length r.entries)) }
 {
@@ -45,7 +45,7 @@ fn no_cursors<L: ExerciseLog>(alloc: Global, log: &L) -> Result<Cursors, AllocEr
     Ok(Cursors { followers, next })
 }
 
-/// The cursors before the first step: each station's next entry is its first.
+/// Cursors before the first step: each station's next entry is its first.
 pub(crate) fn first_cursors<L: ExerciseLog>(alloc: Global, log: &L) -> Result<Cursors, AllocError>
     ensures { IfOk result (AreCursors (L.recording log.now) []) }
 {
@@ -56,7 +56,7 @@ pub(crate) fn first_cursors<L: ExerciseLog>(alloc: Global, log: &L) -> Result<Cu
     Ok(cursors)
 }
 
-/// The next entry of a station, where it has one.
+/// Next entry of a station, if it has one.
 pub(crate) fn next_entry<L: ExerciseLog>(
     log: &L,
     cursors: &Cursors,
@@ -85,7 +85,7 @@ pub(crate) fn is_next<L: ExerciseLog>(log: &L, cursors: &Cursors, place: usize) 
     cursors.next[station] as usize == place
 }
 
-/// Whether an entry was taken: the next one of its station comes after it.
+/// Whether an entry was taken: the next one of its station is behind it.
 pub(crate) fn was_taken<L: ExerciseLog>(log: &L, cursors: &Cursors, entry: usize) -> bool
     requires within { entry < length (L.recording log.now).entries }
     requires next { length cursors.now.next.items ≡ length (L.recording log.now).setting.stations }
@@ -95,7 +95,7 @@ pub(crate) fn was_taken<L: ExerciseLog>(log: &L, cursors: &Cursors, entry: usize
     cursors.next[station] as usize > entry
 }
 
-/// Moves the cursor of a station on, past the entry of a step that is taken, which is one of that station.
+/// Advances the cursor of a station past an entry of that station.
 pub(crate) fn pass_at<L: ExerciseLog>(cursors: &mut Cursors, log: &L, station: usize, place: usize)
     requires within { place < length (L.recording log.now).entries }
     requires at { station < length (L.recording log.now).setting.stations }
@@ -109,7 +109,7 @@ pub(crate) fn pass_at<L: ExerciseLog>(cursors: &mut Cursors, log: &L, station: u
     replace(&mut cursors.next, station, follower);
 }
 
-/// As [`pass_at`], where it is read from the log which station that is.
+/// Like [`pass_at`], with the station read from the log.
 pub(crate) fn pass<L: ExerciseLog>(cursors: &mut Cursors, log: &L, place: usize)
     requires within { place < length (L.recording log.now).entries }
     requires followers { length cursors.old.followers.items ≡ length (L.recording log.now).entries }

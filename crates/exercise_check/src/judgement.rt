@@ -1,4 +1,4 @@
-//! What the next event of a station is judged to be.
+//! Judges the next event of a station.
 
 ghost use Rattle.std.specs.Prelude.{◌≡◌, ◌<◌, List, length};
 ghost use Rattle.exercise_findings.specs.Source.{source_of};
@@ -11,16 +11,16 @@ use crate::cursors::{Cursors, was_taken};
 use exercise_findings::Findings;
 use exercise_model::{Cause, ExerciseLog};
 
-/// What an event that comes next is judged to be.
+/// Verdict on an event that would be next.
 #[derive(Clone, Copy)]
 pub(crate) enum Judgement {
-    /// It is allowed: the entry that its step links with, if it links with one.
+    /// The event is allowed; the entry that its step links to, if any.
     Allowed(Option<u32>),
-    /// It may not happen: the first cause that holds.
+    /// The event may not happen; the first cause that holds.
     Forbidden(Cause),
 }
 
-/// What an event is judged to be that this cause speaks against, or none, with this link.
+/// Verdict for this cause, if there is any, or else for this link.
 fn judged(cause: Option<Cause>, link: Option<u32>) -> Judgement
     ensures { result ≡ judged cause link }
 {
@@ -30,14 +30,14 @@ fn judged(cause: Option<Cause>, link: Option<u32>) -> Judgement
     }
 }
 
-/// Whether an entry is judged to receive what was never sent.
+/// Whether the verdict is that the received datagram was never sent.
 fn is_unsent(judgement: Judgement) -> bool
     ensures { result ≡ is_unsent judgement }
 {
     matches!(judgement, Judgement::Forbidden(Cause::NeverSent))
 }
 
-/// The source of an entry, where that one was taken.
+/// Source of an entry, if the source was taken.
 fn source_taken<L: ExerciseLog>(
     found: &Findings<'_, L>,
     cursors: &Cursors,
@@ -52,8 +52,7 @@ fn source_taken<L: ExerciseLog>(
     }
 }
 
-/// Judges a datagram that a station is to receive, and which had to be sent before: it was where its
-/// source was taken.
+/// Judges a received datagram that must have been sent before: it was if its source was taken.
 #[inline(never)]
 fn judge_received<L: ExerciseLog>(
     found: &Findings<'_, L>,
@@ -69,9 +68,9 @@ fn judge_received<L: ExerciseLog>(
     }
 }
 
-/// Judges the event of an entry, its station's next one, by what its station's log says of it: the
-/// first cause against it, the entry of the request that it takes up, and its source; and by which
-/// entries were taken so far, where the log says that it receives what had to be sent before.
+/// Judges the event of an entry that is its station's next one. Uses the findings in the station's
+/// log: first cause against the entry, request of an answer, source of a receipt. For a receipt of
+/// a datagram that must have been sent before, uses also the entries taken so far.
 #[inline(always)]
 pub(crate) fn judge<L: ExerciseLog>(
     found: &Findings<'_, L>,

@@ -1,5 +1,5 @@
-//! Laws of steps, and of the format of certificates. Each function is a theorem: it has no body, and
-//! its contract is the law.
+//! Laws of steps, and of the format of certificates. Each function is a theorem: it has no body,
+//! and its contract is the law.
 
 ghost use Rattle.std.specs.Prelude.{◌≡◌, ◌↔◌, ◌≤◌, ◌<◌, ◌+◌, ◌*◌, ℕ, List, length, take, slice_index, Ok, Err, true, Some, None};
 ghost use Rattle.std.specs.List.{list_all};
@@ -23,38 +23,38 @@ ghost use Rattle.exercise_check.specs.declared.checker.CheckFault.{CheckFault};
 ghost use Rattle.exercise_check.specs.declared.checker.CheckFault.TheVariants.{Bad};
 ghost use Rattle.exercise_model.specs.declared.cause.Cause.{Cause};
 
-/// Laws of steps: a step is good exactly where no cause speaks against it; after good steps a good
-/// step links an answer with the request that it takes up in their order; and the order that a good
-/// certificate names is a run that explains the recording.
+/// A step is good exactly if there is no cause against it. After good steps, a good step links an
+/// answer to the request that it takes up in their sequence. The sequence of a good certificate is
+/// a run that explains the recording.
 pub fn good_steps_have_no_cause()
     ensures good { (r : PlainRecording) (before : List Step) (step : Step) → step_cause r before step ≡ None → (e : Entry) × IsGoodStep r before step e }
     ensures none { (r : PlainRecording) (before : List Step) (step : Step) (e : Entry) → IsGoodStep r before step e → step_cause r before step ≡ None }
-    // After good steps the link of an answer is the entry of the request taken up in that order.
+    // After good steps the link of an answer is the entry of the request taken up in that sequence.
     ensures links { (r : PlainRecording) (before : List Step) (step : Step) (e : Entry) (s : ℕ) (b : List ℕ) (p : Pdu) → GoodBelow r before (length before) → IsGoodStep r before step e
         → event_of e ≡ Send s b → meaning r.setting.exercise b ≡ Some p → is_answer_body p.body ≡ true → IsTakenUp r (order_of r before) s p step.link }
     ensures explains { (r : PlainRecording) (steps : List Step) → IsRecording r → IsGood r steps → Explains r (order_of r steps) }
 {}
 
-/// The law of conversion: a recording of the first form and the one that is equal to it in all but
-/// the form, which is Closed, have the same first cause against each step after each steps
-/// (`causes`), the same good certificates (`good`), and the same refusals of the others (`bad`); and
-/// what a yes tells of the one it tells of the other (`account`). So [`check`] gives both the same
-/// answer, want of memory aside.
+/// Converting a recording of the first form changes no check. It and the recording that differs
+/// only in its form, Closed, have equal first causes against each step after any steps (`causes`),
+/// equal good certificates (`good`), equal refusals of all others (`bad`), and equal accounts
+/// (`account`). So [`check`] gives the one result for both, except for want of memory.
 ///
 /// [`check`]: crate::check
 pub fn conversion_keeps_checks()
     ensures causes { (r : PlainRecording) (before : List Step) (step : Step) → r.setting.form ≡ First → step_cause r before step ≡ step_cause (converted r) before step }
     ensures good { (r : PlainRecording) (steps : List Step) → r.setting.form ≡ First → IsGood r steps ↔ IsGood (converted r) steps }
     ensures bad { (r : PlainRecording) (steps : List Step) (fault : CheckFault) → r.setting.form ≡ First → Refuses r steps fault ↔ Refuses (converted r) steps fault }
-    // A certificate that is refused of the one is refused of the other, with the same step and cause.
+    // A certificate that is refused for both is refused with an equal step and cause.
     ensures one { (r : PlainRecording) (steps : List Step) (k j : ℕ) (cause other : Cause) → r.setting.form ≡ First → Refuses r steps (Bad k cause) → Refuses (converted r) steps (Bad j other)
         → (k ≡ j) × (cause ≡ other) }
     ensures never { (r : PlainRecording) (steps : List Step) (k : ℕ) (cause : Cause) → r.setting.form ≡ First → IsGood r steps → Refuses (converted r) steps (Bad k cause) → ⊥ }
     ensures account { (r : PlainRecording) (c : AccountData) → TellsAccount r c ↔ TellsAccount (converted r) c }
 {}
 
-/// Laws of the format: what is read as a certificate is its text, whole and within the limit; and
-/// the text of each certificate within the limit is read as it. Numbers have 32 bits.
+/// Reading and writing agree. Bytes that read as a certificate are its text, complete and within
+/// the limit; the text of each certificate within the limit reads as that certificate. Numbers have
+/// 32 bits.
 pub fn text_and_reading_agree()
     ensures text { (limit : ℕ) (bytes : List ℕ) (steps : List Step) → ((i : ℕ) → slice_index bytes i < 256)
         → certificate_at limit bytes ≡ Ok steps → bytes ≡ certificate_text steps }
@@ -67,17 +67,17 @@ pub fn text_and_reading_agree()
         → certificate_at limit (certificate_text steps) ≡ Ok steps }
 {}
 
-/// The law of refusals: whatever bytes are refused, the fault that is told holds of them, at its
-/// offset. Magic at 0: the first eight bytes are others. OverLimit at 8: the magic is there, and more
-/// steps than the limit. Truncated at the length: there are fewer bytes than the head and its steps
-/// have. Trailing: a certificate within the limit ends there, and more follows.
+/// Refusals are true: the fault returned for refused bytes holds at its offset. Magic at 0: the
+/// first eight bytes are others. OverLimit at 8: the magic is right, and there are more steps than
+/// the limit. Truncated at the length: there are fewer bytes than the head and its steps need.
+/// Trailing: a certificate within the limit ends there, and more bytes follow.
 pub fn refusals_hold()
     ensures { (limit : ℕ) (bytes : List ℕ) (fault : CertificateFormatFault) → ((i : ℕ) → slice_index bytes i < 256)
         → certificate_at limit bytes ≡ Err fault → IsRefused limit bytes fault }
 {}
 
-/// The law of the limit: bytes that were cut behind the first one past the text of the largest
-/// certificate within the limit are read as all of them are.
+/// Bytes cut off behind the first byte past the text of the largest certificate within the limit
+/// are read as all of them would be.
 pub fn past_the_limit_nothing_counts()
     ensures { (limit : ℕ) (bytes : List ℕ) → certificate_at limit (take (12 + 8 * limit + 1) bytes) ≡ certificate_at limit bytes }
 {}

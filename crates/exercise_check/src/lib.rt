@@ -1,16 +1,15 @@
-//! Certificates of recordings: an order of the entries that is to explain what each station did,
-//! the file format that keeps it, and the checker.
+//! Certificates of recordings: their file format, and the checker that decides whether a
+//! certificate's sequence of entries explains a recording. It never trusts anything but the log and
+//! the certificate, and never searches for a sequence: `exercise_audit` does, step by step with a
+//! [`Course`]. The layer above may rely on the contract of [`check`]: a yes is a run that explains
+//! the recording, and a no is the first bad step and the first cause that holds there.
 //!
-//! [`check`] trusts nothing but a log and a certificate: a yes is a run that explains the recording,
-//! and a no names the first bad step and the first cause that holds there; [`check_found`] does so
-//! where what the log says is found already, and gives that back;
-//! [`good_steps_have_no_cause`] ties the causes to good steps, and [`conversion_keeps_checks`] is the
-//! law of a recording that is carried over to the second format. The search of the crate above sweeps
-//! with a [`Course`]: the steps taken so far over a log, which judges the next event of a station by
-//! them as the checker does. [`read_certificate`] answers the certificate whose text was read or the
-//! first field that is bad, missing or past the limit, [`write_certificate`] writes that text, and
-//! [`text_and_reading_agree`] and [`refusals_hold`] are the laws that tie them. By the law
-//! [`links_are_of_the_logs`] good certificates of a recording differ in order alone.
+//! [`check_found`] checks with findings that were made before, and returns them.
+//! [`read_certificate`] returns the certificate whose text was read or the first field that is bad,
+//! missing or past the limit, and [`write_certificate`] writes that text. The laws are
+//! [`good_steps_have_no_cause`], [`conversion_keeps_checks`] (of a recording converted to the
+//! second format), [`text_and_reading_agree`], [`refusals_hold`] and [`links_are_of_the_logs`]:
+//! good certificates of one recording differ only in the sequence.
 #![tactic(auto)]
 
 mod certificate;

@@ -1,5 +1,5 @@
-//! The law of links: what certificates may say of a recording beside an order. A function is a
-//! theorem: it has no body, and its contract is the law.
+//! The law of links: good certificates of one recording differ only in the sequence. A function is
+//! a theorem: it has no body, and its contract is the law.
 
 ghost use Rattle.std.specs.Prelude.{◌≡◌, ◌<◌, ℕ, List, length};
 ghost use Rattle.exercise_model.specs.Recording.{PlainRecording, IsRecording};
@@ -8,9 +8,9 @@ ghost use Rattle.exercise_check.specs.Order.{link_number};
 ghost use Rattle.exercise_check.specs.Goodness.{IsGood};
 ghost use Rattle.exercise_check.specs.Links.{log_link, step_at, NameOnce, DifferInOrder};
 
-/// The law of links: each link of a good certificate is what the logs say of its entry, of an answer
-/// that was sent its pair, of what was received its source, and of all else none; and a good
-/// certificate names each entry once. So two good certificates of a recording differ in order alone.
+/// Each link of a good certificate follows from the logs: a sent answer links to its pair, a
+/// receipt to its source, every other entry to none. A good certificate names each entry once. So
+/// two good certificates of one recording differ only in the sequence.
 pub fn links_are_of_the_logs()
     ensures links { (r : PlainRecording) (steps : List Step) (k : ℕ) → IsRecording r → IsGood r steps → k < length steps
         → (step_at steps k).link ≡ link_number (log_link r (step_at steps k).place) }

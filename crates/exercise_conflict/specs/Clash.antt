@@ -1,4 +1,4 @@
--- What an entry contradicts, and where: the other side of the first cause that the log of its station has against it (profile).
+-- The contradiction of an entry, and where it is: the other side of the first cause that its station's log shows against it (profile).
 use Rattle.std.specs.Prelude.{ℕ, List, length, bytes_eq, Bool, false, ◌&&◌, ◌==◌, not, Option, Some, None, option_map, option_and_then, slice_get, if◌then◌else◌}
 use Rattle.std.specs.Option.{option_map_or}
 use Rattle.dis_records.specs.declared.entity.Scope.{Scope}
@@ -37,9 +37,9 @@ use Rattle.exercise_conflict.specs.Difference.{order_difference, pdu_difference}
 use Rattle.exercise_conflict.specs.Earlier.{sent_pdu, earlier_sent}
 use Rattle.exercise_conflict.specs.Since.{made_since}
 
--- ---- what stands at other entries
+-- ---- other entries
 
--- the PDU that an event receives in exercise x, if it receives something that is not "other"
+-- the PDU that an event receives in exercise x, if it receives one that is not "other"
 abbrev pub meant_by_get : ℕ → Event → Option Pdu
 meant_by_get x (Send s b) = None
 meant_by_get x (Get s b) = meaning x b
@@ -49,19 +49,19 @@ meant_by_get x (Tell s e y) = None
 unfoldable pub got_pdu : PlainRecording → ℕ → ℕ → Option Pdu
 got_pdu r s i = option_and_then (meant_by_get r.setting.exercise) (own_event r s i)
 
--- q is a request under the identifier of the answer p, from the site and application that p goes to
+-- q is a request under the identifier of the answer p, sent by p's receiver
 abbrev pub is_asking : Pdu → Pdu → Bool
 is_asking p q = is_request_body q.body && (same_id (request_id_of p.body) (request_id_of q.body) && same_pair q.origin p.target)
 
--- such a request that does not address the station at a
+-- a request for p that does not address the station at a
 abbrev pub is_overheard : Pair → Pdu → Pdu → Bool
 is_overheard a p q = is_asking p q && not (is_addressed q.target a)
 
--- entry i brings station s such a request, though it does not address the station
+-- entry i delivers to station s a request for p that does not address the station
 unfoldable pub overhears_at : PlainRecording → ℕ → Pdu → ℕ → Bool
 overhears_at r s p i = option_map_or (is_overheard (station_at r s).address p) (got_pdu r s i) false
 
--- an entry sends such a request, under the address of its own station
+-- an entry sends a request for p, under the address of its own station
 abbrev pub asks_by : PlainRecording → Pdu → Entry → Bool
 asks_by r p (Sent t stamp b) = option_map_or (λ q. is_from (station_at r t).address q && is_asking p q) (meaning r.setting.exercise b) false
 asks_by r p (Received t stamp b) = false
@@ -70,36 +70,36 @@ asks_by r p (Told t e y) = false
 unfoldable pub asks_at : PlainRecording → Pdu → ℕ → Bool
 asks_at r p i = option_map_or (asks_by r p) (slice_get r.entries i) false
 
--- the answer p goes to the station at this address
+-- the receiver of the answer p is the station at this address
 abbrev pub goes_to : Pair → Pdu → Bool
 goes_to a p = is_from a (record p { origin = p.target })
 
--- the station that it goes to
+-- the recorded station that p is sent to
 abbrev pub asker_of : PlainRecording → Pdu → Option ℕ
 asker_of r p = sender_of r (record p { origin = p.target })
 
--- ---- what is sent
+-- ---- sends
 
--- another order under the identifier of p, at entry k
+-- the contradiction of a reused identifier, given the earlier request at entry k
 abbrev pub reused_at : PlainRecording → ℕ → Pdu → ℕ → Option Clash
 reused_at r s p k = option_map (clashes.ReusedIdentifier k) (option_and_then (order_difference p) (sent_pdu r s k))
 
--- why the answer p does not answer the request q, of those that it could take up
+-- why the answer p does not answer the request q that it takes up
 abbrev pub unfit_of : Pdu → Pdu → Unfit
 unfit_of p q = if matches_kind p.body (body_kind q.body) then unfit.Entity else unfit.Kind
 
 abbrev pub wrong_at : PlainRecording → ℕ → Pdu → ℕ → Option Clash
 wrong_at r s p k = option_map (λ q. clashes.WrongAnswer k (unfit_of p q)) (got_pdu r s k)
 
--- the number that stands for all entities
+-- the entity number of all entities
 abbrev pub all_entities : ℕ
 all_entities = 0xFFFF
 
--- the state of a number before entry j, if an entity can have the number
+-- the state under a number before entry j, if an entity can have the number
 abbrev pub state_told : PlainRecording → ℕ → ℕ → ℕ → Option EntityState
 state_told r s n j = if is_entity n then Some (state_before r s n j) else None
 
--- what stands against a change of this scope, before entry j of station s
+-- the contradiction of an impossible change of this scope, before entry j of station s
 abbrev pub hopeless_for : PlainRecording → ℕ → ℕ → ℕ → Scope → Clash
 hopeless_for r s j k (One n) = clashes.Impossible k s n (state_told r s n j) (made_since r s n j)
 hopeless_for r s j k All = clashes.Impossible k s all_entities None None
@@ -110,11 +110,11 @@ hopeless_by r s j p k q = option_map (λ (c : Change). hopeless_for r s j k c.sc
 abbrev pub impossible_at : PlainRecording → ℕ → ℕ → Pdu → ℕ → Option Clash
 impossible_at r s j p k = option_and_then (hopeless_by r s j p k) (got_pdu r s k)
 
--- an answer without a request: the first request of the asker under the identifier that the station received after all, that it overheard before, and that the asker sent
+-- an answer without a request: the first request for it that the station received at any place, that it overheard before, and that the receiver of the answer sent
 abbrev pub unasked_for : PlainRecording → ℕ → ℕ → Pdu → Clash
 unasked_for r s j p = clashes.NoRequest (entry_taken_up r s p (length r.entries)) (first_below (overhears_at r s p) j) (first_below (asks_at r p) (length r.entries))
 
--- what station s contradicts by p, which it sends at entry j, for this cause against it
+-- the contradiction of p, sent by station s at entry j, for this cause against it
 abbrev pub clash_sent : PlainRecording → ℕ → ℕ → Cause → Pdu → Option Clash
 clash_sent r j s causes.WrongSender p = Some (clashes.WrongSender p.origin s)
 clash_sent r j s causes.ReusedIdentifier p = option_and_then (reused_at r s p) (earlier_sent r j s causes.ReusedIdentifier p)
@@ -124,28 +124,28 @@ clash_sent r j s causes.ChangedAnswer p = option_map clashes.ChangedAnswer (earl
 clash_sent r j s causes.Impossible p = option_and_then (impossible_at r s j p) (pair_of_sent r s j p)
 clash_sent r j s cause p = None
 
--- ---- what is received
+-- ---- receipts
 
--- q is like p: of the same kind, to the same receiver, under the same request identifier; where the kind has none, the same order
+-- p and q are similar: of equal kind, receiver and request identifier; or, if their kind has no identifier, equal orders
 abbrev pub is_near : Pdu → Pdu → Bool
 is_near p q =
     option_map_or (λ id. (kind_code (body_kind p.body) == kind_code (body_kind q.body)) && (same_entity p.target q.target && same_id (Some id) (request_id_of q.body)))
     (request_id_of p.body) (is_same_order p q)
 
--- station t sends such a PDU at entry i
+-- station t sends a PDU similar to p at entry i
 unfoldable pub sends_near_at : PlainRecording → ℕ → Pdu → ℕ → Bool
 sends_near_at r t p i = option_map_or (is_near p) (sent_pdu r t i) false
 
--- the first such entry of the station that p comes from
+-- the first entry of p's sender that sends a similar PDU
 abbrev pub near_of : PlainRecording → Pdu → Option ℕ
 near_of r p = option_and_then (λ t. first_below (sends_near_at r t p) (length r.entries)) (sender_of r p)
 
--- bytes that no field has, where no field differs
+-- the differing field, or Padding if no field differs
 abbrev pub or_padding : Option Field → Field
 or_padding (Some field) = field
 or_padding None = fields.Padding
 
--- the first thing in which a datagram of the bytes b, which means p, differs from one that is sent by an entry; none where the bytes are the same
+-- the first field in which a datagram of the bytes b, which means p, differs from the one that an entry sends; none if the bytes are equal
 abbrev pub differs_from : PlainRecording → List ℕ → Pdu → Entry → Option Field
 differs_from r b p (Sent t stamp c) = if bytes_eq b c then None else option_map (λ q. or_padding (pdu_difference p q)) (meaning r.setting.exercise c)
 differs_from r b p (Received t stamp c) = None
@@ -154,24 +154,24 @@ differs_from r b p (Told t e y) = None
 abbrev pub differs_at : PlainRecording → List ℕ → Pdu → ℕ → Option Field
 differs_at r b p k = option_and_then (differs_from r b p) (slice_get r.entries k)
 
--- what was never sent: its source, the first send of its sender that is like it, and in what they differ
+-- a datagram that was never sent: its source, its sender's first similar send, and in which field they differ
 abbrev pub unsent_by : PlainRecording → ℕ → List ℕ → Pdu → Clash
 unsent_by r j b p = clashes.NeverSent p.origin (source_of r j) (near_of r p) (option_and_then (differs_at r b p) (near_of r p))
 
--- what a station contradicts that receives the bytes b at entry j, which mean p, for this cause against it
+-- the contradiction of an entry j that receives the bytes b, which mean p, for this cause against it
 abbrev pub clash_got : PlainRecording → ℕ → List ℕ → Cause → Pdu → Option Clash
 clash_got r j b causes.Stranger p = Some (clashes.Stranger p.origin)
 clash_got r j b causes.NeverSent p = Some (unsent_by r j b p)
 clash_got r j b cause p = None
 
--- ---- what is told
+-- ---- told states
 
--- the state that the entity has, and what made it
+-- the real state of the entity, and the change that made it
 abbrev pub clash_told : PlainRecording → ℕ → ℕ → ℕ → Cause → Option Clash
 clash_told r j s n causes.WrongState = Some (clashes.WrongState s n (state_before r s n j) (made_since r s n j))
 clash_told r j s n cause = None
 
--- ---- what an entry contradicts
+-- ---- entries
 
 abbrev pub clash_by : PlainRecording → ℕ → Entry → Cause → Option Clash
 clash_by r j (Sent s stamp b) cause = option_and_then (clash_sent r j s cause) (meaning r.setting.exercise b)
@@ -181,6 +181,6 @@ clash_by r j (Told s n y) cause = clash_told r j s n cause
 abbrev pub clash_of_entry : PlainRecording → ℕ → Entry → Option Clash
 clash_of_entry r j e = option_and_then (clash_by r j e) (own_cause r j)
 
--- WHAT ENTRY j CONTRADICTS: the other side of the first cause that the log of its station has against it, where a datagram that was received is judged as if nothing had been sent
+-- THE CONTRADICTION OF ENTRY j: the other side of the first cause that its station's log shows against it, where a receipt is judged as if nothing had been sent
 unfoldable pub clash_of : PlainRecording → ℕ → Option Clash
 clash_of r j = option_and_then (clash_of_entry r j) (slice_get r.entries j)

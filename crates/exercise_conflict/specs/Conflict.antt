@@ -1,4 +1,4 @@
--- What the clash of an entry says of the logs, a record for each cause (profile).
+-- The meaning of an entry's contradiction in terms of the logs, a record for each cause (profile).
 use Rattle.std.specs.Prelude.{◌≡◌, ◌≢◌, ℕ, List, Option, Some, None, slice_get}
 use Rattle.dis_records.specs.declared.entity.EntityId.{EntityId}
 use Rattle.dis_records.specs.declared.entity_state.EntityState.{EntityState}
@@ -17,12 +17,12 @@ use Rattle.exercise_conflict.specs.Earlier.{Contradicts, ContradictsAnswer}
 use Rattle.exercise_conflict.specs.Needed.{HasSend}
 use Rattle.exercise_conflict.specs.Since.{HasOneState, Made}
 
--- what made the state that entity n of station s has before entry j: this entry, or nothing since the start
+-- this entry made the state that entity n of station s has before entry j, or no entry did since the start
 abbrev pub IsMadeBy : PlainRecording → ℕ → ℕ → ℕ → Option ℕ → Type 0
 IsMadeBy r s n j (Some k) = Made r s n j k
 IsMadeBy r s n j None = HasOneState r s n 0 j
 
--- A REUSED IDENTIFIER: another order was sent under it earlier, and after that alone the entry has its cause
+-- A REUSED IDENTIFIER: a different request was sent under it earlier, and after that alone the entry has its cause
 pub record ClashesByOrder (r : PlainRecording) (j : ℕ) : Type 0 where
   pub earlier : ℕ
   pub field : Field
@@ -42,7 +42,7 @@ pub record ClashesByOpposite (r : PlainRecording) (j : ℕ) : Type 0 where
   pub told : clash_of r j ≡ Some (clashes.ChangedAnswer earlier)
   pub conflict : ContradictsAnswer r j earlier ChangedAnswer
 
--- AN IMPOSSIBLE CHANGE: where one entity is meant, it has the state that is told, and that was made by the change that is told
+-- AN IMPOSSIBLE CHANGE: if one entity is meant, it has the reported state, and the reported change made that
 pub record ClashesByChange (r : PlainRecording) (j : ℕ) : Type 0 where
   pub earlier : ℕ
   pub station : ℕ
@@ -52,7 +52,7 @@ pub record ClashesByChange (r : PlainRecording) (j : ℕ) : Type 0 where
   pub told : clash_of r j ≡ Some (clashes.Impossible earlier station entity state change)
   pub has : (y : EntityState) → state ≡ Some y → (state_before r station entity j ≡ y) × IsMadeBy r station entity j change
 
--- A WRONG STATE: the entity has another one than the entry tells, and that was made by the change that is told
+-- A WRONG STATE: the entity's state differs from the told one, and the reported change made it
 pub record ClashesByState (r : PlainRecording) (j : ℕ) : Type 0 where
   pub station : ℕ
   pub entity : ℕ
@@ -65,7 +65,7 @@ pub record ClashesByState (r : PlainRecording) (j : ℕ) : Type 0 where
   pub other : said ≢ state
   pub made : IsMadeBy r station entity j change
 
--- WHAT WAS NEVER SENT: where no source is told, the log of the sender has no send of the datagram
+-- A DATAGRAM NEVER SENT: if no source is reported, the log of the sender has no send of it
 pub record ClashesBySend (r : PlainRecording) (j : ℕ) : Type 0 where
   pub station : ℕ
   pub stamp : ℕ

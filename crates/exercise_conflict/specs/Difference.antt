@@ -1,4 +1,4 @@
--- The first thing in which one PDU differs from another, in the order in which a PDU is told (profile, over IEEE 1278.1-2012, 7.5).
+-- The first field in which one PDU differs from another, in the order of a printed row of a PDU (profile, over IEEE 1278.1-2012, 7.5).
 use Rattle.std.specs.Prelude.{ℕ, List, ◌==◌, Bool, true, false, Option, Some, None, if◌then◌else◌}
 use Rattle.std.specs.Cmp.Lexicographic.{pointwise}
 use Rattle.dis_records.specs.declared.datum.FixedDatum.{FixedDatum}
@@ -14,18 +14,18 @@ use Rattle.siman_pdus.specs.Spelling.{body_kind}
 use Rattle.exercise_conflict.specs.declared.field.Field.{Field}
 use Rattle.exercise_conflict.specs.declared.field.Field.TheVariants as fields
 
--- a field, where it is not the same; else the first of what comes behind it
+-- the field if it differs, else the rest
 abbrev pub unless_same : Bool → Field → Option Field → Option Field
 unless_same same field rest = if same then rest else Some field
 
--- two request identifiers are the same, or neither is there
+-- two request identifiers are equal, or both are absent
 abbrev pub same_request : Option ℕ → Option ℕ → Bool
 same_request None None = true
 same_request (Some id) None = false
 same_request None (Some other) = false
 same_request (Some id) (Some other) = id == other
 
--- the first difference of times and of what goes with them
+-- the first difference in times and in the fields that accompany them
 abbrev pub time_difference : Body → Body → Option Field
 time_difference (StartResume real sim request) (StartResume real' sim' request') =
     unless_same (same_time real real') fields.Real (unless_same (same_time sim sim') fields.Sim None)
@@ -33,7 +33,7 @@ time_difference (StopFreeze real reason behaviour request) (StopFreeze real' rea
     unless_same (same_time real real') fields.Real (unless_same (reason == reason') fields.Reason (unless_same (behaviour == behaviour') fields.Behaviour None))
 time_difference body other = None
 
--- the first difference of numbers that one kind alone has
+-- the first difference in numbers that only one kind has
 abbrev pub number_difference : Body → Body → Option Field
 number_difference (Acknowledge flag response request) (Acknowledge flag' response' request') =
     unless_same (flag == flag') fields.Flag (unless_same (response == response') fields.Response None)
@@ -43,7 +43,7 @@ number_difference (DataQuery request interval ids) (DataQuery request' interval'
 number_difference (EventReport event datums) (EventReport event' datums') = unless_same (event == event') fields.Event None
 number_difference body other = None
 
--- the fixed datum records of a body, if its kind has some
+-- the fixed datum records of a body, if its kind has them
 abbrev pub fixed_datums_of : Body → Option (List FixedDatum)
 fixed_datums_of (ActionRequest request action datums) = Some datums.fixed
 fixed_datums_of (ActionResponse request status datums) = Some datums.fixed
@@ -53,7 +53,7 @@ fixed_datums_of (EventReport event datums) = Some datums.fixed
 fixed_datums_of (Comment datums) = Some datums.fixed
 fixed_datums_of body = None
 
--- the identifiers of fixed datums for which a body asks, if its kind does
+-- the fixed datum identifiers that a body queries, if its kind does
 abbrev pub fixed_ids_of : Body → Option (List ℕ)
 fixed_ids_of (DataQuery request interval ids) = Some ids.fixed
 fixed_ids_of body = None
@@ -66,12 +66,12 @@ abbrev pub same_ids_if : Option (List ℕ) → Option (List ℕ) → Bool
 same_ids_if (Some d) (Some e) = pointwise ◌==◌ d e
 same_ids_if d e = true
 
--- what was found, else what is found behind it
+-- the first difference, else the rest
 abbrev pub or_else : Option Field → Option Field → Option Field
 or_else (Some field) rest = Some field
 or_else None rest = rest
 
--- the first difference of the bodies of one kind, where some field of them differs: of two orders that differ in nothing before, the variable datum records differ
+-- the first difference of two bodies of one kind; if no other field differs and the bodies are not equal, it is the variable datum records
 abbrev pub body_difference : Body → Body → Bool → Option Field
 body_difference p q same =
     unless_same (same_request (request_id_of p) (request_id_of q)) fields.Request
@@ -84,7 +84,7 @@ body_difference p q same =
 unfoldable pub inner_difference : Pdu → Pdu → Option Field
 inner_difference p q = body_difference p.body q.body (is_same_order p q)
 
--- THE FIRST DIFFERENCE of two orders: none where they are the same order, which leaves their timestamps and their status aside
+-- THE FIRST DIFFERENCE of two orders: none if they are equal; timestamps and status are ignored
 unfoldable pub order_difference : Pdu → Pdu → Option Field
 order_difference p q =
     unless_same (same_version p.version q.version) fields.Version
@@ -93,7 +93,7 @@ order_difference p q =
     (unless_same (same_entity p.target q.target) fields.To
     (inner_difference p q))))
 
--- THE FIRST DIFFERENCE of two PDUs, their timestamps and their status counted
+-- THE FIRST DIFFERENCE of two PDUs, including timestamps and status
 unfoldable pub pdu_difference : Pdu → Pdu → Option Field
 pdu_difference p q =
     unless_same (same_version p.version q.version) fields.Version

@@ -1,4 +1,4 @@
--- The earlier entry of the same station that an entry contradicts (profile).
+-- The earlier entry of its own station that an entry contradicts (profile).
 use Rattle.std.specs.Prelude.{◌≡◌, ◌<◌, ℕ, List, [], ◌∷◌, Bool, false, ◌&&◌, ◌||◌, Option, Some, None, option_and_then, slice_get}
 use Rattle.std.specs.Option.{option_map_or}
 use Rattle.siman_pdus.specs.declared.pdu.Pdu.{Pdu}
@@ -16,34 +16,34 @@ use Rattle.exercise_model.specs.Account.{pair_of_sent}
 use Rattle.exercise_findings.specs.Sent.{meant_by_send}
 use Rattle.exercise_findings.specs.Tables.{own_cause}
 
--- the PDU that station s sends at entry i, if it sends something that is not "other"
+-- the PDU that station s sends at entry i, if it sends one that is not "other"
 unfoldable pub sent_pdu : PlainRecording → ℕ → ℕ → Option Pdu
 sent_pdu r s i = option_and_then (meant_by_send r.setting.exercise) (own_event r s i)
 
--- entry i of station s sends another order under the request identifier of p
+-- entry i of station s sends a different request under the request identifier of p
 unfoldable pub sends_other_at : PlainRecording → ℕ → Pdu → ℕ → Bool
 sends_other_at r s p i = option_map_or (is_other_order p) (sent_pdu r s i) false
 
--- q is, under the key k, an Unable where p is an Able, or an Able where p is an Unable
+-- one of p and q is an Able and the other an Unable, under the key k
 abbrev pub is_opposite : Pdu → Pdu → AcknowledgeKey → Bool
 is_opposite p q k = (responds able p && responds_under unable k q) || (responds unable p && responds_under able k q)
 
--- q is the answer opposite to p, under its key
+-- q is the opposite answer to p, under p's key
 abbrev pub is_opposite_to : Pdu → Pdu → Bool
 is_opposite_to p q = option_map_or (is_opposite p q) (key_of p) false
 
--- entry i of station s sends the answer opposite to p, under its key
+-- entry i of station s sends the opposite answer to p, under p's key
 unfoldable pub sends_opposite_at : PlainRecording → ℕ → Pdu → ℕ → Bool
 sends_opposite_at r s p i = option_map_or (is_opposite_to p) (sent_pdu r s i) false
 
--- p is what station s sends at entry j
+-- station s sends p at entry j
 pub record IsSentAt (r : PlainRecording) (j s : ℕ) (p : Pdu) : Type 0 where
   pub stamp : ℕ
   pub bytes : List ℕ
   pub sent : slice_get r.entries j ≡ Some (Sent s stamp bytes)
   pub meant : meaning r.setting.exercise bytes ≡ Some p
 
--- what an entry contradicts for a cause, by which station s sends p at entry j
+-- the earlier entry that p, sent by station s at entry j, contradicts, for this cause
 abbrev pub earlier_sent : PlainRecording → ℕ → ℕ → Cause → Pdu → Option ℕ
 earlier_sent r j s ReusedIdentifier p = first_below (sends_other_at r s p) j
 earlier_sent r j s WrongAnswer p = pair_of_sent r s j p
@@ -58,12 +58,12 @@ earlier_by r j (Told s e y) cause = None
 abbrev pub earlier_of_entry : PlainRecording → ℕ → Entry → Option ℕ
 earlier_of_entry r j e = option_and_then (earlier_by r j e) (own_cause r j)
 
--- WHAT ENTRY j CONTRADICTS: for a reused identifier the first other order under it, for a wrong answer the request that it takes up, for a changed answer
--- the first opposite one under its key, each of them an earlier entry of its station
+-- THE EARLIER ENTRY THAT ENTRY j CONTRADICTS: for a reused identifier the first different request under it, for a wrong answer the request that it takes up, for a changed
+-- answer the first opposite one under its key, each of them an earlier entry of its station
 unfoldable pub earlier_of : PlainRecording → ℕ → Option ℕ
 earlier_of r j = option_and_then (earlier_of_entry r j) (slice_get r.entries j)
 
--- after the event of entry k alone, an earlier one of its station, this cause stands against what entry j sends
+-- after the event of entry k alone, an earlier one of its station, the PDU that entry j sends has this cause
 pub record Contradicts (r : PlainRecording) (j k : ℕ) (cause : Cause) : Type 0 where
   pub station : ℕ
   pub pdu : Pdu
@@ -73,7 +73,7 @@ pub record Contradicts (r : PlainRecording) (j k : ℕ) (cause : Cause) : Type 0
   pub own : own_event r station k ≡ Some event
   pub stands : send_cause r.setting.exercise (station_at r station) (event ∷ []) pdu ≡ Some cause
 
--- the same, where before that event the request was received which the answer takes up
+-- after the event of entry k, and before that the receipt of the request that the answer takes up, the PDU that entry j sends has this cause
 pub record ContradictsAnswer (r : PlainRecording) (j k : ℕ) (cause : Cause) : Type 0 where
   pub station : ℕ
   pub pdu : Pdu

@@ -1,9 +1,9 @@
--- The names of what one datagram can differ in from another (profile).
+-- The names of the fields in which datagrams can differ (profile).
 use Rattle.std.specs.Prelude.{ℕ, List, codes}
 use Rattle.exercise_conflict.specs.declared.field.Field.{Field}
 use Rattle.exercise_conflict.specs.declared.field.Field.TheVariants as fields
 
--- the name of a field, as it has it in a line that tells a PDU
+-- the name of a field: the key that it has in the row of a PDU
 abbrev pub field_text : Field → List ℕ
 field_text fields.Version = codes "version"
 field_text fields.Time = codes "time"

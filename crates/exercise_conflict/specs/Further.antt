@@ -1,4 +1,4 @@
--- Recordings that have, beyond another one, sends of the datagrams alone that its logs lack (profile).
+-- Recordings that add to another only sends of the datagrams that its logs lack (profile).
 use Rattle.std.specs.Prelude.{◌≡◌, ℕ, List, Bool, false, ◌&&◌, ◌==◌, bytes_eq, slice_index_or}
 use Rattle.std.specs.List.{list_any}
 use Rattle.exercise_model.specs.Recording.{PlainRecording}
@@ -18,7 +18,7 @@ same_send t b (Tell s e y) = false
 unfoldable pub bytes_at : PlainRecording → ℕ → List ℕ
 bytes_at r i = bytes_of (slice_index_or r.entries i no_entry)
 
--- an event is the send that a log lacks
+-- an event is a given missing send
 abbrev pub sends_lack : PlainRecording → Event → Lack → Bool
 sends_lack r v lack = same_send lack.missing.sender (bytes_at r lack.entry) v
 
@@ -26,7 +26,7 @@ sends_lack r v lack = same_send lack.missing.sender (bytes_at r lack.entry) v
 abbrev pub sends_missing : PlainRecording → Event → Bool
 sends_missing r v = list_any (sends_lack r v) (lacks_of r)
 
--- A RECORDING WITH MISSING SENDS: all that it has beyond r is that stations sent datagrams that their logs lack in r, each at whatever places and however often
+-- A RECORDING WITH MISSING SENDS: it adds to r only sends of datagrams by stations whose logs lack them in r, at any places and any number of times
 pub record HasMissingSends (r wide : PlainRecording) : Type 0 where
   pub setting : wide.setting ≡ r.setting
   pub logs : (s : ℕ) → AddsTo (sends_missing r) (log_of r s) (log_of wide s)

@@ -1,4 +1,4 @@
--- All sends that the logs lack, and the tables in which they are looked up (profile).
+-- All sends that the logs lack, and the indexes for their look-up (profile).
 use Rattle.std.specs.Prelude.{◌≡◌, ℕ, zero, suc, List, [], ◌++◌, length, Bool, false, ◌&&◌, ◌==◌, bytes_eq, Option, None, option_map, option_and_then, slice_get, if◌then◌else◌}
 use Rattle.std.specs.Option.{option_map_or, option_to_list}
 use Rattle.std.specs.declared.hash.BuildHasherDefault.{BuildHasherDefault}
@@ -20,29 +20,29 @@ use Rattle.exercise_conflict.specs.declared.asks.Ask.{Ask}
 use Rattle.exercise_conflict.specs.declared.lacks.Lack.{Lack}
 use Rattle.exercise_conflict.specs.declared.receipts.Datagram.{Datagram}
 
--- the send that is missing by entry i
+-- the missing send that entry i reveals
 abbrev pub lack_by : ℕ → Missing → Lack
 lack_by i m = record { entry = i; missing = m }
 
 abbrev pub lack_at : PlainRecording → ℕ → Option Lack
 lack_at r i = option_map (lack_by i) (missing_at r i)
 
--- the sends that are missing by the entries below n
+-- the missing sends that the entries below n reveal
 unfoldable pub lacks_below : PlainRecording → ℕ → List Lack
 lacks_below r zero = []
 lacks_below r (suc n) = lacks_below r n ++ option_to_list (lack_at r n)
 
--- ALL SENDS THAT THE LOGS LACK, each told by its first receipt, by rising entries
+-- ALL SENDS THAT THE LOGS LACK, each revealed by its first receipt, by rising entries
 abbrev pub lacks_of : PlainRecording → List Lack
 lacks_of r = lacks_below r (length r.entries)
 
--- ---- where each datagram was received first
+-- ---- index of the first receipt of each datagram
 
--- two datagrams have the same bytes
+-- two datagrams have equal bytes
 abbrev pub same_datagram : Datagram → Datagram → Bool
 same_datagram d e = bytes_eq d.bytes.now e.bytes.now
 
--- what notes where they were received first
+-- the index of receipts
 abbrev pub Receipts : Type 0
 Receipts = IndexMap Datagram ℕ (BuildHasherDefault DefaultHasher)
 
@@ -50,17 +50,17 @@ Receipts = IndexMap Datagram ℕ (BuildHasherDefault DefaultHasher)
 abbrev pub IsUnsent : PlainRecording → Datagram → Type 0
 IsUnsent r d = source_of_bytes r d.bytes.now ≡ None
 
--- THE TIE: under the bytes of each datagram without a source the table has the first entry below n that receives it
+-- THE TIE: for the bytes of each datagram without a source, the index holds the first entry below n that receives it
 abbrev pub AreReceipts : PlainRecording → ℕ → Receipts → Type 0
 AreReceipts r n receipts = (d : Datagram) → IsUnsent r d → get same_datagram receipts d ≡ first_below (gets_bytes r d.bytes.now) n
 
--- ---- where each request was received first
+-- ---- index of the first receipt of each request
 
--- two requests are looked up together: at one station, under one identifier, from one site and application
+-- two look-up keys are equal: station, identifier, and the sender's site and application
 abbrev pub same_ask : Ask → Ask → Bool
 same_ask k l = (k.station == l.station) && ((k.request == l.request) && ((k.site == l.site) && (k.application == l.application)))
 
--- what q is looked up by, which station s at a receives, where it is a request to the station
+-- look-up key of q, received by station s at a, if it is a request to the station
 abbrev pub ask_under : ℕ → Pdu → ℕ → Ask
 ask_under s q id = record { station = s; request = id; site = q.origin.site; application = q.origin.application }
 
@@ -72,22 +72,22 @@ ask_by r (Sent s stamp b) = None
 ask_by r (Received s stamp b) = option_and_then (ask_of s (station_at r s).address) (meaning r.setting.exercise b)
 ask_by r (Told s e y) = None
 
--- what entry i is looked up by
+-- look-up key of entry i
 unfoldable pub ask_at : PlainRecording → ℕ → Option Ask
 ask_at r i = option_and_then (ask_by r) (slice_get r.entries i)
 
--- entry i is looked up by k
+-- entry i has look-up key k
 abbrev pub has_ask : PlainRecording → Ask → ℕ → Bool
 has_ask r k i = option_map_or (same_ask k) (ask_at r i) false
 
--- what notes where they were received first
+-- the index of received requests
 abbrev pub Asks : Type 0
 Asks = IndexMap Ask ℕ (BuildHasherDefault DefaultHasher)
 
--- THE TIE: under each key the table has the first entry below n that has it
+-- THE TIE: the index holds, under each key, the first entry below n with that key
 abbrev pub AreAsks : PlainRecording → ℕ → Asks → Type 0
 AreAsks r n asks = (k : Ask) → get same_ask asks k ≡ first_below (has_ask r k) n
 
--- what the requests are looked up by that the answer p of station s could take up
+-- look-up key of the requests that the answer p of station s could take up
 abbrev pub asked_under : ℕ → Pdu → ℕ → Ask
 asked_under s p id = record { station = s; request = id; site = p.target.site; application = p.target.application }

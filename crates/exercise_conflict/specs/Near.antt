@@ -1,4 +1,4 @@
--- What each station sent first of each kind to each receiver under each identifier, kept in a table (profile).
+-- Index of the first send of each kind of PDU, by station, receiver and request identifier (profile).
 use Rattle.std.specs.Prelude.{◌≡◌, ℕ, Bool, false, ◌&&◌, ◌==◌, Option, None, option_map, option_and_then, slice_get}
 use Rattle.std.specs.Option.{option_map_or}
 use Rattle.std.specs.declared.hash.BuildHasherDefault.{BuildHasherDefault}
@@ -14,12 +14,12 @@ use Rattle.exercise_model.specs.Meaning.{meaning}
 use Rattle.exercise_model.specs.Place.{first_below}
 use Rattle.exercise_conflict.specs.declared.nears.Near.{Near}
 
--- two sends are looked up together: of one station, of one kind, to one receiver, under one identifier
+-- two look-up keys are equal: station, kind, receiver and identifier
 abbrev pub same_near : Near → Near → Bool
 same_near k l =
     (k.station == l.station) && ((k.kind == l.kind) && ((k.site == l.site) && ((k.application == l.application) && ((k.entity == l.entity) && (k.request == l.request)))))
 
--- what q is looked up by, which station t sends under an identifier
+-- look-up key of q, sent by station t under an identifier
 abbrev pub near_under : ℕ → Pdu → ℕ → Near
 near_under t q id = record { station = t; kind = kind_code (body_kind q.body); site = q.target.site; application = q.target.application; entity = q.target.entity; request = id }
 
@@ -31,18 +31,18 @@ near_by r (Sent s stamp b) = option_and_then (near_key s) (meaning r.setting.exe
 near_by r (Received s stamp b) = None
 near_by r (Told s e y) = None
 
--- what entry i is looked up by
+-- look-up key of entry i
 unfoldable pub near_at : PlainRecording → ℕ → Option Near
 near_at r i = option_and_then (near_by r) (slice_get r.entries i)
 
--- entry i is looked up by k
+-- entry i has look-up key k
 abbrev pub has_near : PlainRecording → Near → ℕ → Bool
 has_near r k i = option_map_or (same_near k) (near_at r i) false
 
--- what notes where they were sent first
+-- the index of first sends
 abbrev pub Nears : Type 0
 Nears = IndexMap Near ℕ (BuildHasherDefault DefaultHasher)
 
--- THE TIE: under each key the table has the first entry below n that has it
+-- THE TIE: the index holds, under each key, the first entry below n with that key
 abbrev pub AreNears : PlainRecording → ℕ → Nears → Type 0
 AreNears r n nears = (k : Near) → get same_near nears k ≡ first_below (has_near r k) n

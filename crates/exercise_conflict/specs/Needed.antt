@@ -1,4 +1,4 @@
--- Sends that a log lacks, and that each run needs (profile).
+-- Missing sends that each run needs (profile).
 use Rattle.std.specs.Prelude.{◌≡◌, ℕ, List, Some, slice_get}
 use Rattle.exercise_model.specs.Entry.{Received}
 use Rattle.exercise_model.specs.Recording.{PlainRecording}
@@ -10,7 +10,7 @@ use Rattle.exercise_findings.specs.declared.missing.Missing.{Missing}
 abbrev pub HasSend : PlainRecording → ℕ → List ℕ → Type 0
 HasSend r t b = (before : History) × Contains (log_of r t) before (Send t b)
 
--- WHAT IS NEEDED: entry i receives a datagram whose send the log of its sender lacks in r, and has in the wider recording
+-- A NEEDED SEND: entry i receives a datagram whose send the log of its sender lacks in r, and has in the wider recording
 pub record IsNeeded (r wide : PlainRecording) (i : ℕ) (m : Missing) : Type 0 where
   pub station : ℕ
   pub stamp : ℕ

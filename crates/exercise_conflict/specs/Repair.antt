@@ -23,13 +23,13 @@ use Rattle.exercise_conflict.specs.Lacks.{lacks_of}
 
 -- ---- the repaired recording
 
--- the datagram of an entry; a state that is told has none
+-- the datagram of an entry; empty for a told state
 abbrev pub bytes_of : Entry → List ℕ
 bytes_of (Sent s stamp b) = b
 bytes_of (Received s stamp b) = b
 bytes_of (Told s e y) = []
 
--- an entry as it is, or the send of its datagram by a station, at no clock's stamp
+-- an entry unchanged, or the send of its datagram by a station, with clock stamp 0
 abbrev pub shown_as : Entry → Option ℕ → Entry
 shown_as e None = e
 shown_as e (Some t) = Sent t 0 (bytes_of e)
@@ -37,15 +37,15 @@ shown_as e (Some t) = Sent t 0 (bytes_of e)
 abbrev pub no_entry : Entry
 no_entry = Told 0 0 Absent
 
--- what a slot shows of the entries of a recording
+-- the entry of a slot, given the entries of a recording
 abbrev pub slotted : PlainRecording → Slot → Entry
 slotted r slot = shown_as (slice_index_or r.entries slot.entry no_entry) slot.sender
 
--- an entry as it is
+-- the slot of an original entry
 abbrev pub kept : ℕ → Slot
 kept i = record { entry = i; sender = None }
 
--- a send that a log lacks
+-- the slot of a missing send
 abbrev pub made : Lack → Slot
 made lack = record { entry = lack.entry; sender = Some lack.missing.sender }
 
@@ -56,32 +56,32 @@ is_first lack = is_none lack.missing.after
 abbrev pub is_after : ℕ → Lack → Bool
 is_after p lack = option_map_or (λ k. k == p) lack.missing.after false
 
--- the slots of the entries below n, each followed by the sends that belong right after it, and those that belong at the start before them
+-- the slots of the entries below n, each followed by the sends that belong right after it, and all preceded by those that belong at the start
 unfoldable pub slots_below : List Lack → ℕ → List Slot
 slots_below lacks zero = map made (filter is_first lacks)
 slots_below lacks (suc n) = slots_below lacks n ++ kept n ∷ map made (filter (is_after n) lacks)
 
--- THE REPAIRED RECORDING: with the sends that its logs lack, each at its place; of several at one place those of lower entries come first
+-- THE REPAIRED RECORDING: with the sends that its logs lack, each at its place; several at one place are in the order of the entries that reveal them
 unfoldable pub repaired : PlainRecording → PlainRecording
 repaired r = record { setting = r.setting; entries = map (slotted r) (slots_below (lacks_of r) (length r.entries)) }
 
--- it would have too many entries
+-- the repaired recording would have too many entries
 unfoldable pub is_too_long : PlainRecording → Bool
 is_too_long r = nat_lt MOST_ENTRIES (length (slots_below (lacks_of r) (length r.entries)))
 
--- ---- how it is kept
+-- ---- representation
 
 -- P holds of each element of a list
 abbrev pub Every : {X : Type 0} → (X → Type 0) → List X → Type 0
 Every P [] = Unit {0}
 Every P (x ∷ xs) = P x × Every P xs
 
--- a slot shows an entry that is there, as that of a station that is there
+-- a slot has an existing entry and, for a send, an existing station
 pub record IsSlot (r : PlainRecording) (slot : Slot) : Type 0 where
   pub entry : slot.entry < length r.entries
   pub sender : IfSome slot.sender (λ t. t < length r.setting.stations)
 
--- the recording that slots show of another one
+-- the recording of some slots, given the original
 abbrev pub shown_by : PlainRecording → List Slot → PlainRecording
 shown_by r slots = record { setting = r.setting; entries = map (slotted r) slots }
 
@@ -89,7 +89,7 @@ pub record AreSlots (r : PlainRecording) (slots : List Slot) : Type 0 where
   pub each : Every (IsSlot r) slots
   pub limits : IsRecording (shown_by r slots)
 
--- what keeps the sends that belong after each entry
+-- the table of the sends that belong after each entry
 abbrev pub Places : Type 0
 Places = IndexMap ℕ (Vec Slot) (BuildHasherDefault FoldHasher)
 
@@ -115,14 +115,14 @@ lacks_able r = list_any (λ (lack : Lack). is_able_at r lack.entry) (lacks_of r)
 abbrev pub IsUnexplained : PlainRecording → Type 0
 IsUnexplained r = (h : History) → Explains r h → ⊥
 
--- WHETHER THE SENDS ARE ENOUGH: yes where some run explains the repaired recording; else unknown where one of them is an Able, or where the repaired
+-- WHETHER THE SENDS ARE ENOUGH: yes if some run explains the repaired recording; else unknown if one of them is an Able, or if the repaired
 -- recording would have too many entries; else no
 abbrev pub IsEnough : PlainRecording → Enough → Type 0
 IsEnough r words.Yes = (is_too_long r ≡ false) × ((h : History) × Explains (repaired r) h)
 IsEnough r words.No = (is_too_long r ≡ false) × (lacks_able r ≡ false) × IsUnexplained (repaired r)
 IsEnough r words.Unknown = (is_too_long r ≡ true) ⊎ ((is_too_long r ≡ false) × (lacks_able r ≡ true) × IsUnexplained (repaired r))
 
--- A REPAIR: how many sends the logs lack, and whether these are enough
+-- A REPAIR: the number of missing sends, and whether they are enough
 pub record IsRepairOf (r : PlainRecording) (repair : Repair) : Type 0 where
   pub sends : repair.sends ≡ length (lacks_of r)
   pub enough : IsEnough r repair.enough

@@ -6,16 +6,16 @@ use Rattle.exercise_model.specs.Cause.{same_state}
 use Rattle.exercise_model.specs.Account.{change_at}
 use Rattle.exercise_findings.specs.State.{state_before}
 
--- THE CHANGE THAT MADE A STATE: the last entry before entry n that left entity e of station s in another state than it had; none where it has that of the start
+-- THE CHANGE THAT MADE A STATE: the last entry before entry n that altered the state of entity e of station s; none if the entity still has its initial state
 unfoldable pub made_since : PlainRecording → ℕ → ℕ → ℕ → Option ℕ
 made_since r s e zero = None
 made_since r s e (suc n) = if same_state (state_before r s e n) (state_before r s e (suc n)) then made_since r s e n else Some n
 
--- from the place before entry `from` to that before entry n the entity had one state
+-- the entity had one state from the place before entry `from` to that before entry n
 abbrev pub HasOneState : PlainRecording → ℕ → ℕ → ℕ → ℕ → Type 0
 HasOneState r s e from n = (m : ℕ) → from ≤ m → m ≤ n → state_before r s e m ≡ state_before r s e n
 
--- entry k made the state that the entity has before entry n: it is a change of another state, and none after it changed that
+-- entry k made the state that the entity has before entry n: it is a change that altered the state, and no later one altered it again
 pub record Made (r : PlainRecording) (s e n k : ℕ) : Type 0 where
   pub earlier : k < n
   pub change : Change

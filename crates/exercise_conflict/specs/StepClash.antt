@@ -1,4 +1,4 @@
--- What a step of a certificate contradicts, and where: the other side of the first cause against it (profile).
+-- The contradiction of a certificate's step: the other side of the first cause against it (profile).
 use Rattle.std.specs.Prelude.{ℕ, List, length, take, Bool, true, false, ◌&&◌, ◌==◌, nat_lt, Option, Some, None, is_some, option_map, option_and_then, slice_get, if◌then◌else◌}
 use Rattle.std.specs.Option.{option_map_or}
 use Rattle.std.specs.List.{count_by}
@@ -29,7 +29,7 @@ is_left_out steps i = times_taken steps i == 0
 abbrev pub is_taken_again : List Step → ℕ → Bool
 is_taken_again steps i = nat_lt 1 (times_taken steps i)
 
--- A WRONG COUNT, where there are n entries: the least of them that no step names, and the least that two steps name
+-- A WRONG COUNT, with n entries: the lowest of them that no step names, and the lowest that two steps name
 abbrev pub miscounted : List Step → ℕ → StepClash
 miscounted steps n = told.CountDiffers (length steps) n (first_below (is_left_out steps) n) (first_below (is_taken_again steps) n)
 
@@ -39,15 +39,15 @@ miscounted steps n = told.CountDiffers (length steps) n (first_below (is_left_ou
 abbrev pub takes : List Step → ℕ → ℕ → Bool
 takes steps i j = option_map_or (λ (step : Step). step.place == i) (slice_get steps j) false
 
--- entry i is one of station s, and k of its entries stand before it
+-- entry i belongs to station s, and is preceded by k of its entries
 abbrev pub has_rank : PlainRecording → ℕ → ℕ → ℕ → Bool
 has_rank r s k i = is_some (own_event r s i) && (length (log_before r s i) == k)
 
--- the entry that station s is to do after steps: before it stand as many of its entries as the steps took
+-- the next entry of station s after these steps: as many of its entries precede it as the steps took
 abbrev pub due_after : PlainRecording → List Step → ℕ → Option ℕ
 due_after r before s = first_below (has_rank r s (length (log_at s (order_of r before)))) (length r.entries)
 
--- AN ENTRY OUT OF ORDER, which step k names: the first step before that names it too, and the entry that its station is to do
+-- AN ENTRY OUT OF ORDER, which step k names: the first earlier step that names it too, and the next entry of its station
 abbrev pub disordered_by : PlainRecording → List Step → ℕ → ℕ → Entry → StepClash
 disordered_by r steps k place e = told.OutOfOrder place (first_below (takes steps place) k) (due_after r (take k steps) (station_of (event_of e)))
 
@@ -56,33 +56,33 @@ disordered r steps k place = option_map (disordered_by r steps k place) (slice_g
 
 -- ---- a bad link
 
--- the link that a step writes, if it writes one
+-- the link that a step gives, if it gives one
 abbrev pub link_given : ℕ → Option ℕ
 link_given link = if link == NO_LINK then None else Some link
 
--- the link that a step should have which names this entry after the steps before it
+-- the right link of a step that names this entry after the steps before it
 unfoldable pub right_link : PlainRecording → List Step → ℕ → Option ℕ
 right_link r before place = option_and_then (λ e. link_of r before place (event_of e)) (slice_get r.entries place)
 
--- A BAD LINK of step k: the one that stands there, and the one that should
+-- A BAD LINK of step k: the given one, and the right one
 abbrev pub misled : PlainRecording → List Step → ℕ → Step → StepClash
 misled r steps k step = told.BadLink step.place (link_given step.link) (right_link r (take k steps) step.place)
 
--- ---- an event that may not happen
+-- ---- an event that cannot happen
 
--- the first step that takes the source of a datagram that was not sent so far
+-- the first step that takes the source of a datagram that was not sent yet
 abbrev pub too_late : List Step → Clash → Option ℕ
 too_late steps (clashes.NeverSent from sent near differs) = option_and_then (λ i. first_below (takes steps i) (length steps)) sent
 too_late steps clash = None
 
--- AN EVENT THAT MAY NOT HAPPEN: what its entry contradicts
+-- AN EVENT THAT CANNOT HAPPEN: the contradiction of its entry
 abbrev pub barred_by : List Step → ℕ → Clash → StepClash
 barred_by steps place clash = told.Event place clash (too_late steps clash)
 
 abbrev pub barred : PlainRecording → List Step → ℕ → Option StepClash
 barred r steps place = option_map (barred_by steps place) (clash_of r place)
 
--- ---- what a step contradicts
+-- ---- a step
 
 abbrev pub step_clash : PlainRecording → List Step → ℕ → Cause → Step → Option StepClash
 step_clash r steps k causes.NoSuchRecord step = Some (told.NoSuchRecord step.place (length r.entries))
@@ -90,14 +90,14 @@ step_clash r steps k causes.OutOfOrder step = disordered r steps k step.place
 step_clash r steps k causes.BadLink step = Some (misled r steps k step)
 step_clash r steps k cause step = barred r steps step.place
 
--- WHAT STEP k CONTRADICTS, for this first cause against it
+-- THE CONTRADICTION OF STEP k, for this first cause against it
 unfoldable pub step_clash_of : PlainRecording → List Step → ℕ → Cause → Option StepClash
 step_clash_of r steps k causes.CountDiffers = Some (miscounted steps (length r.entries))
 step_clash_of r steps k cause = option_and_then (step_clash r steps k cause) (slice_get steps k)
 
--- ---- what it says of a first bad step
+-- ---- a first bad step
 
--- a cause speaks of the event of a step, and not of the certificate
+-- a cause concerns the event of a step, and not the certificate
 abbrev pub is_of_event : Cause → Bool
 is_of_event causes.CountDiffers = false
 is_of_event causes.NoSuchRecord = false

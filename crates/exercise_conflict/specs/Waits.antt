@@ -1,4 +1,4 @@
--- Who waits on whom where nothing can go on (profile).
+-- Waits between blocked stations (profile).
 use Rattle.std.specs.Prelude.{◌≡◌, ◌≤◌, ℕ, List, [], ◌∷◌, ◌==◌, Option, Some, None, option_map, option_and_then, slice_get, if◌then◌else◌}
 use Rattle.std.specs.List.{filter_map}
 use Rattle.exercise_model.specs.Entry.{Entry, Received}
@@ -15,7 +15,7 @@ unfoldable pub block_of : List Block → ℕ → Option Block
 block_of [] s = None
 block_of (b ∷ blocks) s = if b.station == s then Some b else block_of blocks s
 
--- the station of block b waits for entry `sent` of station `on`, whose block this is
+-- the station of block b waits for entry `sent` of station `on`, which has the other block
 abbrev pub waits_on : Block → ℕ → ℕ → Block → Wait
 waits_on b sent on other = record { entry = b.entry; station = b.station; sent = sent; on = on; next = other.entry }
 
@@ -25,7 +25,7 @@ wait_by blocks b sent e = option_map (waits_on b sent (station_of (event_of e)))
 abbrev pub wait_for : PlainRecording → List Block → Block → ℕ → Option Wait
 wait_for r blocks b sent = option_and_then (wait_by blocks b sent) (slice_get r.entries sent)
 
--- WHAT A BLOCKED STATION WAITS FOR: the source of what it is to receive, where that was never sent and the station of the source is blocked too
+-- THE WAIT OF A BLOCKED STATION: for the source of the datagram that it is to receive, if its cause is NeverSent and the station of the source is blocked too
 unfoldable pub wait_of : PlainRecording → List Block → Block → Option Wait
 wait_of r blocks b = if is_never_sent b.cause then option_and_then (wait_for r blocks b) (source_of r b.entry) else None
 
@@ -33,8 +33,8 @@ wait_of r blocks b = if is_never_sent b.cause then option_and_then (wait_for r b
 abbrev pub waits_of : PlainRecording → List Block → List Wait
 waits_of r blocks = filter_map (wait_of r blocks) blocks
 
--- WHAT A WAIT SAYS OF THE LOGS: its entry receives a datagram at its station; of station `on`, which that comes from, entry `sent` is the first with the same bytes,
--- and entry `next` is one of the same station, which comes no later
+-- THE MEANING OF A WAIT: its entry receives a datagram at its station; the source of that datagram is entry `sent` of station `on`,
+-- and entry `next` of that station is no later
 pub record IsWait (r : PlainRecording) (w : Wait) : Type 0 where
   pub stamp : ℕ
   pub bytes : List ℕ
@@ -45,7 +45,7 @@ pub record IsWait (r : PlainRecording) (w : Wait) : Type 0 where
   pub next : own_event r w.on w.next ≡ Some event
   pub earlier : w.next ≤ w.sent
 
--- the station of block b waits, and so it leads to the block of another one
+-- the station of block b waits, and so leads to another station's block
 pub record Leads (r : PlainRecording) (blocks : List Block) (b : Block) : Type 0 where
   pub wait : Wait
   pub is : wait_of r blocks b ≡ Some wait

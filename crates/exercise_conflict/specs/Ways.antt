@@ -1,4 +1,4 @@
--- What each blocked station comes to, and what stands beside a blocked list (profile).
+-- The way of each blocked station, and further causes beside a blocked list (profile).
 use Rattle.std.specs.Prelude.{ℕ, zero, suc, List, [], ◌++◌, length, Option, option_map}
 use Rattle.std.specs.Option.{option_or, option_to_list}
 use Rattle.std.specs.List.{filter_map}
@@ -19,11 +19,11 @@ use Rattle.exercise_conflict.specs.Also.{also_at}
 
 -- ---- ways
 
--- the station of block b waits on nobody: its next entry contradicts something
+-- the station of block b waits for nobody: its next entry contradicts something
 abbrev pub clashes_by : Block → Clash → Way
 clashes_by b clash = ways.Clash b.entry clash (is_final b.cause)
 
--- WHAT A BLOCKED STATION COMES TO: its wait, else what its next entry contradicts
+-- THE WAY OF A BLOCKED STATION: its wait, else the contradiction of its next entry
 unfoldable pub way_of : PlainRecording → List Block → Block → Option Way
 way_of r blocks b = option_or (option_map ways.Waits (wait_of r blocks b)) (option_map (clashes_by b) (clash_of r b.entry))
 
@@ -38,24 +38,24 @@ unfoldable pub cycles_below : List Wait → ℕ → List (List ℕ)
 cycles_below waits zero = []
 cycles_below waits (suc n) = cycles_below waits n ++ option_to_list (cycle_at waits n)
 
--- THE CYCLES of a blocked list, by their least station
+-- THE CYCLES of a blocked list, by their lowest station
 abbrev pub cycles_of : PlainRecording → List Block → List (List ℕ)
 cycles_of r blocks = cycles_below (waits_of r blocks) (length r.setting.stations)
 
--- the stations of a cycle, without where they lie in memory
+-- the stations of a cycle, without their place in memory
 abbrev pub stations_in : Vec ℕ → List ℕ
 stations_in cycle = cycle.items
 
--- ---- what else stands
+-- ---- further causes
 
 abbrev pub also_by : ℕ → Cause → Also
 also_by j cause = record { entry = j; cause = cause }
 
--- what else stands against the entries below n
+-- the further causes against the entries below n
 unfoldable pub also_below : PlainRecording → List Block → ℕ → List Also
 also_below r blocks zero = []
 also_below r blocks (suc n) = also_below r blocks n ++ option_to_list (option_map (also_by n) (also_at r blocks n))
 
--- WHAT ELSE STANDS beside a blocked list, by rising entries
+-- THE FURTHER CAUSES beside a blocked list, by rising entries
 abbrev pub all_also : PlainRecording → List Block → List Also
 all_also r blocks = also_below r blocks (length r.entries)

@@ -1,4 +1,4 @@
--- All that is told of a recording, and of a recording with a certificate (profile).
+-- All contradictions of a recording, and the verdict on a certificate (profile).
 use Rattle.std.specs.Prelude.{◌≡◌, ℕ, List, map}
 use Rattle.exercise_model.specs.Recording.{PlainRecording}
 use Rattle.exercise_model.specs.History.{History}
@@ -22,7 +22,7 @@ use Rattle.exercise_conflict.specs.Repair.{IsRepairOf}
 
 -- ---- a recording alone
 
--- WHAT A RECORDING CONTRADICTS that no run explains: what each blocked station comes to, the cycles, what else stands, what the logs lack, and whether that is enough
+-- THE CONFLICT OF A RECORDING that no run explains: the way of each blocked station, the cycles, the further causes, the missing sends, and whether adding these is enough
 pub record IsConflictOf (r : PlainRecording) (c : Conflict) : Type 0 where
   pub blocked : IsBlocked r c.blocks.items
   pub ways : c.ways.items ≡ ways_of r c.blocks.items
@@ -37,7 +37,7 @@ IsExplanationOf r (Contradicted c) = IsConflictOf r c
 
 -- ---- a recording with a certificate
 
--- WHY A CERTIFICATE IS REFUSED: its first bad step, what that contradicts, and whether some run explains the recording after all
+-- WHY A CERTIFICATE IS REFUSED: its first bad step, its contradiction, and whether some run explains the recording after all
 pub record IsRefusalOf (r : PlainRecording) (steps : List Step) (refusal : Refusal) : Type 0 where
   pub refused : Refuses r steps (BadStep refusal.step refusal.cause)
   pub clash : refusal.clash ≡ step_clash_of r steps refusal.step refusal.cause

@@ -1,4 +1,4 @@
-//! What the logs have against their own entries, whatever other stations sent.
+//! Causes within one station's log, independent of other stations.
 
 ghost use Rattle.std.specs.Prelude.{◌≡◌};
 ghost use Rattle.exercise_conflict.specs.Also.{standing_cause, is_next_of, also_at};
@@ -7,9 +7,9 @@ use exercise_audit::Block;
 use exercise_findings::Findings;
 use exercise_model::{Cause, ExerciseLog};
 
-/// The first cause that the log of its station has against an entry, where it is not that a datagram
-/// was never sent. No certificate and no further send mends it. `None` for all else and past the last
-/// entry. It takes no memory.
+/// The first cause that its station's log shows against an entry, unless it is `NeverSent`. No
+/// certificate and no further send resolves it. `None` otherwise and past the last entry. It takes
+/// no memory.
 #[tactic(auto, unfolding(crate::specs::Also::standing_cause))]
 pub fn standing_cause<L: ExerciseLog>(findings: &Findings<'_, L>, entry: usize) -> Option<Cause>
     ensures { result ≡ standing_cause findings.now entry }
@@ -27,8 +27,9 @@ fn is_next_of(blocks: &[Block], entry: usize) -> bool
     blocks.iter().any(|block| block.entry == entry)
 }
 
-/// What else stands against an entry beside a blocked list: its standing cause, where it is the next
-/// entry of no blocked station. `None` for all else and past the last entry. It takes no memory.
+/// The further cause against an entry beside a blocked list: its standing cause, unless the entry
+/// is the next one of a blocked station. `None` otherwise and past the last entry. It takes no
+/// memory.
 #[tactic(auto, unfolding(crate::specs::Also::also_at))]
 pub fn also_at<L: ExerciseLog>(
     findings: &Findings<'_, L>,

@@ -1,4 +1,4 @@
-//! Where each request was received first, kept in a table.
+//! Index of the first receipt of each request.
 
 ghost use Rattle.std.specs.Prelude.{◌≡◌, ◌+◌, length, None, IfOk, OnOk};
 ghost use Rattle.indexmap.specs.IndexMap.{get};
@@ -15,30 +15,30 @@ use siman_pdus::{PduView, is_request, request_id};
 use std::alloc::{AllocError, Global};
 use std::hash::BuildHasherDefault;
 
-/// What a request is looked up by that a station received.
+/// Look-up key of a request that a station received.
 #[derive(Clone, Copy, PartialEq, Eq, Hash)]
 pub(crate) struct Ask {
     /// The station, from 0.
     pub station: u16,
     /// The request identifier.
     pub request: u32,
-    /// The site that the request comes from.
+    /// The site of the sender.
     pub site: u16,
-    /// The application that it comes from.
+    /// The application of the sender.
     pub application: u16,
 }
 
-/// The entry by which each request was received first.
+/// The entry that first received each request.
 pub(crate) type Asks = Table<Ask, usize>;
 
-/// No requests. It takes no memory.
+/// An empty index. It takes no memory.
 fn no_asks(alloc: Global) -> Asks
     ensures { (k : Ask) → get same_ask result k ≡ None }
 {
     Asks::with_hasher(alloc, BuildHasherDefault::default())
 }
 
-/// What a PDU is looked up by that the station at an address receives, where it is a request to it.
+/// Look-up key of a PDU that the station at an address receives, if it is a request to it.
 fn ask_of(station: u16, address: Address, pdu: &PduView<'_>) -> Option<Ask>
     ensures { result ≡ ask_of station address (pdu_of pdu.now) }
 {
@@ -56,7 +56,7 @@ fn ask_of(station: u16, address: Address, pdu: &PduView<'_>) -> Option<Ask>
     }
 }
 
-/// What an entry is looked up by.
+/// Look-up key of an entry, if it receives a request to its station.
 #[tactic(auto, unfolding(crate::specs::Lacks::ask_at))]
 fn ask_at<L: ExerciseLog>(findings: &Findings<'_, L>, entry: usize) -> Option<Ask>
     ensures { result ≡ ask_at findings.now entry }
@@ -76,7 +76,7 @@ fn ask_at<L: ExerciseLog>(findings: &Findings<'_, L>, entry: usize) -> Option<As
     }
 }
 
-/// Keeps the next entry.
+/// Adds the next entry.
 fn note_ask<L: ExerciseLog>(
     asks: &mut Asks,
     findings: &Findings<'_, L>,
@@ -91,7 +91,7 @@ fn note_ask<L: ExerciseLog>(
     Ok(())
 }
 
-/// Where each request of a log was received first.
+/// The index of all entries of a recording.
 pub(crate) fn asks_of<L: ExerciseLog>(
     alloc: Global,
     findings: &Findings<'_, L>,
@@ -115,8 +115,8 @@ fn first_under(asks: &Asks, ask: Ask) -> Option<usize>
     }
 }
 
-/// Where the send of a PDU belongs in the log of a station: right after the request that it takes up.
-/// `None` where it belongs at the start.
+/// The place of a PDU's send in the log of a station: right after the request that it takes up.
+/// `None` for the start of the log.
 pub(crate) fn place_of<L: ExerciseLog>(
     findings: &Findings<'_, L>,
     asks: &Asks,

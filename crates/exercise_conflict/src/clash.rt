@@ -1,10 +1,10 @@
-//! What an entry contradicts, and where.
+//! Contradictions of an entry, and where they are.
 
 use crate::field::Field;
 use dis_records::{EntityId, EntityState};
 
-/// Why an answer does not answer the request that it takes up. There is no third reason: the rest is
-/// what makes it take up that request.
+/// Why an answer does not answer the request that it takes up. There is no third reason, since an
+/// answer takes up a request only if all else matches.
 #[derive(Clone, Copy, PartialEq, Eq)]
 pub enum Unfit {
     /// Its kind is not one that answers requests of that kind.
@@ -13,22 +13,22 @@ pub enum Unfit {
     Entity,
 }
 
-/// What an entry contradicts: the other side of the first cause that the log of its station has against
-/// it. Entries are named by their numbers, stations by their indices in the recording, both from 0.
+/// The other side of the first cause that its station's log shows against an entry. Entries are
+/// named by their numbers, stations by their indices in the recording, both from 0.
 #[derive(Clone, Copy, PartialEq, Eq)]
 pub enum Clash {
-    /// It sends under an address that is not that of its station.
+    /// It sends under an address other than that of its station.
     WrongSender {
         /// Whose address is used.
         from: EntityId,
         /// The station that uses it.
         station: u16,
     },
-    /// It sends another order under a request identifier that its station has used.
+    /// It sends a different request under a request identifier that its station has used.
     ReusedIdentifier {
-        /// The first other order under that identifier.
+        /// The first different request under that identifier.
         earlier: usize,
-        /// The first thing in which the two differ.
+        /// The first field in which the two differ.
         differs: Field,
     },
     /// It answers a request that its station has not received.
@@ -53,7 +53,7 @@ pub enum Clash {
         /// The first opposite answer.
         earlier: usize,
     },
-    /// It says that a change was made to an entity that can't be changed so.
+    /// It reports a change of an entity that cannot be changed so.
     Impossible {
         /// The request.
         earlier: usize,
@@ -61,28 +61,28 @@ pub enum Clash {
         station: u16,
         /// The number of the entity, 0xFFFF for all.
         entity: u16,
-        /// The state that the entity has; `None` where all are meant, or no entity has that number.
+        /// The entity's state; `None` if all entities are meant, or no entity can have that number.
         state: Option<EntityState>,
-        /// The change that made that state; `None` where it is that of the start.
+        /// The change that made that state; `None` for the initial state.
         change: Option<usize>,
     },
-    /// It receives a datagram that does not come from a recorded station, where no other may be heard.
+    /// It receives a datagram from a station that is not recorded, in a closed recording.
     Stranger {
-        /// Where it comes from.
+        /// The sender.
         from: EntityId,
     },
     /// It receives a datagram that a recorded station must have sent before.
     NeverSent {
-        /// Where it comes from.
+        /// The sender.
         from: EntityId,
-        /// The first entry of that station that sends the same bytes.
+        /// The first entry of that station that sends equal bytes.
         sent: Option<usize>,
-        /// The first entry of that station that sends a PDU of the same kind, to the same receiver,
-        /// under the same request identifier (of an Event Report or a Comment, the same but for
-        /// timestamp and status).
+        /// The first entry of that station that sends a PDU of equal kind, receiver and request
+        /// identifier (for an Event Report or a Comment: a PDU that is equal except for timestamp
+        /// and status).
         near: Option<usize>,
-        /// The first thing in which that one differs from what is received; `None` where it differs in
-        /// nothing.
+        /// The first field in which that PDU differs from the received one; `None` without such a
+        /// PDU, or if the bytes are equal.
         differs: Option<Field>,
     },
     /// It tells a state that the entity does not have.
@@ -93,7 +93,7 @@ pub enum Clash {
         entity: u16,
         /// The state that it has.
         state: EntityState,
-        /// The change that made that state; `None` where it is that of the start.
+        /// The change that made that state; `None` for the initial state.
         change: Option<usize>,
     },
 }

@@ -1,4 +1,4 @@
-//! What an entry contradicts, read from the logs.
+//! Computes the contradiction of an entry from the logs.
 
 ghost use Rattle.std.specs.Prelude.{◌≡◌, ◌≤◌, ◌<◌, length, option_map, Some, None, if◌then◌else◌};
 ghost use Rattle.siman_pdus.specs.Answers.{matches_kind};
@@ -21,10 +21,10 @@ use exercise_findings::Findings;
 use exercise_model::{Cause, Change, EntryView, ExerciseLog, is_entity, meaning_view};
 use siman_pdus::{BodyView, Message, PduView};
 
-/// All entities of a station.
+/// Entity number of all entities of a station.
 const ALL_ENTITIES: u16 = 0xFFFF;
 
-/// Another order under the identifier of a PDU, at an entry.
+/// The contradiction of a reused identifier, given the earlier request.
 fn reused_at<L: ExerciseLog>(
     findings: &Findings<'_, L>,
     station: u16,
@@ -38,7 +38,7 @@ fn reused_at<L: ExerciseLog>(
     Some(Clash::ReusedIdentifier { earlier, differs })
 }
 
-/// Whether an answer is one to requests of a kind.
+/// Whether an answer fits requests of a kind.
 fn fits_kind(answer: &PduView<'_>, kind: Kind) -> bool
     ensures { result ≡ matches_kind (pdu_of answer.now).body kind }
 {
@@ -53,7 +53,7 @@ fn fits_kind(answer: &PduView<'_>, kind: Kind) -> bool
     }
 }
 
-/// Why an answer does not answer a request that it could take up.
+/// Why an answer does not answer a request that it takes up.
 fn unfit_of(answer: &PduView<'_>, request: &PduView<'_>) -> Unfit
     ensures { result ≡ unfit_of (pdu_of answer.now) (pdu_of request.now) }
 {
@@ -64,7 +64,7 @@ fn unfit_of(answer: &PduView<'_>, request: &PduView<'_>) -> Unfit
     }
 }
 
-/// The request that an answer takes up and does not answer.
+/// The contradiction of a wrong answer, given the request that it takes up.
 fn wrong_at<L: ExerciseLog>(
     findings: &Findings<'_, L>,
     station: u16,
@@ -80,14 +80,14 @@ fn wrong_at<L: ExerciseLog>(
     })
 }
 
-/// The state of a number, if an entity can have the number.
+/// The state under an entity number, if an entity can have the number.
 fn state_told(entity: u16, state: EntityState) -> Option<EntityState>
     ensures { result ≡ (if is_entity entity then Some state else None) }
 {
     if is_entity(entity) { Some(state) } else { None }
 }
 
-/// What stands against a change of a scope.
+/// The contradiction of an impossible change of a scope.
 fn hopeless_for<L: ExerciseLog>(
     logs: &Logs<'_, '_, L>,
     station: u16,
@@ -120,7 +120,7 @@ fn hopeless_for<L: ExerciseLog>(
     }
 }
 
-/// The request that an answer takes up, and what stands against the change that it asks for.
+/// The contradiction of an impossible change, given the request that its answer takes up.
 fn impossible_at<L: ExerciseLog>(
     logs: &Logs<'_, '_, L>,
     station: u16,
@@ -137,7 +137,7 @@ fn impossible_at<L: ExerciseLog>(
     Some(hopeless_for(logs, station, entry, earlier, change.scope))
 }
 
-/// The request that what a station sends takes up.
+/// The entry of the request that a sent PDU takes up.
 fn pair_of_sent<L: ExerciseLog>(
     findings: &Findings<'_, L>,
     station: u16,
@@ -150,7 +150,7 @@ fn pair_of_sent<L: ExerciseLog>(
     pair_of(findings, entry)
 }
 
-/// What a station contradicts by a PDU that it sends at an entry, for this cause against it.
+/// The contradiction of a PDU that a station sends at an entry, for this cause against it.
 fn clash_sent<L: ExerciseLog>(
     logs: &Logs<'_, '_, L>,
     station: u16,
@@ -189,7 +189,7 @@ fn clash_sent<L: ExerciseLog>(
     }
 }
 
-/// What a station contradicts by receiving a datagram at an entry, for this cause against it.
+/// The contradiction of a receipt, for this cause against it.
 fn clash_got<L: ExerciseLog>(
     logs: &Logs<'_, '_, L>,
     entry: usize,
@@ -206,7 +206,7 @@ fn clash_got<L: ExerciseLog>(
     }
 }
 
-/// What a station contradicts by telling the state of an entity, for this cause against it.
+/// The contradiction of a told state, for this cause against it.
 fn clash_told<L: ExerciseLog>(
     logs: &Logs<'_, '_, L>,
     station: u16,
@@ -232,7 +232,7 @@ fn clash_told<L: ExerciseLog>(
     }
 }
 
-/// As [`clash_of`], where the logs are walked over as they were written down.
+/// As [`clash_of`], with the tables of `logs`.
 #[tactic(auto, unfolding(crate::specs::Clash::clash_of))]
 pub(crate) fn clash_in<L: ExerciseLog>(logs: &Logs<'_, '_, L>, entry: usize) -> Option<Clash>
     ensures { result ≡ clash_of logs.now entry }
@@ -260,9 +260,9 @@ pub(crate) fn clash_in<L: ExerciseLog>(logs: &Logs<'_, '_, L>, entry: usize) -> 
     }
 }
 
-/// What an entry contradicts: the other side of the first cause that the log of its station has against
-/// it, where a datagram that was received is judged as if nothing had been sent. `None` where there is
-/// no cause, and past the last entry. It takes no memory.
+/// The contradiction of an entry: the other side of the first cause that its station's log shows
+/// against it, where a receipt is judged as if nothing had been sent. `None` without a cause, and
+/// past the last entry. It takes no memory.
 pub fn clash_of<L: ExerciseLog>(findings: &Findings<'_, L>, entry: usize) -> Option<Clash>
     ensures { result ≡ clash_of findings.now entry }
 {

@@ -1,4 +1,4 @@
-//! All that a recording contradicts, as one value.
+//! All contradictions of a recording, as one value.
 
 ghost use Rattle.std.specs.Prelude.{◌≡◌, IfOk};
 ghost use Rattle.exercise_audit.specs.Audit.{IsBlocked};
@@ -13,24 +13,24 @@ use exercise_findings::Findings;
 use exercise_model::ExerciseLog;
 use std::alloc::{AllocError, Global};
 
-/// What a recording contradicts that no run explains. Stations are named by their indices in the
-/// recording, entries by their numbers, both from 0.
+/// Why no run explains a recording. Stations are indices in the recording, entries are numbers,
+/// both from 0.
 pub struct Conflict {
-    /// What stands in the way of each station that can't go on.
+    /// For each station that cannot go on, its next entry and the cause.
     pub blocks: Vec<Block>,
-    /// What each of these stations comes to, in the same order.
+    /// The way of each of these stations, in that order.
     pub ways: Vec<Way>,
-    /// The stations that wait on one another in a ring, by their least station.
+    /// Rings of stations that wait for one another, by their lowest station.
     pub cycles: Vec<Vec<usize>>,
-    /// What stands against further entries by the logs alone, by rising entries.
+    /// Further causes against entries within one log, by rising entries.
     pub also: Vec<Also>,
-    /// The sends that the logs lack, by rising entries.
+    /// The missing sends, by rising entries.
     pub lacks: Vec<Lack>,
-    /// Whether these are enough.
+    /// Whether adding these is enough.
     pub repair: Repair,
 }
 
-// Not derived: who drops it makes one call, and does not take it apart by himself.
+// Not derived, so that a caller that drops it makes one call instead of dropping each field inline.
 impl Drop for Conflict {
     fn drop(self) {
         let Conflict {
@@ -44,16 +44,16 @@ impl Drop for Conflict {
     }
 }
 
-/// What is told of a recording alone.
+/// Result of a search for a sequence.
 #[derive(Drop)]
 pub enum Explanation {
-    /// An order that explains it.
+    /// A sequence that explains the recording.
     Explained(Certificate),
-    /// No order does: what it contradicts.
+    /// No sequence does: the contradictions.
     Contradicted(Conflict),
 }
 
-/// What a recording contradicts whose blocked list this is.
+/// The conflict of a recording with this blocked list.
 fn contradicted<L: ExerciseLog>(
     alloc: Global,
     findings: &Findings<'_, L>,
@@ -77,9 +77,8 @@ fn contradicted<L: ExerciseLog>(
     })
 }
 
-/// Looks for an order that explains a recording, and where there is none tells what contradicts what.
-/// It makes at most two searches: one of the recording, and one of it with the sends that its logs
-/// lack.
+/// Searches for a sequence that explains a recording; if there is none, returns the contradictions.
+/// It makes at most two searches: one of the recording, and one of it with the missing sends.
 pub fn conflict_of<L: ExerciseLog>(
     alloc: Global,
     findings: &Findings<'_, L>,
@@ -95,16 +94,16 @@ pub fn conflict_of<L: ExerciseLog>(
     }
 }
 
-/// What is told of a recording alone, and what was found in its log.
+/// Result of a search for a sequence, with the findings of the recording.
 #[derive(Drop)]
 pub struct Explaining<'a, L: ExerciseLog> {
-    /// What is told.
+    /// The result.
     pub explanation: Explanation,
-    /// What the log of each station says of its own entries.
+    /// The findings from each station's log about its own entries.
     pub findings: Findings<'a, L>,
 }
 
-/// Looks up where all that was received comes from, so that it is at hand.
+/// Looks up the sources of all receipts, so that later look-ups are immediate.
 fn settle_sources<L: ExerciseLog>(findings: &mut Findings<'_, L>)
     ensures { findings.new ≡ findings.old }
 {
@@ -113,8 +112,8 @@ fn settle_sources<L: ExerciseLog>(findings: &mut Findings<'_, L>)
     }
 }
 
-/// As [`conflict_of`], where what was found in the log is given back: each datagram is looked at once
-/// for the search and for all that is told.
+/// As [`conflict_of`], but with existing findings, which are returned: each datagram is decoded
+/// once for the search and the result.
 pub fn conflict_found<'a, L: ExerciseLog>(
     alloc: Global,
     findings: Findings<'a, L>,

@@ -1,4 +1,4 @@
-//! Stations that wait on one another in a ring.
+//! Rings of stations that wait for one another.
 
 ghost use Rattle.std.specs.Prelude.{◌≡◌, option_map, length, IfOk};
 ghost use Rattle.exercise_conflict.specs.Cycles.{wait_at, cycle_at, IsWayBack};
@@ -7,7 +7,7 @@ use crate::waits::Wait;
 use exercise_model::MOST_STATIONS;
 use std::alloc::{AllocError, Global};
 
-/// What a station waits for, if it waits.
+/// The wait of a station, if it has one.
 #[tactic(auto, unfolding(crate::specs::Cycles::wait_at))]
 fn wait_at(waits: &[Wait], station: usize) -> Option<Wait>
     ensures { result ≡ wait_at waits.now station }
@@ -20,8 +20,8 @@ fn wait_at(waits: &[Wait], station: usize) -> Option<Wait>
     None
 }
 
-/// Adds the stations from one on, each of which waits on the next, up to the one that waits on
-/// `station`, and answers whether there is such a way, on which all are above `station`.
+/// Appends the stations from `from` on, each waiting for the next, up to the one that waits for
+/// `station`. Returns whether there is such a path, with all its stations above `station`.
 fn add_way_back(
     way: &mut Vec<usize>,
     waits: &[Wait],
@@ -49,8 +49,8 @@ fn add_way_back(
     Ok(false)
 }
 
-/// The cycle at a station: the stations from it on, each of which waits on the next one and the last on
-/// the first, where the station is the least of them. `None` where there is no such cycle.
+/// The cycle at a station: the stations from it on, each waiting for the next and the last for the
+/// first, where `station` is the lowest of them. `None` if there is no such cycle.
 #[tactic(auto, unfolding(crate::specs::Cycles::cycle_at))]
 pub fn cycle_at(
     alloc: Global,

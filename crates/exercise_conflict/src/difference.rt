@@ -1,4 +1,4 @@
-//! The first thing in which one PDU differs from another.
+//! The first field in which one PDU differs from another.
 
 ghost use Rattle.std.specs.Prelude.{◌≡◌, ◌==◌};
 ghost use Rattle.std.specs.Cmp.Lexicographic.{pointwise};
@@ -13,14 +13,14 @@ use crate::field::Field;
 use dis_records::records::{DatumIdRecords, FixedRecords};
 use siman_pdus::{BodyView, Message, PduView, request_id, same_order};
 
-/// A field, where it is not the same; else the first of what comes behind it.
+/// The field if it differs, else the rest.
 fn unless_same(same: bool, field: Field, rest: Option<Field>) -> Option<Field>
     ensures { result ≡ unless_same same field rest }
 {
     if same { rest } else { Some(field) }
 }
 
-/// What was found, else what is found behind it.
+/// The first difference, else the rest.
 fn or_else(found: Option<Field>, rest: Option<Field>) -> Option<Field>
     ensures { result ≡ or_else found rest }
 {
@@ -30,7 +30,7 @@ fn or_else(found: Option<Field>, rest: Option<Field>) -> Option<Field>
     }
 }
 
-/// The first difference of times and of what goes with them.
+/// The first difference in times and in the fields that accompany them.
 fn time_difference(body: &BodyView<'_>, other: &BodyView<'_>) -> Option<Field>
     ensures { result ≡ time_difference (body_of body.now) (body_of other.now) }
 {
@@ -68,7 +68,7 @@ fn time_difference(body: &BodyView<'_>, other: &BodyView<'_>) -> Option<Field>
     }
 }
 
-/// The first difference of numbers that one kind alone has.
+/// The first difference in numbers that only one kind has.
 fn number_difference(body: &BodyView<'_>, other: &BodyView<'_>) -> Option<Field>
     ensures { result ≡ number_difference (body_of body.now) (body_of other.now) }
 {
@@ -102,7 +102,7 @@ fn number_difference(body: &BodyView<'_>, other: &BodyView<'_>) -> Option<Field>
     }
 }
 
-/// The fixed datum records of a body, if its kind has some.
+/// The fixed datum records of a body, if its kind has them.
 fn fixed_datums<'a>(body: &BodyView<'a>) -> Option<FixedRecords<'a>>
     ensures { result ≡ fixed_datums_of (body_of body.now) }
 {
@@ -117,7 +117,7 @@ fn fixed_datums<'a>(body: &BodyView<'a>) -> Option<FixedRecords<'a>>
     }
 }
 
-/// The identifiers of fixed datums for which a body asks, if its kind does.
+/// The fixed datum identifiers that a body queries, if its kind does.
 fn fixed_ids<'a>(body: &BodyView<'a>) -> Option<DatumIdRecords<'a>>
     ensures { result ≡ fixed_ids_of (body_of body.now) }
 {
@@ -127,7 +127,7 @@ fn fixed_ids<'a>(body: &BodyView<'a>) -> Option<DatumIdRecords<'a>>
     }
 }
 
-/// Whether two lists have the same fixed datum records.
+/// Whether two lists of fixed datum records are equal.
 fn same_fixed_datums(left: FixedRecords<'_>, mut right: FixedRecords<'_>) -> bool
     ensures { result ≡ pointwise same_fixed left.entry right.entry }
 {
@@ -140,7 +140,7 @@ fn same_fixed_datums(left: FixedRecords<'_>, mut right: FixedRecords<'_>) -> boo
     right.next().is_none()
 }
 
-/// Whether two lists have the same identifiers.
+/// Whether two lists of identifiers are equal.
 fn same_fixed_ids(left: DatumIdRecords<'_>, mut right: DatumIdRecords<'_>) -> bool
     ensures { result ≡ pointwise ◌==◌ left.entry right.entry }
 {
@@ -153,7 +153,7 @@ fn same_fixed_ids(left: DatumIdRecords<'_>, mut right: DatumIdRecords<'_>) -> bo
     right.next().is_none()
 }
 
-/// Whether two bodies have the same fixed datum records, where both have some.
+/// Whether the fixed datum records of two bodies are equal, or one has none.
 fn same_datums(body: &BodyView<'_>, other: &BodyView<'_>) -> bool
     ensures { result ≡ same_datums_if (fixed_datums_of (body_of body.now)) (fixed_datums_of (body_of other.now)) }
 {
@@ -163,7 +163,7 @@ fn same_datums(body: &BodyView<'_>, other: &BodyView<'_>) -> bool
     }
 }
 
-/// Whether two bodies ask for the same fixed datums, where both ask for some.
+/// Whether the queried fixed datums of two bodies are equal, or one has none.
 fn same_ids(body: &BodyView<'_>, other: &BodyView<'_>) -> bool
     ensures { result ≡ same_ids_if (fixed_ids_of (body_of body.now)) (fixed_ids_of (body_of other.now)) }
 {
@@ -173,7 +173,7 @@ fn same_ids(body: &BodyView<'_>, other: &BodyView<'_>) -> bool
     }
 }
 
-/// Whether two PDUs have the same request identifier, or neither has one.
+/// Whether the request identifiers of two PDUs are equal, or both have none.
 fn same_request(pdu: &PduView<'_>, other: &PduView<'_>) -> bool
     ensures { result ≡ same_request (request_id_of (pdu_of pdu.now).body) (request_id_of (pdu_of other.now).body) }
 {
@@ -191,7 +191,8 @@ fn same_kind(pdu: &PduView<'_>, other: &PduView<'_>) -> bool
     pdu.kind().code() == other.kind().code()
 }
 
-/// The first difference of the bodies of two PDUs of one kind.
+/// The first difference of the bodies of two PDUs of one kind. `same`: whether the two are equal
+/// orders.
 fn body_difference(pdu: &PduView<'_>, other: &PduView<'_>, same: bool) -> Option<Field>
     ensures { result ≡ body_difference (pdu_of pdu.now).body (pdu_of other.now).body same }
 {
@@ -212,8 +213,8 @@ fn inner_difference(pdu: &PduView<'_>, other: &PduView<'_>) -> Option<Field>
     body_difference(pdu, other, same_order(pdu, other))
 }
 
-/// The first difference of two orders, in the order in which a PDU is told: `None` where they are the
-/// same order, which leaves their timestamps and their status aside. It takes no memory.
+/// The first difference of two orders, in the order of a printed row of a PDU; `None` if they are
+/// equal. Timestamps and status are ignored. It takes no memory.
 #[tactic(auto, unfolding(crate::specs::Difference::order_difference))]
 pub fn order_difference(pdu: &PduView<'_>, other: &PduView<'_>) -> Option<Field>
     ensures { result ≡ order_difference (pdu_of pdu.now) (pdu_of other.now) }
@@ -225,7 +226,7 @@ pub fn order_difference(pdu: &PduView<'_>, other: &PduView<'_>) -> Option<Field>
     unless_same(pdu.version == other.version, Field::Version, kind)
 }
 
-/// The first difference of two PDUs, their timestamps and their status counted. It takes no memory.
+/// The first difference of two PDUs, including timestamps and status. It takes no memory.
 #[tactic(auto, unfolding(crate::specs::Difference::pdu_difference))]
 pub fn pdu_difference(pdu: &PduView<'_>, other: &PduView<'_>) -> Option<Field>
     ensures { result ≡ pdu_difference (pdu_of pdu.now) (pdu_of other.now) }

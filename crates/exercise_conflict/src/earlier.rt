@@ -1,4 +1,4 @@
-//! The earlier entry of the same station that an entry contradicts.
+//! The earlier entry of its own station that an entry contradicts.
 
 ghost use Rattle.std.specs.Prelude.{◌≡◌, option_map};
 ghost use Rattle.siman_pdus.specs.Reading.{pdu_of};
@@ -13,7 +13,7 @@ use exercise_model::{
 };
 use siman_pdus::{ABLE, PduView, UNABLE, is_request, is_under_identifier, same_order};
 
-/// What a station sends at an entry, if it sends something that is not "other".
+/// The PDU that a station sends at an entry, if it sends one that is not "other".
 #[tactic(auto, unfolding(exercise_model::specs::Place::own_event, crate::specs::Earlier::sent_pdu))]
 pub(crate) fn sent_pdu<'a, L: ExerciseLog>(
     findings: &Findings<'a, L>,
@@ -36,7 +36,7 @@ pub(crate) fn sent_pdu<'a, L: ExerciseLog>(
     }
 }
 
-/// Where a station sends another order under the request identifier of a PDU.
+/// Test for entries by which a station sends a different request under the identifier of a PDU.
 #[derive(Drop)]
 struct OtherOrder<'a, L: ExerciseLog> {
     findings: &'a Findings<'a, L>,
@@ -60,7 +60,7 @@ impl<L: ExerciseLog> Question for OtherOrder<'_, L> {
     }
 }
 
-/// Where a station sends the answer opposite to an Able or an Unable, under its key.
+/// Test for entries by which a station sends the opposite of an Able or Unable, under its key.
 #[derive(Drop)]
 struct Opposite<'a, L: ExerciseLog> {
     findings: &'a Findings<'a, L>,
@@ -80,8 +80,7 @@ impl<L: ExerciseLog> Question for Opposite<'_, L> {
     }
 }
 
-/// Whether a PDU is, under a key, an Unable where another one is an Able, or an Able where that one is
-/// an Unable.
+/// Whether one PDU is an Able and the other an Unable under the key, in either order.
 fn is_opposite(pdu: &PduView<'_>, other: &PduView<'_>, key: &AcknowledgeKey) -> bool
     ensures { result ≡ is_opposite (pdu_of pdu.now) (pdu_of other.now) key.now }
 {
@@ -89,7 +88,7 @@ fn is_opposite(pdu: &PduView<'_>, other: &PduView<'_>, key: &AcknowledgeKey) -> 
         || responds(UNABLE, pdu) && responds_under(ABLE, key, other)
 }
 
-/// Whether a PDU is the answer opposite to another one, under its key.
+/// Whether a PDU is the opposite answer to another, under that one's key.
 fn is_opposite_to(pdu: &PduView<'_>, other: &PduView<'_>) -> bool
     ensures { result ≡ is_opposite_to (pdu_of pdu.now) (pdu_of other.now) }
 {
@@ -109,7 +108,7 @@ pub(crate) fn pair_of<L: ExerciseLog>(findings: &Findings<'_, L>, entry: usize) 
     }
 }
 
-/// What a PDU that a station sends at an entry contradicts, for this cause against it.
+/// The earlier entry that a sent PDU contradicts, for this cause against it.
 #[tactic(auto, using(crate::proofs::Unowned::unowned_other, crate::proofs::Unowned::unowned_opposite, crate::proofs::Unowned::sent_within))]
 pub(crate) fn earlier_sent<L: ExerciseLog>(
     logs: &Logs<'_, '_, L>,
@@ -146,9 +145,10 @@ pub(crate) fn earlier_sent<L: ExerciseLog>(
     }
 }
 
-/// The earlier entry of the same station that an entry contradicts: for a reused identifier the first
-/// other order under it, for a wrong answer the request that it takes up, for a changed answer the first
-/// opposite one under its key. `None` for all else and past the last entry. It takes no memory.
+/// The earlier entry of its own station that an entry contradicts: for a reused identifier the
+/// first different request under it, for a wrong answer the request that it takes up, for a changed
+/// answer the first opposite one under its key. `None` for any other cause and past the last entry.
+/// It takes no memory.
 #[tactic(auto, unfolding(crate::specs::Earlier::earlier_of))]
 pub fn earlier_of<L: ExerciseLog>(findings: &Findings<'_, L>, entry: usize) -> Option<usize>
     ensures { result ≡ earlier_of findings.now entry }

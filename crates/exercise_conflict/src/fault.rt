@@ -1,4 +1,4 @@
-//! Whose fault it is that a certificate is not good.
+//! Whether a refused certificate or its recording is at fault.
 
 ghost use Rattle.std.specs.Prelude.{◌≡◌, IfOk, IsTrue};
 ghost use Rattle.exercise_model.specs.Recording.{PlainRecording, IsRecording};
@@ -13,17 +13,17 @@ use exercise_findings::Findings;
 use exercise_model::ExerciseLog;
 use std::alloc::{AllocError, Global};
 
-/// Whose fault it is that a certificate of a recording is not good.
+/// What is at fault if a certificate of a recording is not good.
 #[derive(Clone, Copy, PartialEq, Eq)]
 pub enum Fault {
-    /// The certificate's: some run explains the recording.
+    /// The certificate: some run explains the recording.
     Certificate,
-    /// The recording's: no run does.
+    /// The recording: no run explains it.
     Recording,
 }
 
-/// Whether some entry has a standing cause against it; then no run explains the recording, nor any that
-/// has sends beyond it which are no Ables.
+/// Whether some entry has a standing cause against it. If so, no run explains the recording, nor
+/// any recording that adds only sends which are no Ables.
 pub(crate) fn has_standing_cause<L: ExerciseLog>(findings: &Findings<'_, L>) -> bool
     ensures limits { IsRecording findings.now }
     ensures stays { IsTrue result → (wide : PlainRecording) (h : History) → HasFurtherSends findings.now wide → Explains wide h → ⊥ }
@@ -37,9 +37,8 @@ pub(crate) fn has_standing_cause<L: ExerciseLog>(findings: &Findings<'_, L>) -> 
     false
 }
 
-/// Whose fault it is that a certificate of a recording is not good: the certificate's exactly where
-/// some run explains the recording. Where an entry has a standing cause no run does, so the search is
-/// spared.
+/// What is at fault if a certificate of a recording is not good: the certificate exactly if some
+/// run explains the recording. If an entry has a standing cause no run does, and no search is made.
 pub fn fault_of<L: ExerciseLog>(
     alloc: Global,
     findings: &Findings<'_, L>,
@@ -56,7 +55,7 @@ pub fn fault_of<L: ExerciseLog>(
     }
 }
 
-/// As [`fault_of`], where what was found in the log is given back.
+/// As [`fault_of`], returning the findings too.
 pub(crate) fn fault_found<'a, L: ExerciseLog>(
     alloc: Global,
     findings: Findings<'a, L>,

@@ -1,11 +1,11 @@
-//! The fields of a datagram, by their names.
+//! The fields in which datagrams can differ, with their names.
 
 ghost use Rattle.std.specs.Prelude.{◌≡◌};
 ghost use Rattle.exercise_conflict.specs.FieldText.{field_text};
 
 use std::fmt;
 
-/// A thing in which one datagram can differ from another.
+/// A field in which one datagram can differ from another.
 #[derive(Clone, Copy, PartialEq, Eq)]
 pub enum Field {
     /// The protocol version.
@@ -30,9 +30,9 @@ pub enum Field {
     Reason,
     /// The frozen behaviour of a Stop/Freeze.
     Behaviour,
-    /// What an Acknowledge acknowledges.
+    /// The acknowledge flag of an Acknowledge.
     Flag,
-    /// How an Acknowledge answers.
+    /// The response flag of an Acknowledge.
     Response,
     /// The action of an Action Request.
     Action,
@@ -46,12 +46,12 @@ pub enum Field {
     Fixed,
     /// The variable datum records, or the identifiers of variable datums.
     Variable,
-    /// Bytes that no field has: padding, and unused bits.
+    /// Bytes outside all fields: padding, and unused bits.
     Padding,
 }
 
 impl Field {
-    /// Its name, as it has it in a line that tells a PDU.
+    /// Its name: the key that it has in the row of a PDU.
     pub fn name(self) -> &'static str
         ensures { result.now ≡ field_text self }
     {
@@ -80,7 +80,7 @@ impl Field {
     }
 }
 
-/// Its name, as `response`.
+/// Prints its name, like `response`.
 impl fmt::Display for Field {
     ghost use Rattle.std.specs.Prelude.{Some};
 

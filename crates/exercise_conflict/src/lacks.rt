@@ -1,4 +1,4 @@
-//! All sends that the logs lack, in one pass.
+//! All sends that the logs lack, found in one pass.
 
 ghost use Rattle.std.specs.Prelude.{◌≡◌, ◌<◌, ◌+◌, ◌++◌, length, option_map, option_and_then, IfOk, IfSome, OnOk};
 ghost use Rattle.std.specs.Option.{option_to_list};
@@ -25,8 +25,8 @@ pub struct Lack {
     pub missing: Missing,
 }
 
-/// Where the send of a PDU belongs in the log of a station. Only for an answer it is asked where requests
-/// were received, which is looked up once.
+/// The place of a PDU's send in the log of a station. The index of received requests is made at the
+/// first answer and then reused.
 #[tactic(auto, unfolding(exercise_findings::specs::Missing::place_of))]
 fn place_in<L: ExerciseLog>(
     alloc: Global,
@@ -51,7 +51,7 @@ fn place_in<L: ExerciseLog>(
     Ok(place)
 }
 
-/// The send of a PDU that the log of its sender lacks, where that is a recorded station.
+/// The send of a PDU that the log of its sender lacks, if the sender is a recorded station.
 fn missing_pdu<L: ExerciseLog>(
     alloc: Global,
     findings: &Findings<'_, L>,
@@ -88,7 +88,8 @@ fn missing_bytes<L: ExerciseLog>(
     }
 }
 
-/// The send that is missing by the next entry, which is noted where it receives what no log sends.
+/// The missing send that the next entry reveals. If the entry receives a datagram that no log
+/// sends, it is added to the index of such receipts.
 #[tactic(auto, unfolding(exercise_findings::specs::Missing::missing_at))]
 fn missing_next<'a, L: ExerciseLog>(
     alloc: Global,
@@ -120,7 +121,7 @@ fn missing_next<'a, L: ExerciseLog>(
     }
 }
 
-/// Adds the send that is missing by an entry, if one is.
+/// Appends the missing send that an entry reveals, if any.
 fn push_lack(
     lacks: &mut Vec<Lack>,
     entry: usize,
@@ -134,9 +135,10 @@ fn push_lack(
     Ok(())
 }
 
-/// All sends that the logs lack: of each datagram that was received from a recorded station and that no
-/// entry of that station sends, by rising entries of its first receipt. One pass and two look-ups for
-/// each entry without a source; one pass more where an answer is among them.
+/// All sends that the logs lack, one for each datagram that was received from a recorded station
+/// but is sent by no entry of that station, by rising entries of the first receipt. It takes one
+/// pass, with two look-ups for each entry without a source, and a second pass if an answer is among
+/// them.
 pub fn lacks_of<L: ExerciseLog>(
     alloc: Global,
     findings: &Findings<'_, L>,

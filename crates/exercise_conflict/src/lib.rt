@@ -1,25 +1,18 @@
-//! What contradicts what in a recording that no run explains, read from the logs and from what the search
-//! for an order says.
+//! Contradictions in a recording that no run explains, and in a certificate that is refused,
+//! derived from the logs and from the search for a sequence. [`conflict_of`] and [`conflict_found`]
+//! give all conflicts of a recording, [`verdict_of`] and [`refusal_found`] judge a certificate;
+//! [`waits_of`], [`cycle_at`], [`standing_cause`], [`also_at`], [`earlier_of`], [`made_since`],
+//! [`clash_of`], [`order_difference`], [`pdu_difference`], [`lacks_of`], [`fault_of`],
+//! [`step_clash_of`], [`RepairedLog`] and [`repair_of`] give the parts.
 //!
-//! It opens no file and prints nothing. Of a blocked list [`waits_of`] tells which station waits on which
-//! other, and [`cycle_at`] the ring of those that wait on one another; [`ways_are_blocked`], [`ways_end`]
-//! and [`cycles_block`] are the laws of them. [`standing_cause`] is what the log of a station has against
-//! its entry, whatever other stations sent, and [`also_at`] the same beside a blocked list: no run explains
-//! a recording that has one ([`own_causes_stand`]), no further send mends it ([`own_causes_stay`]), and
-//! nothing at all one of four kinds ([`final_is_final`]). [`earlier_of`] is the earlier entry that an entry
-//! contradicts, and [`made_since`] the change that made the state of an entity; [`earlier_is_the_conflict`]
-//! and [`states_are_made`] are their laws. [`clash_of`] is the other side of each cause, with the first
-//! thing in which two PDUs differ ([`order_difference`], [`pdu_difference`]), and
-//! [`clashes_are_the_conflict`] its law. [`lacks_of`] is all that the logs lack, in one pass;
-//! [`missing_is_needed`] says that each run of a wider recording has these sends. [`fault_of`] says
-//! whether some run explains the recording of a certificate that is not good, and [`step_clash_of`] what
-//! a step of one contradicts, by [`bad_steps_have_own_causes`] what its entry does wherever the cause is
-//! one of its event. [`RepairedLog`] is a log with the sends that it lacks, [`repair_of`] says whether
-//! these are enough, and [`enough_is_one_word`], [`fewer_do_not_do`] and [`nowhere_else`] what that comes
-//! to. [`verdict_of`] tells all of a recording with a certificate, and [`conflict_of`] all of a recording
-//! alone, where each blocked station comes to something ([`each_block_has_its_way`]); [`conflict_found`]
-//! tells the same and gives back what was found in the log, and [`refusal_found`] why a certificate is
-//! refused.
+//! The crate never opens a file or prints anything.
+//!
+//! The crates above rely on the contracts of these functions and on the laws: [`ways_are_blocked`],
+//! [`ways_end`], [`cycles_block`] and [`each_block_has_its_way`] for waits; [`own_causes_stand`],
+//! [`own_causes_stay`] and [`final_is_final`] for causes within one log;
+//! [`earlier_is_the_conflict`], [`states_are_made`] and [`clashes_are_the_conflict`] for the other
+//! side of a conflict; [`missing_is_needed`], [`enough_is_one_word`], [`fewer_do_not_do`] and
+//! [`nowhere_else`] for missing sends; [`bad_steps_have_own_causes`] for certificates.
 #![tactic(auto)]
 
 mod also;

@@ -1,4 +1,4 @@
-//! The logs of the stations of a recording, each walked over by itself.
+//! Walks over the logs of single stations.
 
 ghost use Rattle.std.specs.Prelude.{◌≡◌, ◌<◌, ◌≤◌, ◌+◌, ℕ, length, IfOk, IfSome, None, false};
 ghost use Rattle.exercise_model.specs.Place.{own_event, first_below};
@@ -15,16 +15,15 @@ use siman_pdus::PduView;
 use std::alloc::{AllocError, Global};
 use std::marker::Model;
 
-/// What was found in the logs of a recording. Where how the entries of each station follow one another
-/// is written down, a walk over those of one station looks at no others; where it is written down what
-/// each sent first, that is looked up. Contracts see the recording.
+/// Findings of a recording, with optional tables: chained entries, so that a walk over one station
+/// visits no other entries, and an index of first sends. Contracts see only the recording.
 pub(crate) struct Logs<'f, 'a, L: ExerciseLog> {
     findings: &'f Findings<'a, L>,
     own: Option<Own>,
     nears: Option<Nears>,
 }
 
-// Not derived: who drops it makes one call, and does not take its table apart by himself.
+// Not derived, so that a caller that drops it makes one call instead of dropping the tables inline.
 impl<'f, 'a, L: ExerciseLog> Drop for Logs<'f, 'a, L> {
     fn drop(self) {
         let Logs {
@@ -47,7 +46,7 @@ impl<'f, 'a, L: ExerciseLog> Model for Logs<'f, 'a, L> {
 }
 
 impl<'f, 'a, L: ExerciseLog> Logs<'f, 'a, L> {
-    /// The logs, where a walk looks at each entry. It takes no memory.
+    /// Without tables: a walk visits every entry. It takes no memory.
     pub fn unwritten(findings: &'f Findings<'a, L>) -> Logs<'f, 'a, L>
         ensures { result ≡ findings.now }
     {
@@ -58,8 +57,7 @@ impl<'f, 'a, L: ExerciseLog> Logs<'f, 'a, L> {
         }
     }
 
-    /// The logs, with how the entries of each station follow one another; and if that is asked for, with
-    /// what each sent first.
+    /// With chained entries, and with the index of first sends if `with_nears`.
     pub fn written(
         alloc: Global,
         findings: &'f Findings<'a, L>,
@@ -80,14 +78,15 @@ impl<'f, 'a, L: ExerciseLog> Logs<'f, 'a, L> {
         })
     }
 
-    /// What was found.
+    /// The findings of the recording.
     pub fn findings(&self) -> &'f Findings<'a, L>
         ensures { result.now ≡ self.now }
     {
         self.findings
     }
 
-    /// The first entry by which a station sends what is like a PDU, where that can be looked up.
+    /// The first entry by which a station sends a PDU similar to this one, looked up in the index;
+    /// `None` if there is no index or the PDU has no request identifier.
     #[tactic(auto, using(crate::proofs::Likeness::found_near))]
     pub fn first_near(&self, station: u16, pdu: &PduView<'_>) -> Option<Option<usize>>
         ensures { IfSome result (λ found. found ≡ first_below (sends_near_at self.now station (pdu_of pdu.now)) (length self.now.entries)) }
@@ -98,7 +97,8 @@ impl<'f, 'a, L: ExerciseLog> Logs<'f, 'a, L> {
         }
     }
 
-    /// Where a walk over the entries of a station begins, up to an end.
+    /// First entry, up to `end`, of a walk over the entries of a station; no entry of the station
+    /// precedes it.
     pub fn first(&self, station: u16, end: usize) -> usize
         ensures within { result ≤ end }
         ensures first { LeavesOutNone self.now station 0 result }
@@ -106,7 +106,7 @@ impl<'f, 'a, L: ExerciseLog> Logs<'f, 'a, L> {
         first_in(&self.own, self.findings.log(), station, end)
     }
 
-    /// Where it goes on behind an entry.
+    /// Next entry, up to `end`, of a walk over the entries of a station.
     pub fn follower(&self, station: u16, entry: usize, end: usize) -> usize
         requires entry { entry < end }
         requires within { end ≤ length self.now.entries }
@@ -116,7 +116,8 @@ impl<'f, 'a, L: ExerciseLog> Logs<'f, 'a, L> {
         follower_in(&self.own, self.findings.log(), station, entry, end)
     }
 
-    /// The first entry below a bound that passes, where only entries of this station may.
+    /// The first entry below a bound that passes a test which only entries of this station can
+    /// pass.
     pub fn first_own<Q: Question>(&self, question: &Q, station: u16, end: usize) -> Option<usize>
         requires within { end ≤ length self.now.entries }
         requires own { (i : ℕ) → own_event self.now station i ≡ None → Q.test question.now i ≡ false }

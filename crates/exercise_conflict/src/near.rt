@@ -1,4 +1,5 @@
-//! A datagram that was never sent: its source, and what its sender sent that is like it.
+//! A datagram that was never sent: its source, if it is sent later, and the most similar send of
+//! its sender.
 
 ghost use Rattle.std.specs.Prelude.{◌≡◌, option_map};
 ghost use Rattle.siman_pdus.specs.Reading.{pdu_of};
@@ -16,7 +17,7 @@ use exercise_findings::Findings;
 use exercise_model::{EntryView, ExerciseLog, is_from, meaning_view};
 use siman_pdus::{Message, PduView, is_under_identifier, request_id, same_order};
 
-/// The recorded station that a PDU comes from.
+/// The recorded station that sent a PDU.
 #[tactic(auto, unfolding(exercise_model::specs::Account::sender_of), using(crate::proofs::Steps::question_steps))]
 pub(crate) fn sender_of<L: ExerciseLog>(
     findings: &Findings<'_, L>,
@@ -32,8 +33,8 @@ pub(crate) fn sender_of<L: ExerciseLog>(
     None
 }
 
-/// Whether a PDU is like another one: of the same kind, to the same receiver, under the same request
-/// identifier; where its kind has none, the same order.
+/// Whether two PDUs are similar: of equal kind, receiver and request identifier; or, if their kind
+/// has no identifier, equal orders.
 fn is_near(pdu: &PduView<'_>, other: &PduView<'_>) -> bool
     ensures { result ≡ is_near (pdu_of pdu.now) (pdu_of other.now) }
 {
@@ -45,7 +46,7 @@ fn is_near(pdu: &PduView<'_>, other: &PduView<'_>) -> bool
         && is_under_identifier(pdu, other)
 }
 
-/// Where a station sends a PDU that is like another one.
+/// Test for entries by which a station sends a PDU similar to another.
 #[derive(Drop)]
 struct SendsNear<'a, L: ExerciseLog> {
     findings: &'a Findings<'a, L>,
@@ -65,7 +66,7 @@ impl<L: ExerciseLog> Question for SendsNear<'_, L> {
     }
 }
 
-/// The first entry of the station that a PDU comes from which sends one that is like it.
+/// The first entry by which a PDU's sender sends a similar one.
 #[tactic(auto, using(crate::proofs::Unowned::unowned_near))]
 fn near_of<L: ExerciseLog>(logs: &Logs<'_, '_, L>, pdu: &PduView<'_>) -> Option<usize>
     ensures { result ≡ near_of logs.now (pdu_of pdu.now) }
@@ -83,7 +84,7 @@ fn near_of<L: ExerciseLog>(logs: &Logs<'_, '_, L>, pdu: &PduView<'_>) -> Option<
     logs.first_own(&near, station, findings.log().entry_count())
 }
 
-/// Bytes that no field has, where no field differs.
+/// The differing field, or `Padding` if no field differs.
 fn or_padding(found: Option<Field>) -> Field
     ensures { result ≡ or_padding found }
 {
@@ -93,7 +94,7 @@ fn or_padding(found: Option<Field>) -> Field
     }
 }
 
-/// The first thing in which a datagram differs from what an entry sends.
+/// The first field in which a datagram differs from the one that an entry sends.
 fn differs_at<L: ExerciseLog>(
     findings: &Findings<'_, L>,
     bytes: &[u8],
@@ -117,7 +118,7 @@ fn differs_at<L: ExerciseLog>(
     }
 }
 
-/// The source of what an entry received, as a number of an entry.
+/// The source of a receipt, as an entry number.
 fn source_of<L: ExerciseLog>(findings: &Findings<'_, L>, entry: usize) -> Option<usize>
     ensures { result ≡ source_of findings.now entry }
 {
@@ -127,7 +128,7 @@ fn source_of<L: ExerciseLog>(findings: &Findings<'_, L>, entry: usize) -> Option
     }
 }
 
-/// What there is of a datagram that an entry received and that was never sent.
+/// The contradiction of an entry that receives a datagram which was never sent.
 pub(crate) fn unsent_by<L: ExerciseLog>(
     logs: &Logs<'_, '_, L>,
     entry: usize,

@@ -1,4 +1,4 @@
-//! What each station sent first of each kind to each receiver under each identifier, kept in a table.
+//! Index of the first send of each kind of PDU, by station, receiver and request identifier.
 
 ghost use Rattle.std.specs.Prelude.{◌≡◌, ◌+◌, length, None, IfOk, OnOk};
 ghost use Rattle.indexmap.specs.IndexMap.{get};
@@ -13,7 +13,7 @@ use siman_pdus::{Message, PduView, request_id};
 use std::alloc::{AllocError, Global};
 use std::hash::BuildHasherDefault;
 
-/// What a PDU is looked up by that a station sends under a request identifier.
+/// Look-up key of a PDU with a request identifier that a station sends.
 #[derive(Clone, Copy, PartialEq, Eq, Hash)]
 pub(crate) struct Near {
     /// The station, from 0.
@@ -30,17 +30,17 @@ pub(crate) struct Near {
     pub request: u32,
 }
 
-/// The entry by which each was sent first.
+/// The first entry under each key.
 pub(crate) type Nears = Table<Near, usize>;
 
-/// No sends. It takes no memory.
+/// An empty index. It takes no memory.
 fn no_nears(alloc: Global) -> Nears
     ensures { (k : Near) → get same_near result k ≡ None }
 {
     Nears::with_hasher(alloc, BuildHasherDefault::default())
 }
 
-/// What a PDU is looked up by that a station sends, if it has a request identifier.
+/// Look-up key of a PDU that a station sends, if it has a request identifier.
 pub(crate) fn near_key(station: u16, pdu: &PduView<'_>) -> Option<Near>
     ensures { result ≡ near_key station (pdu_of pdu.now) }
 {
@@ -57,7 +57,7 @@ pub(crate) fn near_key(station: u16, pdu: &PduView<'_>) -> Option<Near>
     }
 }
 
-/// What an entry is looked up by.
+/// Look-up key of an entry, if it sends a PDU with a request identifier.
 #[tactic(auto, unfolding(crate::specs::Near::near_at))]
 fn near_at<L: ExerciseLog>(findings: &Findings<'_, L>, entry: usize) -> Option<Near>
     ensures { result ≡ near_at findings.now entry }
@@ -75,7 +75,7 @@ fn near_at<L: ExerciseLog>(findings: &Findings<'_, L>, entry: usize) -> Option<N
     }
 }
 
-/// Keeps the next entry.
+/// Adds the next entry.
 fn note_near<L: ExerciseLog>(
     nears: &mut Nears,
     findings: &Findings<'_, L>,
@@ -90,7 +90,7 @@ fn note_near<L: ExerciseLog>(
     Ok(())
 }
 
-/// Where each was sent first in a log.
+/// The index of all entries of a recording.
 pub(crate) fn nears_of<L: ExerciseLog>(
     alloc: Global,
     findings: &Findings<'_, L>,

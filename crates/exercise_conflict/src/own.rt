@@ -1,4 +1,4 @@
-//! How the entries of each station follow one another.
+//! Chains of the entries of each station.
 
 ghost use Rattle.std.specs.Prelude.{◌<◌, ◌≤◌, ◌+◌, ℕ, length, IfOk, IfSome};
 ghost use Rattle.exercise_conflict.specs.Own.{LeavesOutNone, AreOwnFrom};
@@ -7,19 +7,19 @@ use exercise_findings::replace;
 use exercise_model::ExerciseLog;
 use std::alloc::{AllocError, Global};
 
-/// Stands where there is no further entry: a number that none has.
+/// End of a chain; every entry number is smaller.
 const NO_ENTRY: u32 = u32::MAX;
 
-/// For each entry the one that follows it at its station, and for each station its first entry.
+/// For each station a chain of its entries, in their order.
 #[derive(Drop)]
 pub(crate) struct Own {
-    /// For each entry.
+    /// For each entry the next one of its station.
     pub followers: Vec<u32>,
-    /// For each station.
+    /// For each station its first entry.
     pub first: Vec<u32>,
 }
 
-/// Goes over the entry before those that were gone over.
+/// Puts an entry at the front of its station's chain; all later entries are chained already.
 fn go_back<L: ExerciseLog>(own: &mut Own, log: &L, entry: usize)
     requires within { entry < length (L.recording log.now).entries }
     requires tied { AreOwnFrom (L.recording log.now) (entry + 1) own.old }
@@ -31,7 +31,7 @@ fn go_back<L: ExerciseLog>(own: &mut Own, log: &L, entry: usize)
     replace(&mut own.first, station, entry as u32);
 }
 
-/// Where no entry is gone over.
+/// Empty chains.
 fn no_own<L: ExerciseLog>(alloc: Global, log: &L) -> Result<Own, AllocError>
     ensures { let r = L.recording log.now in IfOk result (AreOwnFrom r (length r.entries)) }
 {
@@ -40,7 +40,7 @@ fn no_own<L: ExerciseLog>(alloc: Global, log: &L) -> Result<Own, AllocError>
     Ok(Own { followers, first })
 }
 
-/// How the entries of each station of a log follow one another, found in one pass.
+/// The chains of all stations of a log, built in one pass from the end.
 pub(crate) fn own_of<L: ExerciseLog>(alloc: Global, log: &L) -> Result<Own, AllocError>
     ensures { IfOk result (AreOwnFrom (L.recording log.now) 0) }
 {
@@ -51,7 +51,7 @@ pub(crate) fn own_of<L: ExerciseLog>(alloc: Global, log: &L) -> Result<Own, Allo
     Ok(own)
 }
 
-/// The lower of two places.
+/// The smaller of two numbers.
 fn no_later(next: usize, end: usize) -> usize
     ensures next { result ≤ next }
     ensures end { result ≤ end }
@@ -60,8 +60,8 @@ fn no_later(next: usize, end: usize) -> usize
     if next < end { next } else { end }
 }
 
-/// Where a walk over the entries of a station begins, up to an end: at its first entry, where that is
-/// written down.
+/// First entry, up to `end`, of a walk over a station's entries: the station's first, or 0 without
+/// chains.
 #[tactic(auto, using(crate::proofs::Owning::none_between))]
 pub(crate) fn first_in<L: ExerciseLog>(
     own: &Option<Own>,
@@ -81,7 +81,7 @@ pub(crate) fn first_in<L: ExerciseLog>(
     }
 }
 
-/// Where it goes on behind an entry: at the one that follows, where that is written down.
+/// Next entry, up to `end`, of such a walk: the station's next, or `entry + 1` without chains.
 #[tactic(auto, using(crate::proofs::Owning::none_between))]
 pub(crate) fn follower_in<L: ExerciseLog>(
     own: &Option<Own>,

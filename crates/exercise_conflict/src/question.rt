@@ -1,21 +1,21 @@
-//! Questions about the entries of a recording, that are answered with yes or no.
+//! Tests of entries for searches.
 
 ghost use Rattle.std.specs.Prelude.{◌≡◌, ◌<◌, ◌≤◌, IfSome};
 ghost use Rattle.exercise_model.specs.Place.{first_below};
 
-/// A question about an entry. What it means is one test; no call takes memory.
+/// A test of an entry, yes or no. No call takes memory.
 pub(crate) trait Question {
     ghost use Rattle.std.specs.Prelude.{◌≡◌, ℕ, Bool};
 
-    /// The test.
+    /// The specification of the test.
     ghost test: { Self → ℕ → Bool };
 
-    /// Whether an entry passes.
+    /// Whether an entry passes the test.
     fn passes(&self, entry: usize) -> bool
         ensures { result ≡ test self.now entry };
 }
 
-/// The first entry below a bound that passes.
+/// The first entry below a bound that passes the test.
 #[tactic(auto, using(crate::proofs::Steps::question_steps))]
 pub(crate) fn first_below<Q: Question>(question: &Q, end: usize) -> Option<usize>
     ensures { result ≡ first_below (Q.test question.now) end }

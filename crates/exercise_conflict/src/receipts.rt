@@ -1,4 +1,4 @@
-//! Where each datagram that no log sends was received first, kept in a table under its bytes.
+//! Index of the first receipt of each datagram that no log sends, by its bytes.
 
 ghost use Rattle.std.specs.Prelude.{◌≡◌, ◌<◌, ◌+◌, ◌∷◌, [], ℕ, Some, None, IfOk, OnOk, OnErr, unwrap_or, if◌then◌else◌, bytes_eq};
 ghost use Rattle.std.specs.Cmp.Rules.{comparing, hashing};
@@ -18,11 +18,11 @@ use indexmap::IndexMap;
 use std::alloc::{AllocError, Global};
 use std::hash::{BuildHasherDefault, DefaultHasher, Hash, Hasher};
 
-/// A table whose keys come from a recording. Its writer may be a stranger, so the hasher is one for
-/// which nobody writes down keys that fall together.
+/// A hash table whose keys are from a recording. Its writer may be hostile, so the hasher is one
+/// for which no colliding keys can be prepared.
 pub(crate) type Table<K, V> = IndexMap<K, V, BuildHasherDefault<DefaultHasher>>;
 
-/// What stands under a key, once this is kept there where nothing was.
+/// Stores a value under a key that has none yet; returns the value that the key then has.
 pub(crate) fn keep_first<K: Copy + Eq + Hash, V: Copy>(
     table: &mut Table<K, V>,
     key: K,
@@ -35,8 +35,7 @@ pub(crate) fn keep_first<K: Copy + Eq + Hash, V: Copy>(
     Ok(*table.entry(key)?.or_insert(value))
 }
 
-/// The bytes of a datagram where they lie, as a key: two are the same where their bytes are. They
-/// are hashed in one write.
+/// The borrowed bytes of a datagram as a key, compared by content and hashed in one write.
 #[derive(Clone, Copy)]
 pub(crate) struct Datagram<'a> {
     /// The bytes.
@@ -67,18 +66,18 @@ impl<'a> Hash for Datagram<'a> {
     }
 }
 
-/// The entry by which each datagram was received first that no log sends.
+/// The first receipt of each datagram that no log sends.
 pub(crate) type Receipts<'a> = Table<Datagram<'a>, usize>;
 
-/// No datagrams. It takes no memory.
+/// An empty index. It takes no memory.
 pub(crate) fn no_receipts<'a>(alloc: Global) -> Receipts<'a>
     ensures { (d : Datagram) → get same_datagram result d ≡ None }
 {
     Receipts::with_hasher(alloc, BuildHasherDefault::default())
 }
 
-/// Keeps the datagram of the next entry, which receives what no log sends, and tells whether it is the
-/// first that does.
+/// Adds the datagram of the next entry, which receives a datagram that no log sends; returns
+/// whether it is the first to do so.
 pub(crate) fn note_receipt<'a, L: ExerciseLog>(
     findings: &Findings<'a, L>,
     receipts: &mut Receipts<'a>,

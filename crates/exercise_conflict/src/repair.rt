@@ -1,4 +1,4 @@
-//! Whether the sends that the logs lack are enough for a run.
+//! Whether adding the sends that the logs lack makes a recording explainable.
 
 ghost use Rattle.std.specs.Prelude.{◌≡◌, false, IfOk};
 ghost use Rattle.exercise_model.specs.Recording.{IsRecording};
@@ -16,14 +16,14 @@ use siman_pdus::ABLE;
 use std::alloc::{AllocError, Global};
 use std::fmt;
 
-/// Whether missing sends, each at its place, are enough.
+/// Whether adding the missing sends, each at its place, is enough.
 #[derive(Clone, Copy, PartialEq, Eq)]
 pub enum Enough {
     /// Some run explains the recording with them.
     Yes,
-    /// None does, and none of them is an Able.
+    /// No run does, and none of them is an Able.
     No,
-    /// None does, and one of them is an Able; or the recording would have too many entries.
+    /// No run does, but one of them is an Able; or the recording would have too many entries.
     Unknown,
 }
 
@@ -40,7 +40,7 @@ impl Enough {
     }
 }
 
-/// Its word.
+/// Prints its word.
 impl fmt::Display for Enough {
     ghost use Rattle.std.specs.Prelude.{Some};
     ghost use Rattle.exercise_conflict.specs.RepairText.{enough_text};
@@ -52,10 +52,10 @@ impl fmt::Display for Enough {
     }
 }
 
-/// How many sends the logs lack, and whether these are enough.
+/// The number of sends that the logs lack, and whether adding them is enough.
 #[derive(Clone, Copy, PartialEq, Eq)]
 pub struct Repair {
-    /// How many.
+    /// The number of missing sends.
     pub sends: usize,
     /// Whether they are enough.
     pub enough: Enough,
@@ -80,7 +80,7 @@ fn is_able_at<L: ExerciseLog>(findings: &Findings<'_, L>, entry: usize) -> bool
     }
 }
 
-/// Whether one of the sends that the logs lack is an Able.
+/// Whether one of the missing sends is an Able.
 #[tactic(auto, unfolding(crate::specs::Repair::lacks_able))]
 fn lacks_able<L: ExerciseLog>(findings: &Findings<'_, L>, lacks: &[Lack]) -> bool
     requires { lacks.now ≡ lacks_of findings.now }
@@ -89,7 +89,7 @@ fn lacks_able<L: ExerciseLog>(findings: &Findings<'_, L>, lacks: &[Lack]) -> boo
     lacks.iter().any(|lack| is_able_at(findings, lack.entry))
 }
 
-/// Whether the repaired log is explained, where it is no longer than a log may be.
+/// Searches for a run of the repaired log, which has no more entries than a log may have.
 fn searched<L: ExerciseLog>(
     alloc: Global,
     findings: &Findings<'_, L>,
@@ -109,8 +109,8 @@ fn searched<L: ExerciseLog>(
     }
 }
 
-/// Whether the sends that the logs lack are enough, none of which is an Able. Where an entry has a
-/// standing cause against it they are not, so the search is spared.
+/// Whether the missing sends, none of which is an Able, are enough. If an entry has a standing
+/// cause they are not, and no search is made.
 fn enough_without_able<L: ExerciseLog>(
     alloc: Global,
     findings: &Findings<'_, L>,
@@ -128,7 +128,7 @@ fn enough_without_able<L: ExerciseLog>(
     searched(alloc, findings, whole, false)
 }
 
-/// Whether the sends that the logs lack are enough.
+/// Whether the missing sends are enough.
 fn enough_of<L: ExerciseLog>(
     alloc: Global,
     findings: &Findings<'_, L>,
@@ -146,7 +146,7 @@ fn enough_of<L: ExerciseLog>(
     enough_without_able(alloc, findings, &whole)
 }
 
-/// How many of all sends the logs lack, and whether these are enough.
+/// The number of missing sends, given all of them, and whether they are enough.
 pub(crate) fn repair_with<L: ExerciseLog>(
     alloc: Global,
     findings: &Findings<'_, L>,
@@ -161,8 +161,8 @@ pub(crate) fn repair_with<L: ExerciseLog>(
     })
 }
 
-/// As [`repair_with`], of a recording that no run explains: where its logs lack nothing, what would be
-/// searched is the recording itself, so the search is spared.
+/// As [`repair_with`], for a recording that no run explains: if nothing is missing, the answer is
+/// no without a search.
 #[tactic(auto, using(crate::proofs::Unrepaired::nothing_repairs))]
 pub(crate) fn repair_unexplained<L: ExerciseLog>(
     alloc: Global,
@@ -183,9 +183,9 @@ pub(crate) fn repair_unexplained<L: ExerciseLog>(
     repair_with(alloc, findings, lacks)
 }
 
-/// How many sends the logs of a recording lack, and whether some run explains the recording with them,
-/// each at its place. It makes at most one search, and none where the logs say that no further send
-/// mends them.
+/// The number of sends that the logs of a recording lack, and whether some run explains the
+/// recording with them, each at its place. It makes at most one search, and none if the logs alone
+/// rule it out.
 pub fn repair_of<L: ExerciseLog>(
     alloc: Global,
     findings: &Findings<'_, L>,

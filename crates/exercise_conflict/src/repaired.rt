@@ -1,4 +1,4 @@
-//! A recording with the sends that its logs lack, as a log that lends its entries from it.
+//! A recording with the sends that its logs lack, as a log that borrows its entries.
 
 ghost use Rattle.std.specs.Prelude.{◌≡◌, ◌∷◌, ◌++◌, [], ◌==◌, ℕ, map, filter, length, true, false, IfOk, IfSome, IfNone, OnOk, if◌then◌else◌};
 ghost use Rattle.exercise_model.specs.Held.{shown};
@@ -13,19 +13,19 @@ use indexmap::IndexMap;
 use std::alloc::{AllocError, Global};
 use std::marker::Model;
 
-/// Where an entry of a repaired log comes from.
+/// One entry of a repaired log.
 #[derive(Clone, Copy)]
 pub(crate) struct Slot {
-    /// The entry that it is, or whose datagram it sends.
+    /// The original entry, or the one whose datagram is sent.
     pub entry: usize,
-    /// The station that sends the datagram; `None` where the entry stands as it is.
+    /// The station that sends the datagram; `None` for an original entry.
     pub sender: Option<u16>,
 }
 
 /// The sends that belong right after each entry.
 type Places = IndexMap<usize, Vec<Slot>>;
 
-/// The datagram of an entry; a state that is told has none.
+/// The datagram of an entry; empty for a told state.
 fn bytes_of<'a>(entry: EntryView<'a>) -> &'a [u8]
     ensures { result.now ≡ bytes_of (shown entry.entry) }
 {
@@ -35,7 +35,7 @@ fn bytes_of<'a>(entry: EntryView<'a>) -> &'a [u8]
     }
 }
 
-/// An entry as it is, or the send of its datagram by a station.
+/// An entry unchanged, or the send of its datagram by a station.
 fn shown_as<'a>(entry: EntryView<'a>, sender: Option<u16>) -> EntryView<'a>
     ensures { shown result ≡ shown_as (shown entry.entry) sender }
 {
@@ -49,7 +49,7 @@ fn shown_as<'a>(entry: EntryView<'a>, sender: Option<u16>) -> EntryView<'a>
     }
 }
 
-/// The send of a datagram that a log lacks.
+/// The slot of a missing send.
 fn made(lack: Lack) -> Slot
     ensures { result ≡ made lack }
 {
@@ -59,7 +59,7 @@ fn made(lack: Lack) -> Slot
     }
 }
 
-/// Adds the send that a log lacks, if it belongs at the start of the log.
+/// Appends a missing send if it belongs at the start of its log.
 fn push_first(slots: &mut Vec<Slot>, lack: Lack) -> Result<(), AllocError>
     ensures { OnOk result (slots.new.items ≡ slots.old.items ++ map made (filter is_first (lack ∷ []))) }
 {
@@ -69,7 +69,7 @@ fn push_first(slots: &mut Vec<Slot>, lack: Lack) -> Result<(), AllocError>
     Ok(())
 }
 
-/// The sends that belong at the starts of their logs.
+/// The missing sends that belong at the starts of their logs.
 fn slots_first(alloc: Global, lacks: &[Lack]) -> Result<Vec<Slot>, AllocError>
     ensures { IfOk result (λ slots. slots.items ≡ map made (filter is_first lacks.now)) }
 {
@@ -88,7 +88,7 @@ fn no_places(alloc: Global) -> Places
     Places::new(alloc)
 }
 
-/// Puts a send behind those that belong right after an entry.
+/// Appends a send to those right after an entry.
 fn put(alloc: Global, places: &mut Places, entry: usize, slot: Slot) -> Result<(), AllocError>
     ensures { OnOk result ((p : ℕ) → slots_after places.new p ≡ slots_after places.old p ++ (if entry == p then slot ∷ [] else [])) }
 {
@@ -96,7 +96,7 @@ fn put(alloc: Global, places: &mut Places, entry: usize, slot: Slot) -> Result<(
     Ok(())
 }
 
-/// Puts the send that a log lacks, if it belongs right after an entry.
+/// Adds a missing send if it belongs right after an entry.
 fn put_after(alloc: Global, places: &mut Places, lack: Lack) -> Result<(), AllocError>
     ensures { OnOk result ((p : ℕ) → slots_after places.new p ≡ slots_after places.old p ++ map made (filter (is_after p) (lack ∷ []))) }
 {
@@ -106,7 +106,7 @@ fn put_after(alloc: Global, places: &mut Places, lack: Lack) -> Result<(), Alloc
     Ok(())
 }
 
-/// The sends that belong right after each entry.
+/// The missing sends that belong right after each entry.
 fn places_of(alloc: Global, lacks: &[Lack]) -> Result<Places, AllocError>
     ensures { IfOk result (λ places. (p : ℕ) → slots_after places p ≡ map made (filter (is_after p) lacks.now)) }
 {
@@ -117,7 +117,7 @@ fn places_of(alloc: Global, lacks: &[Lack]) -> Result<Places, AllocError>
     Ok(places)
 }
 
-/// Adds an entry, and the sends that belong right after it.
+/// Appends an entry and the sends that belong right after it.
 #[tactic(auto, unfolding(crate::specs::Repair::slots_after))]
 fn add_entry(slots: &mut Vec<Slot>, places: &Places, entry: usize) -> Result<(), AllocError>
     ensures { OnOk result (slots.new.items ≡ slots.old.items ++ kept entry ∷ slots_after places.now entry) }
@@ -132,7 +132,7 @@ fn add_entry(slots: &mut Vec<Slot>, places: &Places, entry: usize) -> Result<(),
     Ok(())
 }
 
-/// The slots of so many entries, with the sends that their logs lack.
+/// The slots of a repaired log: this number of entries, and the missing sends.
 fn slots_of(alloc: Global, lacks: &[Lack], entries: usize) -> Result<Vec<Slot>, AllocError>
     ensures { IfOk result (λ slots. slots.items ≡ slots_below lacks.now entries) }
 {
@@ -145,7 +145,7 @@ fn slots_of(alloc: Global, lacks: &[Lack], entries: usize) -> Result<Vec<Slot>, 
 }
 
 /// A log with the sends that it lacks, each at its place: right after the request that it takes up,
-/// else at the start of the log of its station. It lends its entries from the log that it repairs.
+/// else at the start of its station's log. It borrows its entries from the original log.
 #[derive(Drop)]
 pub struct RepairedLog<'a, L: ExerciseLog> {
     log: &'a L,
@@ -164,8 +164,7 @@ impl<'a, L: ExerciseLog> Model for RepairedLog<'a, L> {
 }
 
 impl<'a, L: ExerciseLog> RepairedLog<'a, L> {
-    /// The log with the sends that it lacks, or `None` where it would have more than 1,048,576
-    /// entries.
+    /// The repaired log, or `None` if it would have more than 1,048,576 entries.
     pub fn of(
         alloc: Global,
         findings: &Findings<'a, L>,
@@ -179,7 +178,7 @@ impl<'a, L: ExerciseLog> RepairedLog<'a, L> {
         RepairedLog::with(alloc, findings, &lacks)
     }
 
-    /// The log with these sends, which are all that it lacks.
+    /// The repaired log, given all missing sends.
     #[tactic(auto, unfolding(crate::specs::Repair::repaired, crate::specs::Repair::is_too_long))]
     pub(crate) fn with(
         alloc: Global,

@@ -14,7 +14,7 @@ use dis_records::EntityState;
 use exercise_findings::Findings;
 use exercise_model::{Change, ExerciseLog, is_entity, listed_state, scope_has, state_made};
 
-/// What a change, if there is one, makes of the state of an entity.
+/// The state of an entity after a change, if there is one.
 fn changed(entity: u16, state: EntityState, change: Option<Change>) -> EntityState
     ensures { result ≡ option_map_or (changed entity state) change state }
 {
@@ -24,7 +24,7 @@ fn changed(entity: u16, state: EntityState, change: Option<Change>) -> EntitySta
     }
 }
 
-/// What an entry changes, where it is one of this station.
+/// The change that an entry makes, if it belongs to this station.
 fn own_change<L: ExerciseLog>(
     findings: &Findings<'_, L>,
     station: u16,
@@ -40,7 +40,7 @@ fn own_change<L: ExerciseLog>(
     }
 }
 
-/// Whether two states are the same.
+/// Whether two states are equal.
 fn is_same(next: EntityState, state: EntityState) -> bool
     ensures { result ≡ same_state next state }
 {
@@ -78,9 +78,9 @@ pub(crate) fn made_before<L: ExerciseLog>(
     (state, since)
 }
 
-/// The entry of the change that made the state which an entity of a station has before an entry: the last
-/// one that left it in another state than it had. `None` where it has the state of the start, and for a
-/// number that no entity has. It looks at each entry before, and takes no memory.
+/// The entry of the change that made an entity's state before an entry: the last one that altered
+/// the state. `None` if the entity still has its initial state, and for a number that no entity
+/// has. It scans all entries before, and takes no memory.
 pub fn made_since<L: ExerciseLog>(
     findings: &Findings<'_, L>,
     station: u16,

@@ -1,54 +1,54 @@
-//! What a step of a certificate contradicts, and where.
+//! Contradictions of a certificate's step, and where they are.
 
 use crate::clash::Clash;
 
-/// What a step of a certificate contradicts: the other side of the first cause against it. Steps and
-/// entries are named by their numbers, from 0.
+/// The other side of the first cause against a certificate's step. Steps and entries are named by
+/// their numbers, from 0.
 #[derive(Clone, Copy, PartialEq, Eq)]
 pub enum StepClash {
-    /// There are not as many steps as entries.
+    /// The numbers of steps and entries differ.
     CountDiffers {
-        /// How many steps there are.
+        /// Number of steps.
         steps: usize,
-        /// How many entries.
+        /// Number of entries.
         records: usize,
-        /// The least entry that no step names.
+        /// The lowest entry that no step names.
         missing: Option<usize>,
-        /// The least entry that two steps name.
+        /// The lowest entry that two steps name.
         twice: Option<usize>,
     },
-    /// It names an entry that is not there.
+    /// It names an entry that does not exist.
     NoSuchRecord {
         /// The number that it names.
         place: usize,
-        /// How many entries there are.
+        /// Number of entries.
         records: usize,
     },
     /// It names an entry that is not the next one of its station.
     OutOfOrder {
         /// The entry.
         place: usize,
-        /// The first step before that names it too.
+        /// The first earlier step that names it too.
         taken: Option<usize>,
-        /// The entry that its station is to do; `None` where the station is done.
+        /// The next entry of its station; `None` if the station is done.
         next: Option<usize>,
     },
-    /// Its event may happen, and its link is not the one that it should have.
+    /// Its event can happen next, but its link is wrong.
     BadLink {
         /// The entry that it names.
         place: usize,
-        /// The link that stands there; `None` where it is that of none.
+        /// Its link; `None` if it has none.
         link: Option<usize>,
-        /// The link that should stand there.
+        /// The right link; `None` if it should have none.
         right: Option<usize>,
     },
-    /// Its event may not happen.
+    /// Its event cannot happen next.
     Event {
         /// The entry that it names.
         entry: usize,
-        /// What that contradicts.
+        /// The contradiction.
         clash: Clash,
-        /// Of a datagram that was not sent so far, the first step that takes its source, too late.
+        /// For a datagram that was not sent yet, the first step that takes its source, too late.
         step: Option<usize>,
     },
 }

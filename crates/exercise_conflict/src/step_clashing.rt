@@ -1,4 +1,4 @@
-//! What a step of a certificate contradicts, read from the steps and the logs.
+//! Computes the contradiction of a certificate's step from the steps and the logs.
 
 ghost use Rattle.std.specs.Prelude.{◌≡◌, ◌<◌, ◌≤◌, length, slice_index_or, option_and_then, IfOk};
 ghost use Rattle.siman_pdus.specs.Reading.{pdu_of};
@@ -21,7 +21,7 @@ use exercise_model::{Cause, EntryView, ExerciseLog, meaning_view};
 use siman_pdus::PduView;
 use std::alloc::{AllocError, Global};
 
-/// An entry that is not the next one of its station: who took it, and what its station is to do.
+/// The contradiction of a step whose entry is not the next one of its station.
 fn disordered<L: ExerciseLog>(
     log: &L,
     steps: &[Step],
@@ -46,7 +46,7 @@ fn disordered<L: ExerciseLog>(
     })
 }
 
-/// The link that a step writes, if it writes one.
+/// The link that a step gives, if it gives one.
 fn link_given(link: u32) -> Option<usize>
     ensures { result ≡ link_given link }
 {
@@ -57,14 +57,15 @@ fn link_given(link: u32) -> Option<usize>
     }
 }
 
-/// Whether a PDU comes from a recorded station.
+/// Whether the sender of a PDU is a recorded station.
 fn is_recorded<L: ExerciseLog>(findings: &Findings<'_, L>, pdu: &PduView<'_>) -> bool
     ensures { result ≡ must_have_sent findings.now.setting (pdu_of pdu.now) }
 {
     sender_of(findings, pdu).is_some()
 }
 
-/// The entry that brought a datagram, in the order of the steps before.
+/// The source of a received PDU among the steps before: the first that sends its bytes, if its
+/// sender is recorded.
 fn sender_link<L: ExerciseLog>(
     findings: &Findings<'_, L>,
     bytes: &[u8],
@@ -80,7 +81,7 @@ fn sender_link<L: ExerciseLog>(
     }
 }
 
-/// The entry that brought a datagram that was received, in the order of the steps before.
+/// The source of a received datagram among the steps before.
 fn received_link<L: ExerciseLog>(
     findings: &Findings<'_, L>,
     bytes: &[u8],
@@ -94,7 +95,7 @@ fn received_link<L: ExerciseLog>(
     }
 }
 
-/// The link that a step should have which names an entry after the steps before it.
+/// The right link of a step that names this entry after the steps before it.
 #[tactic(auto, unfolding(crate::specs::StepClash::right_link))]
 fn right_link<L: ExerciseLog>(
     findings: &Findings<'_, L>,
@@ -114,7 +115,7 @@ fn right_link<L: ExerciseLog>(
     }
 }
 
-/// A link that is not the one that should stand there.
+/// The contradiction of a step with a wrong link.
 fn misled<L: ExerciseLog>(findings: &Findings<'_, L>, steps: &[Step], step: usize) -> StepClash
     requires { step < length steps.now }
     ensures { result ≡ misled findings.now steps.now step (slice_index_or steps.now step no_step) }
@@ -127,7 +128,7 @@ fn misled<L: ExerciseLog>(findings: &Findings<'_, L>, steps: &[Step], step: usiz
     }
 }
 
-/// The first step that takes the source of a datagram that was not sent so far.
+/// The first step that takes the source of a datagram that was not sent yet.
 fn too_late(steps: &[Step], clash: &Clash) -> Option<usize>
     ensures { result ≡ too_late steps.now clash.now }
 {
@@ -146,7 +147,7 @@ fn too_late(steps: &[Step], clash: &Clash) -> Option<usize>
     }
 }
 
-/// An event that may not happen.
+/// The contradiction of a step whose event cannot happen.
 fn barred<L: ExerciseLog>(
     findings: &Findings<'_, L>,
     steps: &[Step],
@@ -162,7 +163,7 @@ fn barred<L: ExerciseLog>(
     })
 }
 
-/// What a step contradicts that names an entry, for the first cause against it.
+/// The contradiction of a step, for the first cause against it.
 fn step_clash<L: ExerciseLog>(
     findings: &Findings<'_, L>,
     steps: &[Step],
@@ -184,8 +185,8 @@ fn step_clash<L: ExerciseLog>(
     }
 }
 
-/// What a step of a certificate contradicts, for the first cause against it that a check told. `None`
-/// past the last step, but for a wrong count. Only that takes memory.
+/// The contradiction of a certificate's step, for the first cause against it that a check found.
+/// `None` past the last step, unless the count is wrong. Only a wrong count takes memory.
 #[tactic(auto, unfolding(crate::specs::StepClash::step_clash_of))]
 pub fn step_clash_of<L: ExerciseLog>(
     alloc: Global,

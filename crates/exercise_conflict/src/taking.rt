@@ -1,4 +1,4 @@
-//! Which entries the steps of a certificate name, and which they should.
+//! The entries that the steps of a certificate name, and those that they should name.
 
 ghost use Rattle.std.specs.Prelude.{◌≡◌, ◌<◌, ◌≤◌, ◌+◌, ◌==◌, ◌&&◌, ℕ, false, length, nat_lt, slice_get, slice_index_or, is_some, IfOk, if◌then◌else◌};
 ghost use Rattle.std.specs.Option.{option_map_or};
@@ -14,7 +14,7 @@ use exercise_check::Step;
 use exercise_model::{EntryView, ExerciseLog};
 use std::alloc::{AllocError, Global};
 
-/// Counts one more at a place, if it is one of those that are counted.
+/// Adds one to the count at a place, if there is one.
 fn count_one(times: &mut Vec<usize>, place: usize)
     requires { (k : ℕ) → slice_index_or times.old.items k 0 < 18446744073709551615 }
     ensures count { length times.new.items ≡ length times.old.items }
@@ -25,7 +25,7 @@ fn count_one(times: &mut Vec<usize>, place: usize)
     }
 }
 
-/// How many steps name each of so many entries.
+/// For each entry, how many steps name it.
 fn times_taken(alloc: Global, steps: &[Step], entries: usize) -> Result<Vec<usize>, AllocError>
     ensures count { IfOk result (λ times. length times.items ≡ entries) }
     ensures each { IfOk result (λ times. (i : ℕ) → i < entries → slice_index_or times.items i 0 ≡ times_taken steps.now i) }
@@ -37,7 +37,7 @@ fn times_taken(alloc: Global, steps: &[Step], entries: usize) -> Result<Vec<usiz
     Ok(times)
 }
 
-/// Which of some numbers are 0.
+/// Test for counts of 0.
 #[derive(Drop)]
 struct AreZero<'a> {
     times: &'a [usize],
@@ -54,7 +54,7 @@ impl Question for AreZero<'_> {
     }
 }
 
-/// Which of some numbers are above 1.
+/// Test for counts above 1.
 #[derive(Drop)]
 struct AreAboveOne<'a> {
     times: &'a [usize],
@@ -71,7 +71,7 @@ impl Question for AreAboveOne<'_> {
     }
 }
 
-/// Which of so many entries the steps leave out, and which they name twice.
+/// The entries that the steps leave out, and those that they name twice.
 pub(crate) fn miscounted(
     alloc: Global,
     steps: &[Step],
@@ -88,7 +88,7 @@ pub(crate) fn miscounted(
     })
 }
 
-/// Which steps name an entry.
+/// Test for the steps that name an entry.
 #[derive(Drop)]
 pub(crate) struct Takes<'a> {
     pub steps: &'a [Step],
@@ -106,7 +106,7 @@ impl Question for Takes<'_> {
     }
 }
 
-/// Whether an entry is there and is one of a station.
+/// Whether an entry exists and belongs to a station.
 #[tactic(auto, unfolding(exercise_model::specs::Place::own_event))]
 fn is_own<L: ExerciseLog>(log: &L, entry: usize, station: u16) -> bool
     ensures { result ≡ is_some (own_event (L.recording log.now) station entry) }
@@ -114,7 +114,7 @@ fn is_own<L: ExerciseLog>(log: &L, entry: usize, station: u16) -> bool
     entry < log.entry_count() && log.entry(entry).station() == station
 }
 
-/// 1 where it is so, else 0.
+/// 1 if `holds`, else 0.
 fn one_if(holds: bool) -> usize
     ensures one { result ≡ (if holds then 1 else 0) }
     ensures few { result ≤ 1 }
@@ -122,7 +122,7 @@ fn one_if(holds: bool) -> usize
     if holds { 1 } else { 0 }
 }
 
-/// How many entries of a station the steps name.
+/// How many of a station's entries the steps name.
 fn count_done<L: ExerciseLog>(log: &L, before: &[Step], station: u16) -> usize
     ensures { result ≡ length (log_at station (order_of (L.recording log.now) before.now)) }
 {
@@ -133,14 +133,15 @@ fn count_done<L: ExerciseLog>(log: &L, before: &[Step], station: u16) -> usize
     done
 }
 
-/// Whether an entry is a station's own, and so many of its entries stand before it.
+/// Whether an entry belongs to the station and is the next one: its rank equals the number of
+/// entries done.
 fn is_here(own: bool, rank: usize, done: usize) -> bool
     ensures { result ≡ (own && (rank == done)) }
 {
     own && rank == done
 }
 
-/// The entry of a station before which so many of its entries stand.
+/// The entry of a station with this rank: `done` of its entries precede it.
 fn first_ranked<L: ExerciseLog>(log: &L, station: u16, done: usize) -> Option<usize>
     ensures { let r = L.recording log.now in result ≡ first_below (has_rank r station done) (length r.entries) }
 {
@@ -155,7 +156,7 @@ fn first_ranked<L: ExerciseLog>(log: &L, station: u16, done: usize) -> Option<us
     None
 }
 
-/// The entry that a station is to do after steps.
+/// The next entry of a station after these steps.
 pub(crate) fn due_after<L: ExerciseLog>(log: &L, before: &[Step], station: u16) -> Option<usize>
     ensures { result ≡ due_after (L.recording log.now) before.now station }
 {
@@ -163,7 +164,7 @@ pub(crate) fn due_after<L: ExerciseLog>(log: &L, before: &[Step], station: u16) 
     first_ranked(log, station, done)
 }
 
-/// Whether an entry is there and sends a datagram of these bytes.
+/// Whether an entry exists and sends a datagram of these bytes.
 fn sends_bytes<L: ExerciseLog>(log: &L, entry: usize, bytes: &[u8]) -> bool
     ensures { result ≡ option_map_or (λ e. sends bytes.now (event_of e)) (slice_get (L.recording log.now).entries entry) false }
 {

@@ -1,4 +1,4 @@
-//! An answer without a request: where its request stands after all.
+//! An answer without a request: where its request is found after all.
 
 ghost use Rattle.std.specs.Prelude.{◌≡◌, ◌<◌, ◌≤◌, length, option_map};
 ghost use Rattle.siman_pdus.specs.Reading.{pdu_of};
@@ -14,7 +14,7 @@ use exercise_findings::Findings;
 use exercise_model::{EntryView, ExerciseLog, is_asked, is_from, meaning_view};
 use siman_pdus::{PduView, is_request, is_under_identifier};
 
-/// What a station receives at an entry, if it receives something that is not "other".
+/// The PDU that a station receives at an entry, if it receives one that is not "other".
 #[tactic(auto, unfolding(exercise_model::specs::Place::own_event, crate::specs::Clash::got_pdu))]
 pub(crate) fn got_pdu<'a, L: ExerciseLog>(
     findings: &Findings<'a, L>,
@@ -37,7 +37,7 @@ pub(crate) fn got_pdu<'a, L: ExerciseLog>(
     }
 }
 
-/// Where a station receives a request that an answer could take up.
+/// Test for entries by which a station receives a request that an answer could take up.
 #[derive(Drop)]
 struct Brings<'a, L: ExerciseLog> {
     findings: &'a Findings<'a, L>,
@@ -58,7 +58,7 @@ impl<L: ExerciseLog> Question for Brings<'_, L> {
     }
 }
 
-/// Whether a PDU is a request under the identifier of an answer, from where the answer goes to.
+/// Whether a PDU is a request under the identifier of an answer, sent by the answer's receiver.
 fn is_asking(answer: &PduView<'_>, request: &PduView<'_>) -> bool
     ensures { result ≡ is_asking (pdu_of answer.now) (pdu_of request.now) }
 {
@@ -69,14 +69,14 @@ fn is_asking(answer: &PduView<'_>, request: &PduView<'_>) -> bool
         && asker.application == to.application
 }
 
-/// Whether it is one that does not address the station at an address.
+/// Whether it is such a request, but does not address the station at an address.
 fn is_overheard(address: Address, answer: &PduView<'_>, request: &PduView<'_>) -> bool
     ensures { result ≡ is_overheard address (pdu_of answer.now) (pdu_of request.now) }
 {
     is_asking(answer, request) && !addressed(request.target, address)
 }
 
-/// Where a station receives a request for an answer that does not address the station.
+/// Test for entries by which a station receives such a request that does not address it.
 #[derive(Drop)]
 struct Overhears<'a, L: ExerciseLog> {
     findings: &'a Findings<'a, L>,
@@ -98,7 +98,7 @@ impl<L: ExerciseLog> Question for Overhears<'_, L> {
     }
 }
 
-/// Where a request for an answer is sent, under the address of the station that sends it.
+/// Test for entries by which a station sends such a request, under its own address.
 #[derive(Drop)]
 struct Asks<'a, L: ExerciseLog> {
     findings: &'a Findings<'a, L>,
@@ -129,7 +129,7 @@ impl<L: ExerciseLog> Question for Asks<'_, L> {
     }
 }
 
-/// Whether an answer goes to the station at an address.
+/// Whether the receiver of an answer is the station at an address.
 fn goes_to(address: Address, answer: &PduView<'_>) -> bool
     ensures { result ≡ goes_to address (pdu_of answer.now) }
 {
@@ -137,7 +137,7 @@ fn goes_to(address: Address, answer: &PduView<'_>) -> bool
     to.site == address.site() && to.application == address.application()
 }
 
-/// The station that an answer goes to.
+/// The recorded station that an answer is sent to.
 #[tactic(auto, unfolding(exercise_model::specs::Account::sender_of), using(crate::proofs::Steps::question_steps))]
 fn asker_of<L: ExerciseLog>(findings: &Findings<'_, L>, answer: &PduView<'_>) -> Option<u16>
     ensures { result ≡ asker_of findings.now (pdu_of answer.now) }
@@ -150,8 +150,8 @@ fn asker_of<L: ExerciseLog>(findings: &Findings<'_, L>, answer: &PduView<'_>) ->
     None
 }
 
-/// Where a request for an answer is sent, which stands in the log of the station that the answer goes
-/// to.
+/// The first entry by which the receiver of an answer sends a request for it, under its own
+/// address.
 #[tactic(auto, using(crate::proofs::Asked::nobody_asks, crate::proofs::Asked::asker_asks))]
 fn asked_at<L: ExerciseLog>(logs: &Logs<'_, '_, L>, answer: &PduView<'_>) -> Option<usize>
     ensures { result ≡ first_below (asks_at logs.now (pdu_of answer.now)) (length logs.now.entries) }
@@ -164,7 +164,7 @@ fn asked_at<L: ExerciseLog>(logs: &Logs<'_, '_, L>, answer: &PduView<'_>) -> Opt
     }
 }
 
-/// Where the requests stand for which an answer was sent too early.
+/// The contradiction of an answer without a request: where requests for it are found.
 #[tactic(auto, unfolding(exercise_model::specs::Place::entry_taken_up), using(crate::proofs::Unowned::unowned_request, crate::proofs::Unowned::unowned_overheard))]
 pub(crate) fn unasked_for<L: ExerciseLog>(
     logs: &Logs<'_, '_, L>,

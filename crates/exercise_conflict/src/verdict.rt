@@ -16,35 +16,35 @@ use std::alloc::{AllocError, Global};
 /// Why a certificate is refused.
 #[derive(Clone, Copy, PartialEq, Eq)]
 pub struct Refusal {
-    /// The first bad step, from 0; 0 where the numbers of steps and entries differ.
+    /// The first bad step, from 0; 0 if the numbers of steps and entries differ.
     pub step: usize,
     /// The first cause against it.
     pub cause: Cause,
-    /// What it contradicts.
+    /// Its contradiction.
     pub clash: Option<StepClash>,
-    /// Whose fault it is: the certificate's where some run explains the recording.
+    /// What is at fault: the certificate if some run explains the recording.
     pub fault: Fault,
 }
 
-/// What is told of a recording with a certificate.
+/// Result of judging a certificate.
 #[derive(Drop)]
 pub enum Verdict {
-    /// The certificate is good, and this is the account of the recording.
+    /// The certificate is good; this is the account of the recording.
     Good(Account),
-    /// It is not.
+    /// The certificate is refused.
     Bad(Refusal),
 }
 
-/// Why a certificate is refused, if it is, and what was found in the log.
+/// Result of judging a certificate, with the findings of the recording.
 #[derive(Drop)]
 pub struct Judged<'a, L: ExerciseLog> {
-    /// Why; `None` where the certificate is good.
+    /// Why it is refused; `None` if it is good.
     pub refusal: Option<Refusal>,
-    /// What the log of each station says of its own entries.
+    /// The findings from each station's log about its own entries.
     pub findings: Findings<'a, L>,
 }
 
-/// Why a certificate is refused whose first bad step this is.
+/// The refusal of a certificate with this first bad step.
 fn refusal_of<'a, L: ExerciseLog>(
     alloc: Global,
     findings: Findings<'a, L>,
@@ -71,8 +71,8 @@ fn refusal_of<'a, L: ExerciseLog>(
     })
 }
 
-/// As [`verdict_of`], where what the log says is found already; it is given back, so that each datagram
-/// is looked at once for the check, the search and all that is told.
+/// As [`verdict_of`], but with existing findings, which are returned, so that each datagram is
+/// decoded once for the check, the search and the result.
 pub fn refusal_found<'a, L: ExerciseLog>(
     alloc: Global,
     findings: Findings<'a, L>,
@@ -92,9 +92,9 @@ pub fn refusal_found<'a, L: ExerciseLog>(
     }
 }
 
-/// Checks a certificate against the logs of an exercise, and where it is not good tells what its first
-/// bad step contradicts, and whose fault that is. It makes at most one search, and none where the logs
-/// say that no run explains them.
+/// Checks a certificate against the logs of an exercise. If it is not good, returns the
+/// contradiction of its first bad step and what is at fault. It makes at most one search, and none
+/// if the logs alone rule out a run.
 pub fn verdict_of<L: ExerciseLog>(
     alloc: Global,
     log: &L,

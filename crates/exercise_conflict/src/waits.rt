@@ -1,4 +1,4 @@
-//! Who waits on whom where nothing can go on.
+//! Waits between blocked stations.
 
 ghost use Rattle.std.specs.Prelude.{◌≡◌, IfOk};
 ghost use Rattle.exercise_conflict.specs.Waits.{block_of, wait_of, waits_of};
@@ -8,8 +8,8 @@ use exercise_findings::Findings;
 use exercise_model::{Cause, ExerciseLog};
 use std::alloc::{AllocError, Global};
 
-/// What a blocked station waits for. Stations are named by their indices in the recording, entries by
-/// their numbers, both from 0.
+/// A blocked station's wait for another. Stations are indices in the recording, entries are
+/// numbers, both from 0.
 #[derive(Clone, Copy)]
 pub struct Wait {
     /// Its next entry, which receives a datagram.
@@ -18,7 +18,7 @@ pub struct Wait {
     pub station: usize,
     /// The entry that sends that datagram.
     pub sent: usize,
-    /// The station of that entry, on which it waits.
+    /// The station of that entry, for which this one waits.
     pub on: usize,
     /// The next entry of that station, which is blocked too.
     pub next: usize,
@@ -37,8 +37,9 @@ fn block_of(blocks: &[Block], station: usize) -> Option<Block>
     None
 }
 
-/// What the station of a block waits for: the source of what it is to receive, where that was never
-/// sent and the station of the source has a block too. `None` for all else. It takes no memory.
+/// The wait of a blocked station: for the source of the datagram that its next entry receives, if
+/// the block's cause is `NeverSent` and the station of the source is blocked too. `None` otherwise.
+/// It takes no memory.
 #[tactic(auto, unfolding(crate::specs::Waits::wait_of))]
 pub fn wait_of<L: ExerciseLog>(
     findings: &Findings<'_, L>,
@@ -62,7 +63,7 @@ pub fn wait_of<L: ExerciseLog>(
     })
 }
 
-/// What the stations of a blocked list wait for, in its order.
+/// The waits of the stations of a blocked list, in its order.
 pub fn waits_of<L: ExerciseLog>(
     alloc: Global,
     findings: &Findings<'_, L>,

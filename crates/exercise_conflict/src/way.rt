@@ -1,4 +1,4 @@
-//! What each blocked station comes to, and what else stands beside a blocked list.
+//! The outcome for each blocked station, and further causes beside a blocked list.
 
 ghost use Rattle.std.specs.Prelude.{◌≡◌, ◌++◌, map, option_map, IfOk, OnOk};
 ghost use Rattle.std.specs.Option.{option_to_list};
@@ -17,32 +17,34 @@ use exercise_findings::Findings;
 use exercise_model::{Cause, ExerciseLog};
 use std::alloc::{AllocError, Global};
 
-/// What a blocked station comes to: it waits, or it contradicts something.
+/// Why a blocked station cannot go on: it waits for another, or its next entry contradicts
+/// something.
 #[derive(Clone, Copy)]
 pub enum Way {
-    /// It waits on a station that is blocked too.
+    /// It waits for a station that is blocked too.
     Waits(Wait),
-    /// It waits on nobody.
+    /// It waits for nobody.
     Clash {
         /// Its next entry.
         entry: usize,
-        /// What that contradicts.
+        /// The contradiction of that entry.
         clash: Clash,
-        /// Whether no further entry of any log mends it.
+        /// Whether no further entry of any log can resolve it.
         is_final: bool,
     },
 }
 
-/// An entry that has a cause against it by the log of its station, beside a blocked list.
+/// An entry that is not the next one of a blocked station, but has a cause against it in its own
+/// station's log.
 #[derive(Clone, Copy)]
 pub struct Also {
     /// The entry.
     pub entry: usize,
-    /// The first cause, which is not that a datagram was never sent.
+    /// The first cause, never `NeverSent`.
     pub cause: Cause,
 }
 
-/// Whether a cause stays whatever else happened.
+/// Whether a cause holds no matter which further entries there are.
 fn is_final(cause: Cause) -> bool
     ensures { result ≡ is_final cause }
 {
@@ -52,7 +54,7 @@ fn is_final(cause: Cause) -> bool
     )
 }
 
-/// As [`way_of`], where the logs are walked over as they were written down.
+/// As [`way_of`], with the tables of `logs`.
 #[tactic(auto, unfolding(crate::specs::Ways::way_of))]
 fn way_in<L: ExerciseLog>(logs: &Logs<'_, '_, L>, blocks: &[Block], block: Block) -> Option<Way>
     ensures { result ≡ way_of logs.now blocks.now block }
@@ -68,8 +70,8 @@ fn way_in<L: ExerciseLog>(logs: &Logs<'_, '_, L>, blocks: &[Block], block: Block
     })
 }
 
-/// What the station of a block comes to: its wait, else what its next entry contradicts. It takes no
-/// memory.
+/// Why the station of a block cannot go on: its wait, else the contradiction of its next entry. It
+/// takes no memory.
 pub fn way_of<L: ExerciseLog>(
     findings: &Findings<'_, L>,
     blocks: &[Block],
@@ -80,10 +82,10 @@ pub fn way_of<L: ExerciseLog>(
     way_in(&Logs::unwritten(findings), blocks, block)
 }
 
-/// So many stations that are to receive what was never sent are many.
+/// More than this many stations with a cause of `NeverSent` are many.
 const MANY: usize = 8;
 
-/// Whether many stations are to receive what was never sent.
+/// Whether many stations are blocked by `NeverSent`.
 fn lack_many(blocks: &[Block]) -> bool {
     let lacking = blocks
         .iter()
@@ -92,9 +94,9 @@ fn lack_many(blocks: &[Block]) -> bool {
     lacking > MANY
 }
 
-/// What the stations of a blocked list come to, in its order. How the entries of each station follow one
-/// another is written down first, so that all of them are walked over once; and what each sent first,
-/// where many are to receive what was never sent.
+/// Why each station of a blocked list cannot go on, in its order. The entries of each station are
+/// chained first, so that all walks together visit each entry once; first sends are indexed too if
+/// many stations are blocked by `NeverSent`.
 pub fn ways_of<L: ExerciseLog>(
     alloc: Global,
     findings: &Findings<'_, L>,
@@ -112,7 +114,7 @@ pub fn ways_of<L: ExerciseLog>(
     Ok(ways)
 }
 
-/// Adds the cycle at a station, if there is one.
+/// Appends the cycle at a station, if there is one.
 fn push_cycle(
     alloc: Global,
     cycles: &mut Vec<Vec<usize>>,
@@ -127,7 +129,7 @@ fn push_cycle(
     Ok(())
 }
 
-/// The cycles of a blocked list, by their least station.
+/// The cycles of a blocked list, by their lowest station.
 pub fn cycles_of<L: ExerciseLog>(
     alloc: Global,
     findings: &Findings<'_, L>,
@@ -143,7 +145,7 @@ pub fn cycles_of<L: ExerciseLog>(
     Ok(cycles)
 }
 
-/// Adds what stands against an entry, if something does.
+/// Appends the further cause against an entry, if any.
 fn push_also(also: &mut Vec<Also>, entry: usize, cause: Option<Cause>) -> Result<(), AllocError>
     ensures { OnOk result (also.new.items ≡ also.old.items ++ option_to_list (option_map (also_by entry) cause)) }
 {
@@ -153,7 +155,7 @@ fn push_also(also: &mut Vec<Also>, entry: usize, cause: Option<Cause>) -> Result
     Ok(())
 }
 
-/// What else stands against entries beside a blocked list, by rising entries.
+/// The further causes beside a blocked list, by rising entries.
 pub fn all_also<L: ExerciseLog>(
     alloc: Global,
     findings: &Findings<'_, L>,

@@ -1,4 +1,4 @@
--- The changes behind the Ables that stations receive: which entries have one, kept until all entries are known (profile).
+-- The changes behind received Ables: the entries that may have one, collected until all entries are known (profile).
 use Rattle.std.specs.Prelude.{◌≡◌, ◌<◌, ℕ, List, [], ◌∷◌, ◌==◌, All, Option, None, option_map, option_and_then, slice_get, if◌then◌else◌}
 use Rattle.std.specs.Option.{option_or}
 use Rattle.siman_pdus.specs.declared.pdu.Pdu.{Pdu}
@@ -15,26 +15,26 @@ use Rattle.exercise_findings.specs.Firsts.{acknowledged_key}
 abbrev pub able_key : Option ℕ → AcknowledgeKey → Option Key
 able_key sender k = option_map (λ t. acknowledged_key t able k) sender
 
--- what the change behind p is looked up by, where p is an Able Acknowledge of this sender
+-- look-up key of the change behind p, if p is an Able Acknowledge of this sender
 abbrev pub key_behind : Option ℕ → Pdu → Option Key
 key_behind sender p = if responds able p then option_and_then (able_key sender) (key_of p) else None
 
--- the same for an event that receives p
+-- look-up key of the change behind an event that receives an Able
 abbrev pub event_behind : PlainRecording → Event → Option Key
 event_behind r (Send s b) = None
 event_behind r (Get s b) = option_and_then (λ p. key_behind (sender_of r p) p) (meaning r.setting.exercise b)
 event_behind r (Tell s e y) = None
 
--- and for entry i
+-- look-up key of the change behind entry i
 unfoldable pub behind_at : PlainRecording → ℕ → Option Key
 behind_at r i = option_and_then (λ e. event_behind r (event_of e)) (slice_get r.entries i)
 
--- the same, where entry i is among those that are kept
+-- look-up key of the change behind entry i, if i is in the list
 abbrev pub kept_behind : PlainRecording → List ℕ → ℕ → Option Key
 kept_behind r [] i = None
 kept_behind r (x ∷ xs) i = option_or (kept_behind r xs i) (if x == i then behind_at r i else None)
 
--- THE TIE: only entries below n are kept, and each of them behind which there is something to look up
+-- THE TIE: the list holds only entries below n, and each that has a look-up key for the change behind it
 pub record AreBehind (r : PlainRecording) (n : ℕ) (ables : List ℕ) : Type 0 where
   pub within : All (λ x. x < n) ables
   pub kept : (i : ℕ) → i < n → kept_behind r ables i ≡ behind_at r i

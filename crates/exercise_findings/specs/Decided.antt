@@ -1,4 +1,4 @@
--- When two keys are the same, and two identifiers: where all their parts are.
+-- Equality of keys and of identifiers is equality of all their fields.
 use Rattle.std.proofs.Common.{◌≡◌, ℕ, Bool, refl, ap}
 use Rattle.std.specs.Prelude.{nat_eq, ◌&&◌}
 use Rattle.std.proofs.lemmas.Bool.Decides.{Decides-and, Decides-eqb, Decides-like}

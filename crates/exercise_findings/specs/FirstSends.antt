@@ -1,4 +1,4 @@
--- Which entry sent a datagram first, while a log is passed: kept in order, and under hashes as far as one had to be looked for among all (profile).
+-- The first send of each datagram, collected during a pass: listed in order, and hashed as far as a look-up among all required it (profile).
 use Rattle.std.specs.Prelude.{◌≡◌, ◌≤◌, ◌<◌, ℕ, List, true, Some, None, length, slice_get}
 use Rattle.exercise_model.specs.Recording.{PlainRecording}
 use Rattle.exercise_findings.specs.declared.first_sends.FirstSends.{FirstSends}
@@ -8,12 +8,12 @@ use Rattle.exercise_findings.specs.Hashed.{datagram_hash}
 use Rattle.exercise_findings.specs.Slots.{IsReached, Stands}
 use Rattle.exercise_findings.specs.Source.{is_source, source_at, first_source}
 
--- Entry e is a source, and the first below n of what it sends.
+-- Entry e sends from its own station, and is the first below n to send its bytes.
 pub record IsFirstSend (r : PlainRecording) (n e : ℕ) : Type 0 where
   pub source : source_at r e ≡ true
   pub first : (b : List ℕ) → is_source r b e ≡ true → first_source r b n ≡ Some e
 
--- THE TIE: the first entries below n that send each datagram from the station that it comes from stand in order, and nothing else does; the first so many of them are found under the hashes of what they send, and nothing else stands in slots
+-- THE TIE: the list holds exactly the first sends below n of each datagram by its originating station; the first `hashed` of them are found in the slots under the hashes of their bytes, and the slots hold nothing that is not in the list
 pub record AreFirstSends (r : PlainRecording) (n : ℕ) (s : FirstSends) : Type 0 where
   pub all : (b : List ℕ) (e : ℕ) → first_source r b n ≡ Some e → (i : ℕ) × (slice_get s.kept.order.items i ≡ Some e)
   pub each : (i e : ℕ) → slice_get s.kept.order.items i ≡ Some e → IsFirstSend r n e
@@ -22,7 +22,7 @@ pub record AreFirstSends (r : PlainRecording) (n : ℕ) (s : FirstSends) : Type 
       → IsReached s.kept.slots.slots (datagram_hash b) e
   pub only : (e : ℕ) → Stands s.kept.slots.slots e → (i : ℕ) × (slice_get s.kept.order.items i ≡ Some e)
 
--- what entry n sends from the station that it comes from was not sent before
+-- entry n sends a datagram that its originating station did not send before
 abbrev pub IsNewSend : PlainRecording → ℕ → Type 0
 IsNewSend r n = (b : List ℕ) → is_source r b n ≡ true → first_source r b n ≡ None
 

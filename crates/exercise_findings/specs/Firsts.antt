@@ -1,4 +1,4 @@
--- The first entry under each key: requests that a station received, and Ables and Unables that it sent (profile).
+-- The first entry under each key: of requests that a station received, and of Ables and Unables that it sent (profile).
 use Rattle.std.specs.Prelude.{◌≡◌, ℕ, Bool, false, ◌&&◌, ◌==◌, Option, Some, None, option_map, option_and_then, slice_get, if◌then◌else◌}
 use Rattle.std.specs.Option.{option_map_or}
 use Rattle.dis_records.specs.Address.{Pair}
@@ -16,7 +16,7 @@ use Rattle.exercise_findings.specs.declared.kept.Kept.{Kept}
 use Rattle.exercise_findings.specs.Hashed.{key_base, key_hash}
 use Rattle.exercise_findings.specs.Kept.{AreKept}
 
--- two keys are the same
+-- two keys are equal
 abbrev pub same_key : Key → Key → Bool
 same_key k l =
     (k.role == l.role) && ((k.response == l.response) && ((k.station == l.station) && ((k.flag == l.flag)
@@ -35,7 +35,7 @@ acknowledged_key s response k = record {
   entity = k.entity;
 }
 
--- the key of a request under an identifier from a site and application, at station s
+-- the key, at station s, of a request under an identifier from a site and application
 abbrev pub request_key : ℕ → ℕ → ℕ → ℕ → Key
 request_key s site application id = record {
   role = 0;
@@ -48,17 +48,17 @@ request_key s site application id = record {
   entity = 0;
 }
 
--- the key of p, which station s sends, where it is an Able or an Unable
+-- the key of p, sent by station s, if it is an Able or an Unable
 abbrev pub sent_key : ℕ → Pdu → Option Key
 sent_key s p = option_and_then (λ k.
     if responds able p then Some (acknowledged_key s able k)
     else (if responds unable p then Some (acknowledged_key s unable k) else None)) (key_of p)
 
--- what the keys of an answer of station s have in common, by their hashes
+-- the hash base of the keys of an answer of station s; 0 without a key
 abbrev pub answer_base : ℕ → Pdu → ℕ
 answer_base s p = option_map_or (λ k. key_base (acknowledged_key s able k)) (key_of p) 0
 
--- the key of q, which station s at a receives, where it is a request to it
+-- the key of q, received by station s at address a, if it is a request to it
 abbrev pub received_key : ℕ → Pair → Pdu → Option Key
 received_key s a q =
     if is_request_body q.body && is_addressed q.target a
@@ -87,10 +87,10 @@ has_key r k i = option_map_or (same_key k) (key_at r i) false
 unfoldable pub first_under : PlainRecording → Key → ℕ → Option ℕ
 first_under r k n = first_below (has_key r k) n
 
--- THE TIE: under each key the first entry below n is kept that has it
+-- THE TIE: the table holds, under each key, the first entry below n with that key
 abbrev pub AreFirsts : PlainRecording → ℕ → Kept → Type 0
 AreFirsts r n firsts = AreKept (has_key r) key_hash n firsts
 
--- this is the base of the key of entry n, if that has one
+-- base is the hash base of the key of entry n, if it has one
 abbrev pub IsBased : PlainRecording → ℕ → ℕ → Type 0
 IsBased r n base = (k : Key) → Some k ≡ key_at r n → base ≡ key_base k

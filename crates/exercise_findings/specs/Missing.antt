@@ -1,4 +1,4 @@
--- Datagrams that were received and that their senders' logs do not have (profile).
+-- Received datagrams that are missing in their senders' logs (profile).
 use Rattle.std.specs.Prelude.{ℕ, List, length, Bool, false, bytes_eq, Option, None, is_none, option_map, option_and_then, slice_get, if◌then◌else◌}
 use Rattle.std.specs.Option.{option_map_or}
 use Rattle.siman_pdus.specs.declared.pdu.Pdu.{Pdu}
@@ -11,7 +11,7 @@ use Rattle.exercise_model.specs.Account.{sender_of}
 use Rattle.exercise_findings.specs.Source.{source_of}
 use Rattle.exercise_findings.specs.declared.missing.Missing.{Missing}
 
--- an entry receives these bytes, at whatever station
+-- an entry receives these bytes, at any station
 abbrev pub got_bytes : List ℕ → Entry → Bool
 got_bytes b (Sent s stamp c) = false
 got_bytes b (Received s stamp c) = bytes_eq b c
@@ -31,7 +31,7 @@ missing_from r p t = record { sender = t; after = place_of r t p }
 abbrev pub missing_pdu : PlainRecording → Pdu → Option Missing
 missing_pdu r p = option_map (missing_from r p) (sender_of r p)
 
--- the bytes were received at no entry before
+-- no entry before i receives these bytes
 abbrev pub is_first_receipt : PlainRecording → ℕ → List ℕ → Bool
 is_first_receipt r i b = is_none (first_below (gets_bytes r b) i)
 
@@ -40,6 +40,6 @@ missing_entry r i (Sent s stamp b) = None
 missing_entry r i (Received s stamp b) = if is_first_receipt r i b then option_and_then (missing_pdu r) (meaning r.setting.exercise b) else None
 missing_entry r i (Told s e y) = None
 
--- WHAT IS MISSING BY ENTRY i: it is the first receipt of a datagram that comes from a recorded station, and no entry of that station sends it
+-- WHAT IS MISSING BY ENTRY i: i is the first receipt of a datagram from a recorded station, and no entry of that station sends it
 unfoldable pub missing_at : PlainRecording → ℕ → Option Missing
 missing_at r i = if is_none (source_of r i) then option_and_then (missing_entry r i) (slice_get r.entries i) else None

@@ -1,4 +1,4 @@
--- The requests that stations send under one request identifier, and what is kept of them (profile).
+-- The requests that a station sends under one request identifier, and their index (profile).
 use Rattle.std.specs.Prelude.{◌≡◌, ℕ, List, Bool, false, ◌&&◌, ◌==◌, Option, Some, None, is_some, option_map, option_and_then, slice_get, if◌then◌else◌}
 use Rattle.std.specs.Option.{option_map_or}
 use Rattle.indexmap.specs.IndexMap.{get}
@@ -15,15 +15,15 @@ use Rattle.exercise_findings.specs.declared.requests.Requests.{Requests}
 use Rattle.exercise_findings.specs.Hashed.{identifier_hash}
 use Rattle.exercise_findings.specs.Kept.{AreKept}
 
--- two identifiers are the same
+-- two identifiers are equal
 abbrev pub same_identifier : Identifier → Identifier → Bool
 same_identifier k l = (k.station == l.station) && (k.request == l.request)
 
--- the identifier under which station s sends p, where it is a request
+-- the identifier under which station s sends p, if it is a request
 abbrev pub identifier_of : ℕ → Pdu → Option Identifier
 identifier_of s p = if is_request_body p.body then option_map (λ id. record { station = s; request = id }) (request_id_of p.body) else None
 
--- p, where station s sends it as a request under this identifier
+-- p, if station s sends it as a request under this identifier
 abbrev pub request_under : Identifier → ℕ → Pdu → Option Pdu
 request_under k s p = if option_map_or (same_identifier k) (identifier_of s p) false then Some p else None
 
@@ -45,15 +45,15 @@ asks_at r k i = is_some (request_at r k i)
 unfoldable pub first_request : PlainRecording → Identifier → ℕ → Option ℕ
 first_request r k n = first_below (asks_at r k) n
 
--- below n the identifier is used for another order than that of entry j
+-- below n the identifier is used for a request other than that of entry j
 abbrev pub is_mixed : PlainRecording → Identifier → ℕ → ℕ → Bool
 is_mixed r k n j = option_map_or (λ f. is_reused r.setting.exercise f (log_before r k.station n)) (request_at r k j) false
 
--- below n the identifier is used for another order than that of its first request there
+-- below n the identifier is used for a request other than its first one there
 abbrev pub mixed_under : PlainRecording → Identifier → ℕ → Bool
 mixed_under r k n = option_map_or (is_mixed r k n) (first_request r k n) false
 
--- THE TIE: the first request under each identifier is kept, and the identifiers that are used for another order than that
+-- THE TIE: the index holds the first request under each identifier, and the identifiers that are used for any other request
 pub record AreRequests (r : PlainRecording) (n : ℕ) (requests : Requests) : Type 0 where
   pub firsts : AreKept (asks_at r) identifier_hash n requests.firsts
   pub mixed : (k : Identifier) → is_some (get same_identifier requests.mixed k) ≡ mixed_under r k n

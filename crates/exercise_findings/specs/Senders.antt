@@ -1,4 +1,4 @@
--- Which entry sent a datagram first, kept in a table (profile).
+-- Index of the first send of each datagram (profile).
 use Rattle.std.specs.Prelude.{◌≡◌, ℕ, List, Bool, true, false, slice_get}
 use Rattle.std.specs.Option.{option_map_or}
 use Rattle.exercise_model.specs.Recording.{PlainRecording}
@@ -14,7 +14,7 @@ use Rattle.exercise_findings.specs.Source.{is_source, source_at}
 abbrev pub sends_at : PlainRecording → List ℕ → ℕ → Bool
 sends_at r b j = option_map_or (λ e. sends b (event_of e)) (slice_get r.entries j) false
 
--- THE TIE: of the bytes of each datagram the first entry below n is kept that sends it from the station that it comes from
+-- THE TIE: for the bytes of each datagram, the table holds the first entry below n by which its originating station sends it
 pub record AreSenders (r : PlainRecording) (n : ℕ) (senders : Kept) : Type 0 where
   pub kept : AreKept (is_source r) datagram_hash n senders
   pub sources : (e : ℕ) → Stands senders.slots.slots e → source_at r e ≡ true

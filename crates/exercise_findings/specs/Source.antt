@@ -1,4 +1,4 @@
--- Where a datagram that was received comes from, read from each station's log alone (profile).
+-- The send of a receipt, read from the logs alone (profile).
 use Rattle.std.specs.Prelude.{ℕ, List, length, Bool, false, Option, None, option_and_then, slice_get}
 use Rattle.std.specs.Option.{option_map_or}
 use Rattle.siman_pdus.specs.declared.pdu.Pdu.{Pdu}
@@ -9,7 +9,7 @@ use Rattle.exercise_model.specs.Cause.{sends}
 use Rattle.exercise_model.specs.Place.{own_event, first_below}
 use Rattle.exercise_model.specs.Account.{sender_of}
 
--- entry j is one of station t, which sends a datagram of these bytes
+-- entry j belongs to station t and sends a datagram of these bytes
 abbrev pub sends_here : PlainRecording → List ℕ → ℕ → ℕ → Bool
 sends_here r b t j = option_map_or (sends b) (own_event r t j) false
 
@@ -17,7 +17,7 @@ sends_here r b t j = option_map_or (sends b) (own_event r t j) false
 unfoldable pub first_send : PlainRecording → List ℕ → ℕ → Option ℕ
 first_send r b t = first_below (sends_here r b t) (length r.entries)
 
--- where a datagram of these bytes comes from, which means p: the first entry of the recorded station that p comes from which sends the same bytes
+-- the source of a datagram of these bytes, which means p: the first entry of p's recorded sender that sends equal bytes
 abbrev pub source_of_pdu : PlainRecording → List ℕ → Pdu → Option ℕ
 source_of_pdu r b p = option_and_then (first_send r b) (sender_of r p)
 
@@ -29,13 +29,13 @@ source_of_entry r (Sent s stamp b) = None
 source_of_entry r (Received s stamp b) = source_of_bytes r b
 source_of_entry r (Told s e y) = None
 
--- THE SOURCE OF AN ENTRY: where it received what a recorded station sends, the first entry of that station with the same bytes
+-- THE SOURCE OF AN ENTRY: for a receipt from a recorded station, the first entry of that station that sends equal bytes
 unfoldable pub source_of : PlainRecording → ℕ → Option ℕ
 source_of r i = option_and_then (source_of_entry r) (slice_get r.entries i)
 
--- ---- how it is looked up
+-- ---- look-up
 
--- entry j sends a datagram of these bytes, and is of the station that they come from
+-- entry j sends a datagram of these bytes, and belongs to its originating station
 abbrev pub is_source : PlainRecording → List ℕ → ℕ → Bool
 is_source r b j = option_map_or (λ p. option_map_or (λ t. sends_here r b t j) (sender_of r p) false) (meaning r.setting.exercise b) false
 
@@ -43,7 +43,7 @@ is_source r b j = option_map_or (λ p. option_map_or (λ t. sends_here r b t j) 
 unfoldable pub first_source : PlainRecording → List ℕ → ℕ → Option ℕ
 first_source r b n = first_below (is_source r b) n
 
--- an entry sends what comes from its own station
+-- an entry sends a datagram that originates from its own station
 abbrev pub source_by : PlainRecording → ℕ → Entry → Bool
 source_by r j (Sent s stamp b) = is_source r b j
 source_by r j (Received s stamp b) = false

@@ -1,4 +1,4 @@
--- The state of an entity at a place of the log of its station (profile, over IEEE 1278.1-2012, 5.6.5).
+-- The state of an entity at a place of its station's log (profile, over IEEE 1278.1-2012, 5.6.5).
 use Rattle.std.specs.Prelude.{ℕ}
 use Rattle.dis_records.specs.declared.entity_state.EntityState.{EntityState}
 use Rattle.exercise_model.specs.Recording.{PlainRecording}

@@ -1,4 +1,4 @@
--- The states of the entities of a station so far: those set one by one in pages of 256, the changes of all beside them (profile).
+-- The current states of a station's entities: those set singly in pages of 256, the changes of all entities beside them (profile).
 use Rattle.std.specs.Prelude.{◌≡◌, ◌≢◌, ◌⊎◌, ℕ, ◌≤◌, ◌/◌, ◌%◌, List, length, Bool, false, nat_lt, Option, Some, None, IfSome, Vec, slice_get, option_and_then, if◌then◌else◌}
 use Rattle.std.specs.Option.{option_map_or}
 use Rattle.std.specs.declared.alloc.Global.{Global}
@@ -12,52 +12,52 @@ use Rattle.exercise_model.specs.Place.{log_before}
 use Rattle.exercise_findings.specs.declared.states.Held.{Held}
 use Rattle.exercise_findings.specs.declared.states.States.{States}
 
--- what is kept of entity e by itself: at place e % 256 of page e / 256
+-- the record of entity e, if it was set singly: at place e % 256 of page e / 256
 unfoldable pub held_at : List (Vec Held Global) → ℕ → Option Held
 held_at pages e = option_and_then (λ page. slice_get page.items (e % 256)) (slice_get pages (e / 256))
 
--- The state of an entity of which this is kept, by what was done to all since: they were made alike, or those that are there were moved.
+-- The state of an entity with a record of its own, given the later changes of all entities: all were set to one state, or those that were present were.
 abbrev pub state_of_held : States → Held → EntityState
 state_of_held t h = if nat_lt h.since t.alike then t.rest else (if is_absent h.state then Absent else (if nat_lt h.since t.moved then t.moved_to else h.state))
 
--- the state of an entity of which this is kept, or nothing
+-- the state of an entity with or without a record of its own
 abbrev pub state_by : States → Option Held → EntityState
 state_by t o = option_map_or (state_of_held t) o t.rest
 
--- THE STATE OF NUMBER e as it is kept
+-- THE STATE UNDER NUMBER e in the table
 unfoldable pub state_in : States → ℕ → EntityState
 state_in t e = state_by t (held_at t.pages.items e)
 
--- something is kept of a page's entities
+-- a page has records of its entities
 abbrev pub has_page : List (Vec Held Global) → ℕ → Bool
 has_page pages page = option_map_or (λ p. nat_lt 0 (length p.items)) (slice_get pages page) false
 
--- the state of number e, Absent for what is no entity
+-- the state under number e, Absent if no entity can have that number
 abbrev pub known_in : States → ℕ → EntityState
 known_in t e = if is_entity e then state_in t e else Absent
 
--- Nothing that is kept was made by a change with a number above n; all were last moved to a state of entities that are there.
+-- No record was made by a change with a number above n; the last change of all present entities made them present still.
 pub record AreUpTo (n : ℕ) (t : States) : Type 0 where
   pub alike : t.alike ≤ n
   pub moved : t.moved ≤ n
   pub moved_to : is_absent t.moved_to ≡ false
   pub held : (e : ℕ) → IfSome (held_at t.pages.items e) (λ h. h.since ≤ n)
 
--- what is kept at a place stays, or the filler came to where nothing was
+-- the record at a place is unchanged, or it is the filler if there was none
 abbrev pub IsKept : Held → Option Held → Option Held → Type 0
 IsKept filler before after = (after ≡ before) ⊎ ((before ≡ None) × (after ≡ Some filler))
 
--- a page after this was put at a place
+-- a page after a record was put at a place
 pub record IsPut (filler : Held) (place : ℕ) (held : Held) (old new : List Held) : Type 0 where
   pub here : slice_get new place ≡ Some held
   pub others : (i : ℕ) → i ≢ place → IsKept filler (slice_get old i) (slice_get new i)
 
--- the states of station s after the entries below n; the change of entry j has the number j + 1, and 0 stands for the opening
+-- the states of station s after the entries below n; the change of entry j has the number j + 1, and 0 is the opening
 pub record AreStatesOf (r : PlainRecording) (n s : ℕ) (t : States) : Type 0 where
   pub up_to : AreUpTo n t
   pub states : (e : ℕ) → state_in t e ≡ entity_state r.setting.exercise (station_at r s) (log_before r s n) e
 
--- THE TIE: the first so many stations have their states after the entries below n
+-- THE TIE: there is one table for each of the first `stations` stations, with their states after the entries below n
 pub record AreStatesBelow (r : PlainRecording) (n stations : ℕ) (ts : List States) : Type 0 where
   pub count : length ts ≡ stations
   pub each : (s : ℕ) → IfSome (slice_get ts s) (AreStatesOf r n s)

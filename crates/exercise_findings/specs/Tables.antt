@@ -1,4 +1,4 @@
--- What a pass over a log finds, entry by entry, and how it is kept (profile).
+-- Findings of a pass over a log, entry by entry, and their tables (profile).
 use Rattle.std.specs.Prelude.{◌≡◌, ◌≤◌, ℕ, Bool, true, false, [], length, take, slice_get, Option, None, IfSome, IfNone, option_and_then}
 use Rattle.std.specs.Option.{option_map_or}
 use Rattle.exercise_model.specs.declared.cause.Cause.{Cause}
@@ -29,7 +29,7 @@ pub record AreTied (r : PlainRecording) (n : ℕ) (t : Tables) : Type 0 where
   pub firsts : AreFirsts r n t.firsts
   pub states : AreStates r n t.states.items
 
--- The first cause that the log of its station has against the event of entry j: all but whether a datagram that was received was sent before, which it judges as if nothing had been.
+-- The first cause that its station's log shows against the event of entry j, where a receipt is judged as if nothing had been sent before.
 abbrev pub event_own_cause : PlainRecording → ℕ → Event → Option Cause
 event_own_cause r j (Send s b) = option_and_then (send_cause r.setting.exercise (station_at r s) (log_before r s j)) (meaning r.setting.exercise b)
 event_own_cause r j (Get s b) = cause_of r.setting [] (Get s b)
@@ -41,7 +41,7 @@ own_cause r j = option_and_then (λ e. event_own_cause r j (event_of e)) (slice_
 abbrev pub IsOwnCause : PlainRecording → ℕ → Option Cause → Type 0
 IsOwnCause r j cause = cause ≡ own_cause r j
 
--- a number that stands for what entry j changes
+-- the number encodes the change of entry j
 abbrev pub IsChangeAt : PlainRecording → ℕ → ℕ → Type 0
 IsChangeAt r j number = change_in number ≡ change_at r j
 
@@ -49,7 +49,7 @@ IsChangeAt r j number = change_in number ≡ change_at r j
 unfoldable pub other_at : PlainRecording → ℕ → Bool
 other_at r j = option_map_or (is_other r.setting.exercise) (slice_get r.entries j) false
 
--- What entry n is found to be
+-- The findings about entry n
 pub record IsFound (r : PlainRecording) (n : ℕ) (f : Found) : Type 0 where
   pub cause : f.cause ≡ own_cause r n
   pub pair : f.pair ≡ pair_of r n

@@ -1,12 +1,12 @@
-//! The account of a recording: what it says of itself.
+//! The account of a recording: its summary, read from the logs alone.
 
 use crate::earlier::request_in;
 use crate::number::entry_of;
 use dis_records::EntityState;
 use std::marker::Model;
 
-/// The account of a recording. It is read from each station's log alone, so each run that explains
-/// the recording says the same, and every good certificate gives the same.
+/// The account of a recording. It is read from each station's log alone, so every run that explains
+/// the recording, and every good certificate, gives an equal account.
 #[derive(Drop)]
 pub struct Account {
     states: Vec<Vec<(u16, EntityState)>>,
@@ -32,7 +32,7 @@ impl Account {
     ghost use Rattle.exercise_findings.specs.Number.{entry_of};
     ghost use Rattle.exercise_findings.specs.Earlier.{request_in};
 
-    /// What these parts say, entries as numbers.
+    /// An account of these parts, with entries as numbers.
     pub(crate) fn of(
         states: Vec<Vec<(u16, EntityState)>>,
         earlier: Vec<u32>,
@@ -49,8 +49,8 @@ impl Account {
         }
     }
 
-    /// The entities of the station of an index, from 0, that are not Absent at the end,
-    /// by rising numbers, with their states; none past the last station. It takes no memory.
+    /// The entities of a station (an index from 0) that are not Absent at the end, by rising entity
+    /// numbers, with their states; empty past the last station. It takes no memory.
     pub fn states(&self, station: usize) -> &[(u16, EntityState)]
         ensures { result.now ≡ slice_index_or self.now.states station [] }
     {
@@ -60,8 +60,8 @@ impl Account {
         }
     }
 
-    /// For an answer that was sent, the entry of the request that it takes up; `None` for all else
-    /// and past the last entry. It takes no memory.
+    /// For a sent answer, the entry of the request that it takes up; `None` for any other entry and
+    /// past the last entry. It takes no memory.
     pub fn pair(&self, entry: usize) -> Option<u32>
         ensures { result ≡ slice_index_or self.now.pairs entry None }
     {
@@ -71,8 +71,8 @@ impl Account {
         }
     }
 
-    /// For an Able Acknowledge that was received, the entry of the first Able that its originator's
-    /// station sent under its key: the Change that it tells of. `None` for all else and past the last
+    /// For a received Able Acknowledge, the entry of the first Able that its originator's station
+    /// sent under its key: the change that it reports. `None` for any other entry and past the last
     /// entry. It takes no memory.
     pub fn cause(&self, entry: usize) -> Option<u32>
         ensures { result ≡ slice_index_or self.now.causes entry None }
@@ -83,7 +83,7 @@ impl Account {
         }
     }
 
-    /// How many datagrams are "other". It takes no memory.
+    /// Number of "other" datagrams. It takes no memory.
     pub fn others(&self) -> u32
         ensures { result ≡ self.now.others }
     {

@@ -1,4 +1,4 @@
-//! What a recording says, read from each station's log alone.
+//! Builds the account of a recording from the findings of a pass.
 
 ghost use Rattle.std.specs.Prelude.{◌≡◌, length, map, IfOk};
 ghost use Rattle.exercise_model.specs.Account.{change_behind, entities_of, values_below};
@@ -16,7 +16,7 @@ use dis_records::EntityState;
 use exercise_model::ExerciseLog;
 use std::alloc::{AllocError, Global};
 
-/// The entities of each station that are not Absent after its log.
+/// For each station, its entities that are not Absent after its log.
 #[tactic(auto, using(exercise_model::proofs::Offered::account_steps))]
 pub(crate) fn states<L: ExerciseLog>(
     alloc: Global,
@@ -33,7 +33,8 @@ pub(crate) fn states<L: ExerciseLog>(
     Ok(states)
 }
 
-/// The states at the end, and the number of the change behind each entry.
+/// The final states of each station's entities, and for each entry the number of the change behind
+/// it.
 fn states_and_changes<L: ExerciseLog>(
     alloc: Global,
     log: &L,
@@ -54,7 +55,7 @@ fn states_and_changes<L: ExerciseLog>(
     Ok((states, changes))
 }
 
-/// What a recording says, of which this was found.
+/// The account of a recording, given the result of the pass over it.
 pub(crate) fn account<L: ExerciseLog>(
     alloc: Global,
     log: &L,

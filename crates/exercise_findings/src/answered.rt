@@ -1,6 +1,8 @@
-//! Which requests were taken up so far. An answer that is the first to take up its request is new: what
-//! was sent before with the same bytes took up the same request, or came before it and took up none. Of
-//! an answer that has a key, the key says so already: it is not marked what such an answer takes up.
+//! Which requests were taken up so far.
+//!
+//! The first answer that takes up a request is a new datagram: an earlier send of equal bytes
+//! either took up that request too, or preceded it and took up none. For an answer with a key, the
+//! table of keys already shows whether it is new, so only answers without a key are marked here.
 
 ghost use Rattle.std.specs.Prelude.{◌≡◌, ◌<◌, ◌≤◌, ◌+◌, ℕ, true, None, Some, length, set, slice_get, OnOk, IfOk};
 ghost use Rattle.exercise_model.specs.Account.{pair_of};
@@ -12,17 +14,17 @@ use crate::key::Key;
 use exercise_model::ExerciseLog;
 use std::alloc::{AllocError, Global};
 
-/// What is kept of the answers that were sent so far.
+/// Marks for the answers sent so far.
 #[derive(Drop)]
 pub(crate) struct Answered {
-    /// Of each entry whether an answer without a key took up the request that it received. It is empty
+    /// For each entry, whether an answer without a key took up the request received there. Empty
     /// before the first such answer.
     pub taken: Vec<bool>,
     /// Whether an answer was sent that takes up no request.
     pub unasked: bool,
 }
 
-/// Nothing is answered before the first entry. It takes no memory.
+/// The marks before the first entry: none. It takes no memory.
 pub(crate) fn none_answered<L: ExerciseLog>(alloc: Global, log: &L) -> Answered
     ensures { AreAnswered (L.recording log.now) 0 result }
 {
@@ -33,7 +35,7 @@ pub(crate) fn none_answered<L: ExerciseLog>(alloc: Global, log: &L) -> Answered
     }
 }
 
-/// Makes room for the marks of so many entries. What is marked stays.
+/// Extends the marks to this number of entries; existing marks are preserved.
 fn make_room(taken: &mut Vec<bool>, entries: usize) -> Result<(), AllocError>
     requires { length taken.old.items ≤ entries }
     ensures room { OnOk result (length taken.new.items ≡ entries) }
@@ -42,7 +44,7 @@ fn make_room(taken: &mut Vec<bool>, entries: usize) -> Result<(), AllocError>
     taken.resize(entries, false)
 }
 
-/// Marks an entry whose request is taken up, and tells whether it was marked.
+/// Marks a request as taken up; returns whether it already was.
 fn mark(taken: &mut Vec<bool>, request: usize) -> bool
     requires { request < length taken.old.items }
     ensures before { slice_get taken.old.items request ≡ Some result }
@@ -53,7 +55,8 @@ fn mark(taken: &mut Vec<bool>, request: usize) -> bool
     was_taken
 }
 
-/// Keeps what the next entry takes up, which has no key, and tells whether it is the first to take it up.
+/// Records which request the next entry, which has no key, takes up. Returns whether it is known to
+/// be the first to take up that request.
 fn note_pair<L: ExerciseLog>(
     answered: &mut Answered,
     log: &L,
@@ -79,8 +82,9 @@ fn note_pair<L: ExerciseLog>(
     }
 }
 
-/// Keeps what the next entry takes up, or that it is an answer that takes up nothing, and tells whether
-/// it is known to send a new datagram: one that is the first to take up its request.
+/// Records which request the next entry takes up, or that it is an answer without a request.
+/// Returns whether it is known to send a new datagram, as the first answer without a key to take up
+/// its request.
 pub(crate) fn note_answer<L: ExerciseLog>(
     answered: &mut Answered,
     log: &L,

@@ -1,6 +1,6 @@
-//! The changes behind the Ables that stations receive. Which entries have one is kept in the pass over
-//! the log, as their numbers alone. Once all entries are known, what each change is looked up by is read
-//! from the log again, and it is looked up.
+//! The changes behind received Able Acknowledges. The pass over the log only collects the numbers
+//! of the entries that may have one. When all entries are known, the key of each change is read
+//! from the log again and looked up.
 
 ghost use Rattle.std.specs.Prelude.{◌≡◌, ◌<◌, ◌+◌, length, OnOk, IfOk};
 ghost use Rattle.siman_pdus.specs.Reading.{pdu_of};
@@ -20,7 +20,7 @@ use exercise_model::{EntryView, ExerciseLog, key_of, meaning_view, responds};
 use siman_pdus::{ABLE, PduView};
 use std::alloc::{AllocError, Global};
 
-/// What the change behind a PDU is looked up by, where it is an Able Acknowledge of this sender.
+/// The look-up key of the change behind a PDU, if that is an Able Acknowledge of this sender.
 pub(crate) fn key_behind(sender: Option<u16>, pdu: &PduView<'_>) -> Option<Key>
     ensures { result ≡ key_behind sender (pdu_of pdu.now) }
 {
@@ -33,7 +33,7 @@ pub(crate) fn key_behind(sender: Option<u16>, pdu: &PduView<'_>) -> Option<Key>
     }
 }
 
-/// What the change behind an entry is looked up by, where there is one.
+/// The look-up key of the change behind an entry, if it has one.
 #[tactic(auto, unfolding(crate::specs::Behind::behind_at))]
 fn key_behind_at<L: ExerciseLog>(log: &L, places: &Places, entry: usize) -> Option<Key>
     requires { entry < length (L.recording log.now).entries }
@@ -48,7 +48,7 @@ fn key_behind_at<L: ExerciseLog>(log: &L, places: &Places, entry: usize) -> Opti
     }
 }
 
-/// Keeps the next entry, where there is something that the change behind it is looked up by.
+/// Adds the next entry to `ables` if it has a key for the change behind it.
 pub(crate) fn note_behind<L: ExerciseLog>(
     ables: &mut Vec<u32>,
     log: &L,
@@ -70,7 +70,7 @@ pub(crate) fn note_behind<L: ExerciseLog>(
     }
 }
 
-/// The number of the change behind each entry.
+/// For each entry, the number of the change behind it.
 pub(crate) fn changes_behind<L: ExerciseLog>(
     alloc: Global,
     log: &L,

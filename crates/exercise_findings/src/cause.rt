@@ -1,4 +1,4 @@
-//! Why the event of an entry may not happen, as far as its station's log says.
+//! Causes why the event of an entry cannot happen, as far as its own station's log shows.
 
 ghost use Rattle.std.specs.Prelude.{◌≡◌, ◌<◌, ◌≤◌, ◌&&◌, ℕ, List, [], length, option_map, IsTrue};
 ghost use Rattle.siman_pdus.specs.Answers.{is_answer_to};
@@ -24,7 +24,7 @@ use exercise_model::{Cause, Change, ExerciseLog, Form, is_answer, is_entity, key
 use siman_pdus::{ABLE, PduView, UNABLE, answers};
 
 /// Whether a PDU that a station sends at an entry is an Able after an Unable under its key, or an
-/// Unable after an Able. The keys of both have this base.
+/// Unable after an Able. `base` is the hash base of both keys.
 #[tactic(auto, unfolding(exercise_model::specs::Cause::is_changed_answer))]
 fn is_changed_answer<L: ExerciseLog>(
     log: &L,
@@ -51,7 +51,7 @@ fn is_changed_answer<L: ExerciseLog>(
     }
 }
 
-/// Whether an entity in a state stands against being changed so.
+/// Whether the state of an entity rules out a request of this kind.
 fn is_hopeless_for(kind: Kind, entity: u16, state: EntityState) -> bool
     ensures { result ≡ is_hopeless_for kind entity state }
 {
@@ -62,7 +62,7 @@ fn is_hopeless_for(kind: Kind, entity: u16, state: EntityState) -> bool
     }
 }
 
-/// Whether a change can't be made at an entry of a station.
+/// Whether a change is impossible at an entry of a station.
 fn is_hopeless<L: ExerciseLog>(
     log: &L,
     tables: &Tables,
@@ -84,8 +84,8 @@ fn is_hopeless<L: ExerciseLog>(
     }
 }
 
-/// Whether a PDU that a station sends at an entry would be a change, which is the first Able under its
-/// key or not, and one that can't be made of the request that it answers.
+/// Whether a PDU that a station sends at an entry claims an impossible change of the request that
+/// it answers. `first`: whether it is the first Able under its key.
 #[tactic(auto, unfolding(exercise_model::specs::Cause::is_impossible))]
 fn is_impossible<L: ExerciseLog>(
     log: &L,
@@ -106,9 +106,10 @@ fn is_impossible<L: ExerciseLog>(
     first && is_hopeless(log, tables, station, before, Change::of(pdu, request))
 }
 
-/// The first cause against a PDU that a station sends at an entry, which comes from that station or
-/// not: a request that reuses its identifier or not, or an answer that takes up this request, if there
-/// is one, and is the first Able under its key or not. The keys of an answer have this base.
+/// The first cause against a PDU that a station sends at an entry. `base`: the hash base of an
+/// answer's keys; `from`: whether its sender is that station; `reused`: whether it is a request
+/// that reuses its identifier; `first`: whether it is the first Able under its key; `taken`: the
+/// request that an answer takes up, with its entry.
 #[tactic(auto, unfolding(exercise_model::specs::Cause::send_cause))]
 pub(crate) fn judge_sent<L: ExerciseLog>(
     log: &L,
@@ -155,8 +156,8 @@ pub(crate) fn judge_sent<L: ExerciseLog>(
     }
 }
 
-/// The first cause against a PDU that a station receives in a recording of this form, from a
-/// recorded station or not, as if nothing had been sent before.
+/// The first cause against a received PDU if nothing was sent before, given the form of the
+/// recording and whether the sender is a recorded station.
 #[tactic(auto, unfolding(exercise_model::specs::Cause::get_cause, exercise_model::specs::Cause::was_sent, exercise_model::specs::Setting::may_be_heard))]
 pub(crate) fn judge_unsent(form: Form, recorded: bool) -> Option<Cause>
     ensures { (w : SettingData) (b : List ℕ) (p : Pdu) → form ≡ w.form → recorded ≡ is_recorded w p → result ≡ get_cause w [] b p }
@@ -170,7 +171,7 @@ pub(crate) fn judge_unsent(form: Form, recorded: bool) -> Option<Cause>
     }
 }
 
-/// The first cause against a state that a station tells at an entry.
+/// The first cause against a state told by a station at an entry.
 pub(crate) fn judge_told<L: ExerciseLog>(
     log: &L,
     tables: &Tables,

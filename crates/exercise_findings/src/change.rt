@@ -1,4 +1,4 @@
-//! What a station sent under one key before an entry.
+//! Look-ups of earlier Acknowledges of a station by key.
 
 ghost use Rattle.std.specs.Prelude.{◌≡◌, ◌<◌, true, length, option_map, option_and_then};
 ghost use Rattle.siman_pdus.specs.Reading.{pdu_of};
@@ -13,7 +13,8 @@ use crate::key::acknowledged_key;
 use exercise_model::{AcknowledgeKey, EntryView, ExerciseLog, key_of, meaning_again, responds};
 use siman_pdus::{ABLE, PduView, UNABLE};
 
-/// What a station sends by an entry whose datagram is known to mean something, if it sends it.
+/// The PDU that a station sends at an entry, whose datagram must mean something; `None` if the
+/// entry is not a send of that station.
 #[tactic(auto, unfolding(exercise_model::specs::Place::own_event, crate::specs::Sent::is_meant), using(crate::proofs::Meant::meant_within))]
 pub(crate) fn sent_by<L: ExerciseLog>(log: &L, station: u16, entry: usize) -> Option<PduView<'_>>
     requires { is_meant (L.recording log.now) entry ≡ true }
@@ -29,7 +30,7 @@ pub(crate) fn sent_by<L: ExerciseLog>(log: &L, station: u16, entry: usize) -> Op
     }
 }
 
-/// Whether a station sent, before an entry, an Able under this key, which has this base.
+/// Whether a station sent an Able under this key before an entry. `base` is the key's hash base.
 #[tactic(auto, using(crate::proofs::Keyed::key_steps))]
 pub(crate) fn was_able<L: ExerciseLog>(
     log: &L,
@@ -48,7 +49,7 @@ pub(crate) fn was_able<L: ExerciseLog>(
     first_under(firsts, log, &key, base, before).is_some()
 }
 
-/// Whether a station sent, before an entry, an Unable under this key, which has this base.
+/// Whether a station sent an Unable under this key before an entry. `base` is the key's hash base.
 #[tactic(auto, using(crate::proofs::Keyed::key_steps))]
 pub(crate) fn was_unable<L: ExerciseLog>(
     log: &L,
@@ -67,7 +68,8 @@ pub(crate) fn was_unable<L: ExerciseLog>(
     first_under(firsts, log, &key, base, before).is_some()
 }
 
-/// Whether a PDU that a station sends at an entry is the first Able under its key, which has this base.
+/// Whether a PDU that a station sends at an entry is the first Able under its key. `base` is the
+/// key's hash base.
 #[tactic(auto, unfolding(exercise_model::specs::Change::is_change))]
 pub(crate) fn is_change<L: ExerciseLog>(
     log: &L,

@@ -1,5 +1,5 @@
-//! Changes as numbers of 32 bits, one of which stands for none: so a column keeps each in four bytes.
-//! The number of a change is that of its kind times 2^17, and that of its scope.
+//! Changes encoded as 32-bit numbers, four bytes each in a column: the PDU type of the kind times
+//! 2^17, plus the number of the scope.
 
 ghost use Rattle.std.specs.Prelude.{◌≡◌, ◌<◌};
 ghost use Rattle.exercise_findings.specs.ChangeNumber.{scope_in, change_in};
@@ -7,16 +7,16 @@ ghost use Rattle.exercise_findings.specs.ChangeNumber.{scope_in, change_in};
 use dis_records::{Kind, Scope};
 use exercise_model::Change;
 
-/// Stands for no change: no kind has the number 0.
+/// Number of no change: no kind has the code 0.
 pub(crate) const NO_CHANGE: u32 = 0;
 
-/// Stands for all entities: the number of each is below it.
+/// Number of the scope of all entities; each single entity has a lower number.
 const ALL: u32 = 0x1_0000;
 
-/// So many numbers stand for scopes.
+/// How many numbers are reserved for scopes.
 const SCOPES: u32 = 0x2_0000;
 
-/// The number of a scope.
+/// Number of a scope.
 fn scope_number(scope: Scope) -> u32
     ensures scope { scope_in result ≡ scope }
     ensures few { result < 0x20000 }
@@ -27,7 +27,7 @@ fn scope_number(scope: Scope) -> u32
     }
 }
 
-/// The scope that a number stands for.
+/// The scope with a number.
 fn scope_in(number: u32) -> Scope
     requires { number < 0x20000 }
     ensures { result ≡ scope_in number }
@@ -39,7 +39,7 @@ fn scope_in(number: u32) -> Scope
     }
 }
 
-/// The number of a change, or the one that stands for none.
+/// Number of a change, or [`NO_CHANGE`].
 pub(crate) fn change_number(change: Option<Change>) -> u32
     ensures { change_in result ≡ change }
 {
@@ -49,7 +49,7 @@ pub(crate) fn change_number(change: Option<Change>) -> u32
     }
 }
 
-/// The change that a number stands for.
+/// The change that a number encodes, or `None` if it encodes none.
 pub(crate) fn change_in(number: u32) -> Option<Change>
     ensures { result ≡ change_in number }
 {

@@ -1,11 +1,11 @@
-//! Columns of numbers, one for each entry or place. A column takes no room before a number is put into
-//! it: behind its end a number stands that says nothing.
+//! Columns of numbers, one for each entry or place. A column takes no memory until the first number
+//! is put into it; places past its end hold a default number.
 
 ghost use Rattle.std.specs.Prelude.{◌≡◌, ◌<◌, ◌==◌, ℕ, length, slice_index_or, OnOk, if◌then◌else◌};
 
 use std::alloc::AllocError;
 
-/// The number at a place of a column, behind whose end this one stands.
+/// The number at a place of a column, or `nothing` past its end.
 pub fn number_at(column: &[u32], nothing: u32, place: usize) -> u32
     ensures { result ≡ slice_index_or column.now place nothing }
 {
@@ -15,7 +15,7 @@ pub fn number_at(column: &[u32], nothing: u32, place: usize) -> u32
     }
 }
 
-/// Puts a number into a column in place of the one that stands there.
+/// Replaces the number at a place within a column.
 pub fn replace(column: &mut Vec<u32>, place: usize, number: u32)
     requires { place < length column.old.items }
     ensures count { length column.new.items ≡ length column.old.items }
@@ -24,7 +24,7 @@ pub fn replace(column: &mut Vec<u32>, place: usize, number: u32)
     column[place] = number;
 }
 
-/// Makes room in a column for so many numbers, where it ends before a place.
+/// Grows a column that ends before `place` to `count` numbers, filled with `nothing`.
 fn reach(column: &mut Vec<u32>, nothing: u32, count: usize, place: usize) -> Result<(), AllocError>
     requires { place < count }
     ensures reached { OnOk result (place < length column.new.items) }
@@ -36,7 +36,7 @@ fn reach(column: &mut Vec<u32>, nothing: u32, count: usize, place: usize) -> Res
     Ok(())
 }
 
-/// Puts a number at a place of a column of so many, in the place of the one that stands there.
+/// Sets the number at a place of a column of `count` places, growing the column if needed.
 pub fn put_number(
     column: &mut Vec<u32>,
     nothing: u32,

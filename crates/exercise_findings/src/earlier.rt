@@ -1,5 +1,5 @@
-//! The earlier entry that each entry goes back to, in one column: what was sent to the request that
-//! it takes up, what was received to its source.
+//! Back-references, one for each entry, in one column: a sent answer refers to the request that it
+//! takes up, a receipt to its send (its source).
 
 ghost use Rattle.std.specs.Prelude.{◌≡◌, ◌≢◌, ◌<◌, ◌≤◌, ◌+◌, ℕ, length, slice_index_or, IfSome, IfNone, IfOk, OnOk, Some, None, is_some, true, unwrap_or, option_map};
 ghost use Rattle.exercise_model.specs.Recording.{IsRecording};
@@ -17,30 +17,31 @@ use crate::senders::{Hints, Senders, first_source, next_source};
 use exercise_model::{EntryView, ExerciseLog};
 use std::alloc::AllocError;
 
-/// Stands for entry 0 as a source; no entry has a number as large.
+/// Number of entry 0 as a source; every entry number is smaller.
 const FIRST_SOURCE: u32 = 0x8000_0000;
 
-/// Stands for a source that is yet to be found.
+/// Marks a source that has not been looked up yet.
 const LATER: u32 = 0xFFFF_FFFE;
 
-/// How many sources in a row may not be found before few are looked for.
+/// After this many receipts in a row without a found source, only a few are looked up during the
+/// pass.
 const MISSES: u32 = 16;
 
-/// One entry of so many is looked for where few are.
+/// After that, one entry in this many is still looked up.
 const RARE: usize = 64;
 
-/// How the sources were looked for while the log was passed.
+/// Statistics of the source look-ups during the pass.
 #[derive(Clone, Copy)]
 pub(crate) struct Looks {
-    /// How many of the last that were looked for were not found.
+    /// Receipts in a row, up to now, whose source was not found.
     pub misses: u32,
-    /// How many are yet to be found.
+    /// Number of sources that are not found yet.
     pub later: u32,
-    /// How many may be, so that they are all looked up after the pass.
+    /// The most open sources that are all looked up right after the pass.
     pub most: u32,
 }
 
-/// The request that a number stands for.
+/// The request that a number encodes, or `None`.
 pub(crate) fn request_in(number: u32) -> Option<u32>
     ensures { result ≡ request_in number }
 {
@@ -51,7 +52,7 @@ pub(crate) fn request_in(number: u32) -> Option<u32>
     }
 }
 
-/// The source that a number stands for.
+/// The source that a number encodes, or `None`.
 pub(crate) fn source_in(number: u32) -> Option<u32>
     ensures { result ≡ source_in number }
 {
@@ -64,7 +65,7 @@ pub(crate) fn source_in(number: u32) -> Option<u32>
     }
 }
 
-/// The number of a source, or this one.
+/// Number of a source, or `none`.
 fn source_number(source: Option<u32>, none: u32) -> u32
     requires { IfSome source (λ s. s < 1048576) }
     ensures { result ≡ unwrap_or (option_map (λ s. s + 2147483648) source) none }
@@ -75,15 +76,15 @@ fn source_number(source: Option<u32>, none: u32) -> u32
     }
 }
 
-/// Whether the source of the next entry is looked for: what was sent lately is found faster than all
-/// at the end; but where the last sources were not found few are looked for, and where so many are yet
-/// to be found that each is looked up when it is asked for, none is. What is found in the end is the
-/// same whatever it answers.
+/// Whether to look up the source of the next entry during the pass. A recent send is found faster
+/// now than at the end; but after many misses only a few are tried, and once more than `most` are
+/// open, none is, since each is then looked up on demand. The choice affects speed alone, not the
+/// final result.
 fn is_looked_for(looks: &Looks, entry: usize) -> bool {
     looks.later <= looks.most && (looks.misses < MISSES || entry % RARE == 0)
 }
 
-/// Keeps that one more source is yet to be found.
+/// Counts one more source that is not found yet.
 fn leave_one(looks: &mut Looks)
     ensures { looks.new.later ≢ 0 }
 {
@@ -91,7 +92,8 @@ fn leave_one(looks: &mut Looks)
     looks.later = looks.later.saturating_add(1);
 }
 
-/// Where a datagram was sent first so far by the station that it comes from, if that is looked for.
+/// The entry that first sent a datagram from its originating station, if it is looked for and found
+/// so far.
 fn source_so_far<L: ExerciseLog>(
     sends: &mut FirstSends,
     looks: &mut Looks,
@@ -116,7 +118,7 @@ fn source_so_far<L: ExerciseLog>(
     Ok(None)
 }
 
-/// The number of the source of what the next entry receives, as far as that is found.
+/// Number of the source of the next entry, a receipt, or [`LATER`] if it is not found yet.
 pub(crate) fn earlier_so_far<L: ExerciseLog>(
     sends: &mut FirstSends,
     looks: &mut Looks,
@@ -136,7 +138,7 @@ pub(crate) fn earlier_so_far<L: ExerciseLog>(
     Ok(source_number(source, LATER))
 }
 
-/// What an entry receives.
+/// The bytes that an entry receives, or `None` if it is no receipt.
 fn received_at<L: ExerciseLog>(log: &L, entry: usize) -> Option<&[u8]>
     requires within { entry < length (L.recording log.now).entries }
     ensures some { let r = L.recording log.now in IfSome result (λ bytes. source_of r entry ≡ first_source r bytes.now (length r.entries)) }
@@ -148,7 +150,7 @@ fn received_at<L: ExerciseLog>(log: &L, entry: usize) -> Option<&[u8]>
     }
 }
 
-/// The source of an entry, looked up once all are known.
+/// The source of an entry, looked up when all entries are indexed.
 fn source_at<L: ExerciseLog>(senders: &Senders, log: &L, entry: usize) -> Option<u32>
     requires within { entry < length (L.recording log.now).entries }
     requires senders { let r = L.recording log.now in AreSenders r (length r.entries) senders.now }
@@ -160,7 +162,7 @@ fn source_at<L: ExerciseLog>(senders: &Senders, log: &L, entry: usize) -> Option
     }
 }
 
-/// The same, looked for where the hints lead first.
+/// As [`source_at`], trying the place that the hint predicts first.
 fn source_by_hint<L: ExerciseLog>(
     senders: &Senders,
     hints: &mut Hints,
@@ -177,8 +179,8 @@ fn source_by_hint<L: ExerciseLog>(
     }
 }
 
-/// The source of an entry of which this number is kept, and where each datagram was sent first, if
-/// sources are yet to be found.
+/// The source of an entry whose number in the column is `earlier`. `senders` is the index of first
+/// sends, present while sources are open.
 pub(crate) fn source_kept<L: ExerciseLog>(
     senders: &Option<Senders>,
     log: &L,
@@ -197,7 +199,7 @@ pub(crate) fn source_kept<L: ExerciseLog>(
     }
 }
 
-/// Finds the source of an entry, where it is yet to be found.
+/// Looks up the source of an entry if it is still open, and stores it in the column.
 fn find_source<L: ExerciseLog>(
     column: &mut Vec<u32>,
     senders: &Senders,
@@ -219,8 +221,7 @@ fn find_source<L: ExerciseLog>(
     }
 }
 
-/// Finds the source of an entry, where it is yet to be found and it is kept where each datagram was
-/// sent first.
+/// As [`find_source`], if there is an index of first sends; otherwise nothing is open.
 pub(crate) fn settle_source<L: ExerciseLog>(
     senders: &Option<Senders>,
     hints: &mut Hints,
@@ -240,7 +241,8 @@ pub(crate) fn settle_source<L: ExerciseLog>(
     }
 }
 
-/// The number of what each entry goes back to, of which this was found while the log was passed.
+/// For each entry its back-reference: an answer's request, a receipt's send. Completes the column
+/// of the pass.
 pub(crate) fn all_earlier<L: ExerciseLog>(
     senders: &Senders,
     hints: &mut Hints,

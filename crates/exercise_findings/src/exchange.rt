@@ -1,4 +1,4 @@
-//! Which request an answer takes up.
+//! Look-up of the request that an answer takes up.
 
 ghost use Rattle.std.specs.Prelude.{◌≡◌, ◌<◌, ◌≤◌, true, length, option_map, option_and_then, IfSome, Some, None, if◌then◌else◌};
 ghost use Rattle.siman_pdus.specs.Reading.{pdu_of};
@@ -18,7 +18,8 @@ use dis_records::Address;
 use exercise_model::{EntryView, ExerciseLog, is_answer, is_asked, meaning_again};
 use siman_pdus::PduView;
 
-/// The request that an entry, whose datagram is known to mean something, brings to a station for an answer.
+/// The request that an entry delivers to a station, if the answer could take it up. The entry's
+/// datagram must mean something.
 #[tactic(auto, unfolding(exercise_model::specs::Place::own_event, crate::specs::Sent::is_meant), using(crate::proofs::Meant::meant_within))]
 fn request_brought<'a, L: ExerciseLog>(
     log: &'a L,
@@ -47,7 +48,8 @@ fn request_brought<'a, L: ExerciseLog>(
     }
 }
 
-/// The request that an answer takes up, with its entry, where that was kept at a place.
+/// The request that an answer takes up, with its entry, if it is at this place of the table's
+/// order.
 fn request_kept_at<'a, L: ExerciseLog>(
     log: &'a L,
     firsts: &Firsts,
@@ -97,7 +99,7 @@ fn entry_taken_up<L: ExerciseLog>(
     }
 }
 
-/// The request that an answer takes up, with its entry, looked for among all.
+/// The request that an answer takes up, with its entry, looked up by its key.
 fn request_among<'a, L: ExerciseLog>(
     log: &'a L,
     firsts: &Firsts,
@@ -123,8 +125,8 @@ fn request_among<'a, L: ExerciseLog>(
     }
 }
 
-/// The request that an answer takes up, with its entry: the first that comes before an entry. It is looked
-/// for where the hint leads first, since requests are mostly answered in turn.
+/// The request that an answer takes up, with its entry: the first one before `before`. The place
+/// that the hint predicts is tried first, since requests are mostly answered in order.
 fn request_taken_up<'a, L: ExerciseLog>(
     log: &'a L,
     firsts: &Firsts,
@@ -148,8 +150,9 @@ fn request_taken_up<'a, L: ExerciseLog>(
     request_among(log, firsts, hint, station, before, answer)
 }
 
-/// The request that a PDU takes up which a station sends at an entry, with its entry, where the PDU
-/// is an answer. Whoever asks for the request is handed what was looked up here.
+/// For an answer that a station sends at an entry, the request that it takes up, with its entry;
+/// `None` for a PDU that is no answer. The request is returned so that callers need not look it up
+/// again.
 pub(crate) fn taken_up<'a, L: ExerciseLog>(
     log: &'a L,
     firsts: &Firsts,

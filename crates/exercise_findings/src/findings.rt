@@ -1,4 +1,4 @@
-//! What the log of each station says of its own entries.
+//! Findings from each station's log about its own entries.
 
 ghost use Rattle.std.specs.Prelude.{◌≡◌, ◌<◌, ◌≤◌, Some, length, map, IfOk, OnOk, IfSome};
 ghost use Rattle.exercise_model.specs.Recording.{PlainRecording, IsRecording};
@@ -23,8 +23,8 @@ use exercise_model::{Cause, Change, ExerciseLog};
 use std::alloc::{AllocError, Global};
 use std::marker::Model;
 
-/// What the log of each station says of its own entries, found in one pass over the logs of a
-/// recording. Contracts see the recording; what is kept of it is nobody else's business.
+/// Findings from each station's log about its own entries, made in one pass over a recording.
+/// Contracts see only the recording; the tables are private.
 #[derive(Drop)]
 pub struct Findings<'a, L: ExerciseLog> {
     log: &'a L,
@@ -40,7 +40,7 @@ impl<'a, L: ExerciseLog> Model for Findings<'a, L> {
 }
 
 impl<'a, L: ExerciseLog> Findings<'a, L> {
-    /// What is found in a log. Datagrams are looked at where they lie; what is kept takes memory.
+    /// Finds all in one pass. Datagrams are read in place; the tables take memory.
     pub fn of(alloc: Global, log: &'a L) -> Result<Findings<'a, L>, AllocError>
         ensures findings { IfOk result (λ findings. findings ≡ L.recording log.now) }
         ensures limits { OnOk result (IsRecording (L.recording log.now)) }
@@ -49,16 +49,16 @@ impl<'a, L: ExerciseLog> Findings<'a, L> {
         Ok(Findings { log, found })
     }
 
-    /// The log.
+    /// The log that was passed over.
     pub fn log(&self) -> &'a L
         ensures { L.recording result.now ≡ self.now }
     {
         self.log
     }
 
-    /// The first cause that the log of its station has against an entry: of 5 to 13, where a
-    /// datagram that was received is judged as if nothing had been sent before. `None` past the last
-    /// entry. It takes no memory.
+    /// The first cause that its station's log shows against an entry: one of the causes 5 to 13,
+    /// where a receipt is judged as if nothing had been sent before. `None` past the last entry. It
+    /// takes no memory.
     pub fn cause(&self, entry: usize) -> Option<Cause>
         ensures { result ≡ own_cause self.now entry }
     {
@@ -68,16 +68,16 @@ impl<'a, L: ExerciseLog> Findings<'a, L> {
         }
     }
 
-    /// For an answer that was sent, the entry of the request that it takes up; `None` for all else
-    /// and past the last entry. It takes no memory.
+    /// For a sent answer, the entry of the request that it takes up; `None` for any other entry and
+    /// past the last entry. It takes no memory.
     pub fn pair(&self, entry: usize) -> Option<u32>
         ensures { result ≡ pair_of self.now entry }
     {
         request_in(number_at(&self.found.earlier, NO_ENTRY, entry))
     }
 
-    /// For a datagram that was received from a recorded station, the first entry of that station that
-    /// sends the same bytes; `None` for all else and past the last entry. It takes no memory.
+    /// For a receipt from a recorded station, the first entry of that station that sends equal
+    /// bytes; `None` for any other entry and past the last entry. It takes no memory.
     pub fn source(&self, entry: usize) -> Option<u32>
         ensures source { result ≡ source_of self.now entry }
         ensures within { IfSome result (λ source. source < length self.now.entries) }
@@ -89,15 +89,16 @@ impl<'a, L: ExerciseLog> Findings<'a, L> {
         source_kept(&self.found.senders, self.log, entry, earlier)
     }
 
-    /// The same where it is at hand; `None` too where it is yet to be looked up. It takes no memory.
+    /// As [`Findings::source`], but also `None` if the source is not looked up yet. It takes no
+    /// memory.
     pub fn source_at_hand(&self, entry: usize) -> Option<u32>
         ensures { IfSome result (λ source. source_of self.now entry ≡ Some source) }
     {
         source_in(number_at(&self.found.earlier, NO_ENTRY, entry))
     }
 
-    /// Looks up where what an entry received comes from, where that is yet to be found, so that
-    /// [`Findings::source`] has it at hand. It changes nothing that is answered, and takes no memory.
+    /// Looks up the source of an entry if it is still open, so that [`Findings::source`] then
+    /// answers at once. It changes no answer, and takes no memory.
     pub fn settle_source(&mut self, entry: usize)
         ensures { self.new ≡ self.old }
     {
@@ -106,9 +107,9 @@ impl<'a, L: ExerciseLog> Findings<'a, L> {
         }
     }
 
-    /// What an entry changes at its station: something where it is the first Able under its key and
-    /// answers the request that it takes up. `None` for all else and past the last entry. It takes no
-    /// memory.
+    /// The change that an entry makes at its station, if it is the first Able under its key and
+    /// answers the request that it takes up. `None` for any other entry and past the last entry. It
+    /// takes no memory.
     pub fn change(&self, entry: usize) -> Option<Change>
         ensures { result ≡ change_at self.now entry }
     {
@@ -116,7 +117,7 @@ impl<'a, L: ExerciseLog> Findings<'a, L> {
     }
 
     /// The state of an entity of a station before an entry; Absent for a number that no entity has.
-    /// It looks at each entry before. It takes no memory.
+    /// It scans all entries before. It takes no memory.
     pub fn state_before(&self, station: u16, entity: u16, entry: usize) -> EntityState
         requires at { station < length self.now.setting.stations }
         requires within { entry ≤ length self.now.entries }
@@ -125,15 +126,15 @@ impl<'a, L: ExerciseLog> Findings<'a, L> {
         state_made_before(self.log, &self.found.changes, station, entity, entry)
     }
 
-    /// The entities of each station, by rising indices, that are not Absent after its log, by rising
-    /// numbers, with their states.
+    /// For each station, by rising indices, its entities that are not Absent after its log, by
+    /// rising entity numbers, with their states.
     pub fn states(&self, alloc: Global) -> Result<Vec<Vec<(u16, EntityState)>>, AllocError>
         ensures { IfOk result (λ states. map (λ v. v.items) states.items ≡ values_below (entities_of self.now) (length self.now.setting.stations)) }
     {
         states(alloc, self.log, &self.found.tables)
     }
 
-    /// How many datagrams are "other". It takes no memory.
+    /// Number of "other" datagrams. It takes no memory.
     #[tactic(auto, using(crate::proofs::Looks::others_whole))]
     pub fn others(&self) -> u32
         ensures { result ≡ others_of self.now }
@@ -141,7 +142,7 @@ impl<'a, L: ExerciseLog> Findings<'a, L> {
         self.found.others
     }
 
-    /// The account of the recording.
+    /// Turns the findings into the account of the recording.
     pub fn into_account(self, alloc: Global) -> Result<Account, AllocError>
         ensures { IfOk result (λ account. TellsAccount self.entry account) }
     {

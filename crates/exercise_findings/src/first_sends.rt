@@ -1,7 +1,7 @@
-//! The entries by which each datagram was sent first by the station that it comes from, while a log is
-//! passed. Mostly one looks for what was sent last, and what is sent is known to be new by what it asks
-//! or answers. So what is sent is kept in order, and under the hash of its bytes only once an entry has
-//! to be looked for among all.
+//! The first send of each datagram by its originating station, collected during the pass. Most
+//! look-ups are for the latest send, and most sends are known to be new from their request or
+//! answer. So first sends are listed in order, and hashed only when an entry has to be looked up
+//! among all.
 
 ghost use Rattle.std.specs.Prelude.{◌≡◌, ◌<◌, ◌≤◌, ◌+◌, ℕ, List, true, Some, None, length, IfOk, OnOk, IfSome};
 ghost use Rattle.exercise_model.specs.Recording.{PlainRecording};
@@ -18,16 +18,16 @@ use crate::slots::{Slots, keep};
 use exercise_model::{EntryView, ExerciseLog};
 use std::alloc::{AllocError, Global};
 
-/// The entries by which each datagram was sent first so far.
+/// The first send of each datagram so far.
 #[derive(Drop)]
 pub(crate) struct FirstSends {
-    /// The entries in order, the first so many of them under the hashes of what they send, too.
+    /// The entries in order; the first `hashed` of them are also in the hash slots.
     pub kept: Kept,
-    /// How many of them are kept under hashes.
+    /// How many of the entries are in the hash slots.
     pub hashed: usize,
 }
 
-/// No sends, of so many entries that there may be. It takes no memory.
+/// No first sends, for a log of this many entries. It takes no memory.
 pub(crate) fn no_sends(alloc: Global, entries: usize) -> FirstSends
     ensures { (r : PlainRecording) → AreFirstSends r 0 result }
 {
@@ -37,7 +37,7 @@ pub(crate) fn no_sends(alloc: Global, entries: usize) -> FirstSends
     }
 }
 
-/// Keeps a source under the hash of what it sends.
+/// Adds a first send to the hash slots, under the hash of its bytes.
 fn hash_source<L: ExerciseLog>(slots: &mut Slots, log: &L, entry: u32) -> Result<(), AllocError>
     requires few { entry < 4294967295 }
     requires source { source_at (L.recording log.now) entry ≡ true }
@@ -49,7 +49,7 @@ fn hash_source<L: ExerciseLog>(slots: &mut Slots, log: &L, entry: u32) -> Result
     }
 }
 
-/// Keeps the next of the sends before an entry under its hash.
+/// Adds the next unhashed send before an entry to the hash slots.
 fn hash_next<L: ExerciseLog>(
     sends: &mut FirstSends,
     log: &L,
@@ -69,7 +69,7 @@ fn hash_next<L: ExerciseLog>(
     Ok(())
 }
 
-/// Keeps all sends before an entry under their hashes.
+/// Adds all sends before an entry to the hash slots.
 pub(crate) fn hash_all<L: ExerciseLog>(
     sends: &mut FirstSends,
     log: &L,
@@ -87,8 +87,8 @@ pub(crate) fn hash_all<L: ExerciseLog>(
     Ok(())
 }
 
-/// The first entry before one that sends a datagram of these bytes from the station that it comes from,
-/// looked for among all.
+/// The first entry before `before` that sends these bytes from their originating station, looked up
+/// among all.
 fn source_among<L: ExerciseLog>(
     sends: &mut FirstSends,
     log: &L,
@@ -104,7 +104,7 @@ fn source_among<L: ExerciseLog>(
     Ok(first_source(&sends.kept, log, datagram))
 }
 
-/// The entry at a place of the order, where it sends a datagram of these bytes.
+/// The entry at a place of the order, if it sends these bytes.
 fn source_at_place<L: ExerciseLog>(
     sends: &FirstSends,
     log: &L,
@@ -119,8 +119,7 @@ fn source_at_place<L: ExerciseLog>(
     kept_at(&sends.kept, place, &Sending { log, datagram })
 }
 
-/// As [`source_among`], of a datagram that was mostly sent last: where that one has these bytes, nothing
-/// is hashed.
+/// As [`source_among`], but tries the latest send first: if that matches, nothing is hashed.
 pub(crate) fn latest_source<L: ExerciseLog>(
     sends: &mut FirstSends,
     log: &L,
@@ -139,7 +138,7 @@ pub(crate) fn latest_source<L: ExerciseLog>(
     }
 }
 
-/// Keeps what a station sends by the next entry, a source that is the first of these bytes.
+/// Appends the next entry, which is known to be the first send of its bytes.
 fn keep_new<L: ExerciseLog>(
     sends: &mut FirstSends,
     log: &L,
@@ -158,8 +157,7 @@ fn keep_new<L: ExerciseLog>(
     Ok(())
 }
 
-/// Keeps what a station sends by the next entry, a source, where it is the first of these bytes: that is
-/// looked for among all.
+/// Appends the next entry if it is the first send of its bytes, which is looked up among all.
 fn keep_unknown<L: ExerciseLog>(
     sends: &mut FirstSends,
     log: &L,
@@ -184,8 +182,8 @@ fn keep_unknown<L: ExerciseLog>(
     }
 }
 
-/// Keeps what a station sends by the next entry, where the entry is a source: the datagram comes from
-/// that station. It may be known to be new.
+/// Records what a station sends by the next entry, if the datagram originates from that station
+/// (`is_source`). `is_new`: whether it is known to be the first send of its bytes.
 pub(crate) fn note_send<L: ExerciseLog>(
     sends: &mut FirstSends,
     log: &L,

@@ -1,5 +1,5 @@
-//! The first entry under each key. What is kept under the hash of a key is an entry alone: its key is
-//! read from the log, where it is looked for.
+//! The first entry under each key. The table holds entry numbers under the hashes of their keys;
+//! the keys themselves are read from the log at look-up.
 
 ghost use Rattle.std.specs.Prelude.{◌≡◌, ◌<◌, ◌+◌, length, Some, true, IfOk, OnOk};
 ghost use Rattle.siman_pdus.specs.Reading.{pdu_of};
@@ -22,8 +22,8 @@ use std::marker::Model;
 /// The first entry under each key.
 pub(crate) type Firsts = Kept;
 
-/// The hash of what keys have in common that differ in role and response alone: they are looked up one
-/// after the other, so it is made once for them.
+/// The hash base of a key: the hash of all its fields except role and response. Keys that differ
+/// only in those are looked up one after another, so they share one computation.
 pub(crate) fn key_base(key: &Key) -> u32
     ensures { result ≡ key_base key.now }
 {
@@ -33,7 +33,8 @@ pub(crate) fn key_base(key: &Key) -> u32
     (hasher.finish() % 0x1_0000_0000) as u32
 }
 
-/// A key with its base. What is sent again and again has the same key, whose base is then made once.
+/// The last key with its hash base: repeated sends have equal keys, whose base is then computed
+/// once.
 #[derive(Drop)]
 pub(crate) struct LastBase {
     key: Key,
@@ -52,7 +53,7 @@ impl Model for LastBase {
     ghost invariant = { λ last. last.base ≡ key_base last.key };
 }
 
-/// A key that nobody has, with its base.
+/// An initial cache entry: an all-zero key, with its base.
 pub(crate) fn no_base() -> LastBase
     ensures { result ≡ tt }
 {
@@ -70,7 +71,7 @@ pub(crate) fn no_base() -> LastBase
     LastBase { key, base }
 }
 
-/// The base of a key, which is made where the key is another than the last.
+/// The hash base of a key, computed only if the key differs from the last one.
 pub(crate) fn base_near(last: &mut LastBase, key: &Key) -> u32
     ensures { result ≡ key_base key.now }
 {
@@ -82,8 +83,8 @@ pub(crate) fn base_near(last: &mut LastBase, key: &Key) -> u32
     base
 }
 
-/// The hash of a key of this base. Where it is looked for first is as for the others of that base, so they
-/// stand together; the response tells them apart.
+/// The hash of a key with this base. Its lowest bits, which select the slot, depend only on the
+/// base, so keys that share a base are neighbours; the response is in the highest two bits.
 fn key_hash(key: &Key, base: u32) -> u32
     requires { base ≡ key_base key.now }
     ensures { result ≡ key_hash key.now }
@@ -91,7 +92,7 @@ fn key_hash(key: &Key, base: u32) -> u32
     base % 0x4000_0000 + 0x4000_0000 * u32::from(key.response % 4)
 }
 
-/// What the keys of an answer of a station have in common, by their hashes; 0 where it has none.
+/// The hash base of the keys of an answer of a station; 0 if it has none.
 pub(crate) fn answer_base(last: &mut LastBase, station: u16, pdu: &PduView<'_>) -> u32
     ensures { result ≡ answer_base station (pdu_of pdu.now) }
 {
@@ -101,7 +102,7 @@ pub(crate) fn answer_base(last: &mut LastBase, station: u16, pdu: &PduView<'_>) 
     }
 }
 
-/// The key of an entry whose datagram is known to mean something.
+/// The key of an entry whose datagram must mean something.
 #[tactic(auto, unfolding(crate::specs::Firsts::key_at, crate::specs::Sent::is_meant), using(crate::proofs::Meant::meant_within))]
 fn key_at<L: ExerciseLog>(log: &L, entry: usize) -> Option<Key>
     requires { is_meant (L.recording log.now) entry ≡ true }
@@ -119,7 +120,7 @@ fn key_at<L: ExerciseLog>(log: &L, entry: usize) -> Option<Key>
     }
 }
 
-/// Whether an entry whose datagram is known to mean something has a key.
+/// Whether an entry, whose datagram must mean something, has this key.
 fn has_key<L: ExerciseLog>(log: &L, key: &Key, entry: usize) -> bool
     requires { is_meant (L.recording log.now) entry ≡ true }
     ensures { result ≡ has_key (L.recording log.now) key.now entry }
@@ -130,7 +131,7 @@ fn has_key<L: ExerciseLog>(log: &L, key: &Key, entry: usize) -> bool
     }
 }
 
-/// The entries that have a key.
+/// Search for an entry with a key.
 #[derive(Drop)]
 struct Keyed<'a, L: ExerciseLog> {
     log: &'a L,
@@ -147,7 +148,7 @@ impl<'a, L: ExerciseLog> Sought for Keyed<'a, L> {
     }
 }
 
-/// The first entry under a key of this hash, of those before an entry.
+/// The first entry before `before` under a key of this hash.
 fn first_hashed<L: ExerciseLog>(
     firsts: &Firsts,
     log: &L,
@@ -163,7 +164,7 @@ fn first_hashed<L: ExerciseLog>(
     find(&firsts.slots, hash, &Keyed { log, key })
 }
 
-/// The first entry under a key of this base, of those before an entry.
+/// The first entry before `before` under a key of this base.
 pub(crate) fn first_under<L: ExerciseLog>(
     firsts: &Firsts,
     log: &L,
@@ -178,7 +179,7 @@ pub(crate) fn first_under<L: ExerciseLog>(
     first_hashed(firsts, log, key_hash(key, base), key, before)
 }
 
-/// The same, which is kept as what the next is looked for near.
+/// As [`first_under`]; notes the place found in the hint.
 pub(crate) fn first_noted<L: ExerciseLog>(
     firsts: &Firsts,
     log: &L,
@@ -196,8 +197,8 @@ pub(crate) fn first_noted<L: ExerciseLog>(
     Some(entry)
 }
 
-/// The same, looked for where a hint leads first: keys are mostly looked for in the order in which they
-/// came.
+/// As [`first_under`], trying the place that the hint predicts first: keys are mostly looked up in
+/// the order in which they were recorded.
 pub(crate) fn first_near<L: ExerciseLog>(
     firsts: &Firsts,
     log: &L,
@@ -216,7 +217,7 @@ pub(crate) fn first_near<L: ExerciseLog>(
     first_noted(firsts, log, key, before, hint)
 }
 
-/// Keeps the next entry of a log, which has this key, where it is the first, and tells whether it is.
+/// Adds the next entry of a log, which has this key, if it is the first; returns whether it is.
 fn keep_first<L: ExerciseLog>(
     firsts: &mut Firsts,
     log: &L,
@@ -241,8 +242,8 @@ fn keep_first<L: ExerciseLog>(
     }
 }
 
-/// Keeps the next entry of a log, which has this key, if it has one, of this base, and tells whether it is
-/// the first that has it.
+/// Adds the next entry of a log, whose key, if any, has this base; returns whether it is the first
+/// under its key.
 pub(crate) fn note_entry<L: ExerciseLog>(
     firsts: &mut Firsts,
     log: &L,

@@ -1,4 +1,4 @@
-//! What one entry is found to be, by one look at its datagram.
+//! Findings about one entry, from one decoding of its datagram.
 
 ghost use Rattle.std.specs.Prelude.{◌≡◌, ◌<◌, ◌+◌, ◌&&◌, ℕ, List, [], length, option_map, Some, None, true, false, OnOk, IfOk};
 ghost use Rattle.siman_pdus.specs.Reading.{pdu_of};
@@ -36,33 +36,33 @@ use exercise_model::{Cause, Change, ExerciseLog, is_answer, is_from, meaning_vie
 use siman_pdus::PduView;
 use std::alloc::AllocError;
 
-/// What one entry is found to be.
+/// Findings about one entry.
 #[derive(Clone, Copy)]
 pub(crate) struct Found {
-    /// The first cause that its station's log has against it.
+    /// The first cause that its station's log shows against it.
     pub cause: Option<Cause>,
-    /// The entry of the request that it takes up, where it is an answer that was sent.
+    /// The entry of the request that it takes up, if it is a sent answer.
     pub pair: Option<u32>,
-    /// Whether it is an answer that was sent and takes up no request.
+    /// Whether it is a sent answer that takes up no request.
     pub is_unasked: bool,
-    /// What it changes at its station.
+    /// The change that it makes at its station.
     pub change: Option<Change>,
-    /// What it is looked up by.
+    /// Its own look-up key.
     pub key: Option<Key>,
-    /// The base of that key, where it has one.
+    /// The hash base of that key; without meaning if it has none.
     pub base: u32,
-    /// What the change behind it is looked up by, where it is an Able Acknowledge that was received.
+    /// The look-up key of the change behind it, if it is a received Able Acknowledge.
     pub behind: Option<Key>,
-    /// Whether it sends what comes from its own station.
+    /// Whether it is a send whose datagram originates from its own station.
     pub is_source: bool,
-    /// Whether it is known to send this first: a request that is the first under its identifier, or what
-    /// stands above all that its station sent before.
+    /// Whether its datagram is known to be new: the first request under its identifier, or a mark
+    /// above all earlier ones of its station.
     pub is_new: bool,
     /// Whether its datagram is "other".
     pub other: bool,
 }
 
-/// An entry that this cause speaks against, or none, and of which nothing else is found.
+/// Findings with only this cause, or none.
 fn judged(cause: Option<Cause>) -> Found
     ensures { result ≡ record { cause = cause; pair = None; is_unasked = false; change = None; key = None; base = 0; behind = None; is_source = false; is_new = false; other = false } }
 {
@@ -80,7 +80,7 @@ fn judged(cause: Option<Cause>) -> Found
     }
 }
 
-/// An entry with a datagram that is "other".
+/// Findings about an entry with an "other" datagram.
 fn found_other() -> Found
     ensures { result ≡ record { cause = None; pair = None; is_unasked = false; change = None; key = None; base = 0; behind = None; is_source = false; is_new = false; other = true } }
 {
@@ -100,8 +100,8 @@ fn pair_of(taken: &Option<(u32, PduView<'_>)>) -> Option<u32>
     }
 }
 
-/// What a PDU is found to be that a station sends at an entry, where this is known of its identifier and
-/// of whether it is new.
+/// Findings about a PDU that a station sends at an entry. `reused`: whether it reuses its request
+/// identifier; `is_new`: whether it is known to be new.
 fn found_sent<L: ExerciseLog>(
     log: &L,
     tables: &Tables,
@@ -149,7 +149,7 @@ fn found_sent<L: ExerciseLog>(
     }
 }
 
-/// The base of a key, if there is one; else 0.
+/// The hash base of a key, or 0 without a key.
 fn base_of(last: &mut LastBase, key: Option<Key>) -> u32
     ensures { (k : Key) → Some k ≡ key → result ≡ key_base k }
 {
@@ -159,7 +159,7 @@ fn base_of(last: &mut LastBase, key: Option<Key>) -> u32
     }
 }
 
-/// What a PDU is found to be that a station receives.
+/// Findings about a PDU that a station receives.
 fn found_received<L: ExerciseLog>(
     log: &L,
     places: &Places,
@@ -190,7 +190,7 @@ fn found_received<L: ExerciseLog>(
     }
 }
 
-/// What the next entry of a log is found to be, by which a station sends a datagram.
+/// Findings about the next entry of a log, by which a station sends a datagram.
 pub(crate) fn find_sent<L: ExerciseLog>(
     log: &L,
     tables: &Tables,
@@ -235,7 +235,7 @@ pub(crate) fn find_sent<L: ExerciseLog>(
     }
 }
 
-/// What an entry of a log is found to be, by which a station receives a datagram.
+/// Findings about an entry of a log, by which a station receives a datagram.
 pub(crate) fn find_received<L: ExerciseLog>(
     log: &L,
     places: &Places,

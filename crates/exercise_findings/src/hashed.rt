@@ -1,9 +1,9 @@
-//! Words that a hasher is fed: it takes a word of 64 bits at a time, and else byte after byte.
+//! Words that feed the hasher, which takes 64 bits at a time, or single bytes.
 
 ghost use Rattle.std.specs.Prelude.{◌≡◌};
 ghost use Rattle.exercise_findings.specs.Hashed.{word};
 
-/// One word of three numbers.
+/// One 64-bit word of three numbers, `high` in the upper half.
 pub(crate) fn word(high: u32, middle: u16, low: u16) -> u64
     ensures { result ≡ word high middle low }
 {

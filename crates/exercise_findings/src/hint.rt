@@ -1,19 +1,19 @@
-//! Where the next of what mostly comes in turn is looked for first.
+//! Stride predictor for sequential look-ups.
 
-/// A place at which something was found, and how far from there the next is looked for. What is found
-/// is the same whatever stands here.
+/// Stride predictor: the place of the last hit and the expected distance to the next. It affects
+/// speed alone, never the result of a look-up.
 #[derive(Clone, Copy)]
 pub struct Hint {
-    /// Where the last one was found.
+    /// Place of the last hit.
     place: usize,
-    /// How far from there the next is looked for.
+    /// Predicted distance to the next hit.
     step: usize,
-    /// How far the last one was from the one before it.
+    /// Distance between the last two hits.
     way: usize,
 }
 
 impl Hint {
-    /// Nothing was found so far: the next is looked for right behind the first place.
+    /// A predictor without hits: it predicts place 1.
     pub const fn new() -> Hint {
         Hint {
             place: 0,
@@ -22,13 +22,13 @@ impl Hint {
         }
     }
 
-    /// The place where the next is looked for.
+    /// The predicted place of the next look-up.
     pub fn next(&self) -> usize {
         self.place.wrapping_add(self.step)
     }
 
-    /// What is kept once one was found at a place: the next is looked for as far from there as this one
-    /// and the one before it were from those before them, where both were as far.
+    /// Records a hit at a place. Its distance to the last hit becomes the predicted distance if it
+    /// occurred twice in a row.
     pub fn found(&mut self, place: usize) {
         let way = place.wrapping_sub(self.place);
         let step = if way == self.way { way } else { self.step };

@@ -1,5 +1,5 @@
-//! The first entries under keys, kept under the hashes of the keys, and one behind the other as they
-//! came. What a key is says who keeps them.
+//! The first entries under keys: a hash table of entries, with a list of them in the order in which
+//! they were added. The user of the table defines the keys.
 
 ghost use Rattle.std.specs.Prelude.{◌≡◌, ◌≢◌, ℕ, true, Some, length, slice_get, IfSome, OnOk};
 ghost use Rattle.exercise_findings.specs.Kept.{IsKeptBehind};
@@ -12,11 +12,11 @@ use std::alloc::{AllocError, Global};
 pub(crate) struct Kept {
     /// The entries, under the hashes of their keys.
     pub slots: Slots,
-    /// The same entries, one behind the other as they were kept.
+    /// These entries in the order in which they were added.
     pub order: Vec<u32>,
 }
 
-/// Nothing, of so many entries that there may be. It takes no memory.
+/// An empty table, for a log of this many entries. It takes no memory.
 pub(crate) fn nothing_kept(alloc: Global, entries: usize) -> Kept
     ensures slots { length result.slots.slots ≡ 0 }
     ensures order { length result.order.items ≡ 0 }
@@ -27,7 +27,7 @@ pub(crate) fn nothing_kept(alloc: Global, entries: usize) -> Kept
     }
 }
 
-/// Keeps an entry under a hash, behind those that are kept.
+/// Adds an entry under a hash, at the end of the order.
 pub(crate) fn keep_behind(kept: &mut Kept, hash: u32, entry: u32) -> Result<(), AllocError>
     requires { entry ≢ 4294967295 }
     ensures { OnOk result (IsKeptBehind hash entry kept.old kept.new) }
@@ -37,14 +37,14 @@ pub(crate) fn keep_behind(kept: &mut Kept, hash: u32, entry: u32) -> Result<(), 
     Ok(())
 }
 
-/// The entry that was kept at a place.
+/// The entry at a place of the order.
 pub(crate) fn entry_kept_at(kept: &Kept, place: usize) -> Option<u32>
     ensures { result ≡ slice_get kept.now.order.items place }
 {
     kept.order.get(place).copied()
 }
 
-/// The entry that was kept at a place, where it is the one that is looked for.
+/// The entry at a place of the order, if it is the one sought.
 pub(crate) fn kept_at<S: Sought>(kept: &Kept, place: usize, sought: &S) -> Option<u32>
     requires { (e : ℕ) → slice_get kept.now.order.items place ≡ Some e → S.is_known sought.now e ≡ true }
     ensures { IfSome result (λ e. (slice_get kept.now.order.items place ≡ Some e) × (S.is_sought sought.now e ≡ true)) }
@@ -55,7 +55,7 @@ pub(crate) fn kept_at<S: Sought>(kept: &Kept, place: usize, sought: &S) -> Optio
     }
 }
 
-/// The place at which an entry was kept.
+/// The place of an entry in the order.
 pub(crate) fn kept_place(kept: &Kept, entry: u32) -> usize {
     match kept.order.binary_search(&entry) {
         Ok(place) | Err(place) => place,

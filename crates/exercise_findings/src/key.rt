@@ -1,4 +1,4 @@
-//! What entries of a station are looked up by.
+//! Look-up keys of a station's entries.
 
 ghost use Rattle.std.specs.Prelude.{◌≡◌};
 ghost use Rattle.siman_pdus.specs.Reading.{pdu_of};
@@ -8,8 +8,8 @@ use dis_records::{Address, addressed};
 use exercise_model::{AcknowledgeKey, key_of, responds};
 use siman_pdus::{ABLE, Message, PduView, UNABLE, is_request, request_id};
 
-/// What entries of one station have in common that are looked up together: requests that it
-/// received, or Acknowledges that it sent.
+/// Look-up key that related entries of one station share: requests that it received, or
+/// Acknowledges that it sent.
 #[derive(Clone, Copy, PartialEq, Eq)]
 pub(crate) struct Key {
     /// 0 for a request, 1 for an Acknowledge.
@@ -22,7 +22,7 @@ pub(crate) struct Key {
     pub flag: u16,
     /// The request identifier.
     pub request: u32,
-    /// The other side's site: where a request comes from, and an Acknowledge goes to.
+    /// The other side's site: of the sender of a request, of the receiver of an Acknowledge.
     pub site: u16,
     /// The other side's application.
     pub application: u16,

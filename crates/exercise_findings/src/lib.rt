@@ -1,13 +1,15 @@
-//! What a log says of its own entries, found in one pass over it.
+//! Findings of a recording, from one pass over it: for each entry the first cause that its own
+//! station's log shows against it, the request that it takes up, the state change that it makes and
+//! the send that it was received from; the state of an entity at any entry; and the [`Account`] of
+//! the whole recording ([`Findings`]).
 //!
-//! [`Findings`] answers of each entry the first cause that its station's log has against it, the
-//! request that it takes up, what it changes and where it comes from; the state of an entity at a
-//! place; and the [`Account`] of the whole recording. Each station's log is read alone, and logs are
-//! joined by equal bytes alone: it knows neither certificates nor an order between stations, so no
-//! certificate can change what it says. Its tables lie over the bytes of the log, under keys that
-//! strangers may have chosen. [`Missing`] names a send that a log lacks, for the crates above, which look
-//! for it; [`number_at`], [`put_number`], [`replace`] and [`Hint`] are inner doors to them, since they keep
-//! columns of their own, and look up in turn what came in turn.
+//! The crate never uses a certificate or an order between stations: each log is read by itself,
+//! logs are joined only where bytes are equal, and so no certificate can change a finding. Its
+//! tables refer to the bytes of the log and are safe against keys that an attacker has chosen.
+//!
+//! The crates above rely on the contracts of [`Findings`] and [`Account`], and on [`Missing`], the
+//! description of a send that a log lacks; [`number_at`], [`put_number`], [`replace`] and [`Hint`]
+//! are shared helpers for columns and sequential look-ups of their own.
 #![tactic(auto)]
 
 mod account;

@@ -1,4 +1,4 @@
-//! The state of an entity at a place, by the changes that were found while a log was passed.
+//! The state of an entity before an entry, replayed from the changes that the pass found.
 
 ghost use Rattle.std.specs.Prelude.{◌≡◌, ◌<◌, ◌≤◌, length, option_and_then};
 ghost use Rattle.std.specs.Option.{option_map_or};
@@ -13,7 +13,7 @@ use crate::column::number_at;
 use dis_records::EntityState;
 use exercise_model::{Change, ExerciseLog, is_entity, listed_state, scope_has, state_made};
 
-/// What a change, if there is one, makes of the state of an entity.
+/// The state of an entity after a change, if there is one.
 fn changed(entity: u16, state: EntityState, change: Option<Change>) -> EntityState
     ensures { result ≡ option_map_or (changed entity state) change state }
 {
@@ -23,7 +23,7 @@ fn changed(entity: u16, state: EntityState, change: Option<Change>) -> EntitySta
     }
 }
 
-/// What an entry of a station changes, where it is one of this station.
+/// The change that an entry makes, if it belongs to this station.
 fn own_change<L: ExerciseLog>(
     log: &L,
     changes: &[u32],

@@ -1,12 +1,12 @@
-//! Entries as numbers of 32 bits, one of which stands for none: so columns keep them.
+//! Entries as 32-bit numbers with one reserved for none, as columns store them.
 
 ghost use Rattle.std.specs.Prelude.{◌≡◌};
 ghost use Rattle.exercise_findings.specs.Number.{entry_number, entry_of};
 
-/// Stands for no entry: a number that none has.
+/// Number of no entry; every entry number is smaller.
 pub(crate) const NO_ENTRY: u32 = u32::MAX;
 
-/// The number of an entry, or the one that stands for none.
+/// Number of an entry, or [`NO_ENTRY`].
 pub(crate) fn entry_number(entry: Option<u32>) -> u32
     ensures { result ≡ entry_number entry }
 {
@@ -16,7 +16,7 @@ pub(crate) fn entry_number(entry: Option<u32>) -> u32
     }
 }
 
-/// The entry that a number stands for.
+/// The entry with a number, or `None` for [`NO_ENTRY`].
 pub(crate) fn entry_of(number: u32) -> Option<u32>
     ensures { result ≡ entry_of number }
 {

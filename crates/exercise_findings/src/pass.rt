@@ -1,4 +1,4 @@
-//! One pass over a log, which finds what the log of each station says of its own entries.
+//! One pass over a recording that finds all [`crate::Findings`].
 
 ghost use Rattle.std.specs.Prelude.{◌≡◌, ◌<◌, ◌+◌, ◌||◌, length, slice_get, Some, OnOk, IfOk, if◌then◌else◌};
 ghost use Rattle.exercise_model.specs.Entry.{Told};
@@ -29,65 +29,63 @@ use dis_records::EntityState;
 use exercise_model::{Cause, EntryView, ExerciseLog};
 use std::alloc::{AllocError, Global};
 
-/// One source of so many entries that is yet to be found is many.
+/// More than one open source in this many entries are many.
 const MANY: usize = 16;
 
-/// What a pass found so far.
+/// State of the pass.
 #[derive(Drop)]
 pub(crate) struct Pass {
-    /// Where the stations stand.
+    /// Cache of station indices by address.
     pub places: Places,
-    /// What is kept of the entries.
+    /// Look-up tables of the entries so far.
     pub tables: Tables,
-    /// Where the request that the next answer takes up is looked for first.
+    /// Predicted place of the request that the next answer takes up.
     pub answers: Hint,
-    /// The bases of the keys that were sent and received last.
+    /// The last key of a send, with its hash base.
     pub sent: LastBase,
     pub received: LastBase,
-    /// The first cause that its station's log has against each entry.
+    /// The first cause that its station's log shows against each entry.
     pub causes: Vec<Option<Cause>>,
-    /// The number of what each entry changes at its station.
+    /// For each entry, the number of the change that it makes at its station.
     pub changes: Vec<u32>,
-    /// The number of what each entry goes back to: of an answer the request that it takes up, of
-    /// what was received its source, where that was found.
+    /// For each entry its back-reference: a sent answer's request, a receipt's source if it is
+    /// found.
     pub earlier: Vec<u32>,
-    /// How sources were looked for.
+    /// Statistics of the source look-ups.
     pub looks: Looks,
-    /// The entries that received an Able behind which there is a change to look up.
+    /// The entries that received an Able with a key for the change behind it.
     pub ables: Vec<u32>,
-    /// What was answered.
+    /// Marks of the requests taken up so far.
     pub answered: Answered,
-    /// The entry by which each datagram was sent first by the station that it comes from.
+    /// The first send of each datagram by its originating station.
     pub sends: FirstSends,
-    /// How many datagrams are "other".
+    /// Number of "other" datagrams so far.
     pub others: u32,
 }
 
-/// What all entries were found to be.
+/// Result of the pass.
 pub(crate) struct Passed {
-    /// Where the stations stand.
+    /// Cache of station indices by address.
     pub places: Places,
-    /// What is kept of the entries.
+    /// Look-up tables of all entries.
     pub tables: Tables,
-    /// The first cause that its station's log has against each entry.
+    /// The first cause that its station's log shows against each entry.
     pub causes: Vec<Option<Cause>>,
-    /// The number of what each entry changes at its station.
+    /// For each entry, the number of the change that it makes at its station.
     pub changes: Vec<u32>,
-    /// The number of what each entry goes back to. Sources are yet to be found where it is kept where
-    /// each datagram was sent first.
+    /// For each entry its back-reference. Sources may be open if `senders` is present.
     pub earlier: Vec<u32>,
-    /// The entry by which each datagram was sent first by the station that it comes from, if it is
-    /// kept.
+    /// The first send of each datagram by its originating station, while sources are open.
     pub senders: Option<Senders>,
-    /// Where sources are looked for first.
+    /// Predicted places of sources.
     pub hints: Hints,
-    /// The entries that received an Able behind which there is a change to look up.
+    /// The entries that received an Able with a key for the change behind it.
     pub ables: Vec<u32>,
-    /// How many datagrams are "other".
+    /// Number of "other" datagrams.
     pub others: u32,
 }
 
-// Not derived: who drops it makes one call, and does not take it apart by himself.
+// Not derived, so that a caller that drops it makes one call instead of dropping each field inline.
 impl Drop for Passed {
     fn drop(self) {
         let Passed {
@@ -105,8 +103,7 @@ impl Drop for Passed {
 }
 
 impl Passed {
-    /// The number of what each entry goes back to, and how many datagrams are "other". All else is given
-    /// back.
+    /// The back-references and the number of "other" datagrams. All other memory is freed.
     pub(crate) fn into_earlier(self) -> (Vec<u32>, u32)
         ensures earlier { result.0 ≡ self.earlier }
         ensures others { result.1 ≡ self.others }
@@ -126,7 +123,7 @@ impl Passed {
     }
 }
 
-/// What was found before the first entry, with room for the causes against all.
+/// State before the first entry, with room for the causes of all entries.
 fn nothing_found<L: ExerciseLog>(alloc: Global, log: &L) -> Result<Pass, AllocError>
     ensures { IfOk result (λ found. IsPass (L.recording log.now) 0 found) }
 {
@@ -157,22 +154,22 @@ fn nothing_found<L: ExerciseLog>(alloc: Global, log: &L) -> Result<Pass, AllocEr
     })
 }
 
-/// 1 where it is so, else 0.
+/// 1 if `so`, else 0.
 fn one_if(so: bool) -> u32
     ensures { result ≡ (if so then 1 else 0) }
 {
     if so { 1 } else { 0 }
 }
 
-/// Whether what is sent is known to be new: by its request identifier, by its key, or by the request that
-/// it takes up.
+/// Whether a send is known to be new by its request identifier, its key, or the request that it
+/// takes up.
 fn is_known_new(identifier: bool, key: bool, request: bool) -> bool
     ensures { result ≡ (identifier || (key || request)) }
 {
     identifier || key || request
 }
 
-/// Keeps what the next entry is found to be, by which a station sends a datagram.
+/// Finds and stores the findings of the next entry, by which a station sends a datagram.
 fn keep_sent<L: ExerciseLog>(
     found: &mut Pass,
     requests: &mut Requests,
@@ -221,7 +218,7 @@ fn keep_sent<L: ExerciseLog>(
     note_send(&mut found.sends, log, entry, bytes, here.is_source, is_new)
 }
 
-/// Keeps what the next entry is found to be, by which a station receives a datagram.
+/// Finds and stores the findings of the next entry, by which a station receives a datagram.
 fn keep_received<L: ExerciseLog>(
     found: &mut Pass,
     log: &L,
@@ -257,8 +254,7 @@ fn keep_received<L: ExerciseLog>(
     note_key(&mut found.tables, log, entry, here.key, here.base)
 }
 
-/// Keeps what the next entry is found to be, by which a station tells a state: the first cause against
-/// it alone.
+/// Finds and stores the first cause against the next entry, by which a station tells a state.
 fn keep_told<L: ExerciseLog>(
     found: &mut Pass,
     log: &L,
@@ -279,7 +275,7 @@ fn keep_told<L: ExerciseLog>(
     Ok(())
 }
 
-/// Finds what the next entry is.
+/// Finds and stores the findings of the next entry.
 fn find_entry<L: ExerciseLog>(
     found: &mut Pass,
     requests: &mut Requests,
@@ -311,8 +307,7 @@ fn find_entry<L: ExerciseLog>(
     }
 }
 
-/// Passes over all entries. What is kept of requests, and of how far
-/// stations rose, is not asked for after that.
+/// Passes over all entries. The tables of requests and of highest marks are freed afterwards.
 fn pass_over<L: ExerciseLog>(alloc: Global, log: &L) -> Result<Pass, AllocError>
     ensures found { let r = L.recording log.now in IfOk result (IsPass r (length r.entries)) }
     ensures limits { OnOk result (IsRecording (L.recording log.now)) }
@@ -326,8 +321,7 @@ fn pass_over<L: ExerciseLog>(alloc: Global, log: &L) -> Result<Pass, AllocError>
     Ok(found)
 }
 
-/// What all entries were found to be, where all sources were found. It is not asked for any more where a
-/// datagram was sent first.
+/// Result of a pass that found all sources; the index of first sends is freed.
 fn with_sources<L: ExerciseLog>(log: &L, pass: Pass, hints: Hints) -> Passed
     requires pass { let r = L.recording log.now in IsPass r (length r.entries) pass }
     requires found { pass.looks.later ≡ 0 }
@@ -356,7 +350,8 @@ fn with_sources<L: ExerciseLog>(log: &L, pass: Pass, hints: Hints) -> Passed
     }
 }
 
-/// The same, where sources are yet to be found: they are looked up now.
+/// Result of a pass with few open sources: they are looked up now, and the index of first sends is
+/// freed.
 fn with_all_sources<L: ExerciseLog>(log: &L, pass: Pass, hints: Hints) -> Passed
     requires limits { IsRecording (L.recording log.now) }
     requires pass { let r = L.recording log.now in IsPass r (length r.entries) pass }
@@ -388,7 +383,8 @@ fn with_all_sources<L: ExerciseLog>(log: &L, pass: Pass, hints: Hints) -> Passed
     }
 }
 
-/// What all entries were found to be, where sources are looked up when they are asked for.
+/// Result of a pass with many open sources: the index of first sends is retained for look-ups on
+/// demand.
 fn with_senders<L: ExerciseLog>(log: &L, pass: Pass, hints: Hints) -> Passed
     requires pass { let r = L.recording log.now in IsPass r (length r.entries) pass }
     requires senders { let r = L.recording log.now in AreSenders r (length r.entries) pass.sends.kept }
@@ -418,7 +414,7 @@ fn with_senders<L: ExerciseLog>(log: &L, pass: Pass, hints: Hints) -> Passed
     }
 }
 
-/// Keeps all that was sent under the hashes of its bytes, so that each source can be looked up.
+/// Hashes all first sends by their bytes, so that any source can be looked up.
 fn hash_sends<L: ExerciseLog>(pass: &mut Pass, log: &L) -> Result<(), AllocError>
     requires { let r = L.recording log.now in IsPass r (length r.entries) pass.old }
     ensures pass { let r = L.recording log.now in OnOk result (IsPass r (length r.entries) pass.new) }
@@ -427,9 +423,9 @@ fn hash_sends<L: ExerciseLog>(pass: &mut Pass, log: &L) -> Result<(), AllocError
     hash_all(&mut pass.sends, log, log.entry_count())
 }
 
-/// What all entries are found to be. Where all sources were found, or few are yet to be found, which are
-/// looked up at once, what that takes is given back; where many are, each is found faster when it is
-/// asked for, since what sent it was asked for right before.
+/// Passes over all entries and returns the result. If all sources were found, or only few are open,
+/// which are then looked up at once, the memory of the index of first sends is freed. If many are
+/// open, each is found faster on demand, since callers mostly ask for it right after its send.
 pub(crate) fn find<L: ExerciseLog>(alloc: Global, log: &L) -> Result<Passed, AllocError>
     ensures { IfOk result (AreFindings (L.recording log.now)) }
 {
@@ -446,7 +442,7 @@ pub(crate) fn find<L: ExerciseLog>(alloc: Global, log: &L) -> Result<Passed, All
     }
 }
 
-/// Finds the source of an entry, where it is yet to be found.
+/// Looks up the source of an entry if it is still open.
 pub(crate) fn settle<L: ExerciseLog>(found: &mut Passed, log: &L, entry: usize)
     requires limits { IsRecording (L.recording log.now) }
     requires within { entry < length (L.recording log.now).entries }

@@ -1,6 +1,6 @@
-//! The requests that each station sends under each request identifier. Of the first under an identifier
-//! its entry alone is kept, under the hash of the identifier, which is read from the log where it is
-//! looked for.
+//! The requests that each station sends, by request identifier. For each identifier the table holds
+//! only the entry of its first request, under the hash of the identifier, which is read from the
+//! log at look-up.
 
 ghost use Rattle.std.specs.Prelude.{◌≡◌, ◌<◌, ◌+◌, ◌&&◌, not, true, length, is_some, option_and_then, OnOk, IfOk, Some, false};
 ghost use Rattle.std.specs.Option.{option_map_or};
@@ -26,7 +26,7 @@ use siman_pdus::{PduView, is_request, request_id, same_order};
 use std::alloc::{AllocError, Global};
 use std::hash::{BuildHasherDefault, DefaultHasher, Hash, Hasher};
 
-/// What the requests of one station have in common that are looked up together.
+/// Look-up key of the requests that one station sends under one identifier.
 #[derive(Clone, Copy, PartialEq, Eq)]
 pub(crate) struct Identifier {
     /// The station, from 0.
@@ -45,15 +45,15 @@ impl Hash for Identifier {
     }
 }
 
-/// What is kept of the requests so far.
+/// Index of the requests sent so far.
 pub(crate) struct Requests {
     /// The first request under each identifier.
     pub firsts: Kept,
-    /// The identifiers under which another order than the first was sent.
+    /// The identifiers under which a request other than the first was sent.
     pub mixed: Table<Identifier, bool>,
 }
 
-// Not derived: who drops it makes one call, and does not take its table apart by himself.
+// Not derived, so that a caller that drops it makes one call instead of dropping the table inline.
 impl Drop for Requests {
     fn drop(self) {
         let Requests {
@@ -63,7 +63,7 @@ impl Drop for Requests {
     }
 }
 
-/// No requests. It takes no memory.
+/// An empty index. It takes no memory.
 pub(crate) fn no_requests<L: ExerciseLog>(alloc: Global, log: &L) -> Requests
     ensures { AreRequests (L.recording log.now) 0 result }
 {
@@ -82,7 +82,7 @@ fn identifier_hash(identifier: &Identifier) -> u32
     (hasher.finish() % 0x1_0000_0000) as u32
 }
 
-/// The identifier under which a station sends a PDU, where it is a request.
+/// The identifier of a PDU that a station sends, if it is a request.
 fn identifier_of(station: u16, pdu: &PduView<'_>) -> Option<Identifier>
     ensures { result ≡ identifier_of station (pdu_of pdu.now) }
 {
@@ -105,7 +105,7 @@ fn is_under(identifier: &Identifier, station: u16, pdu: &PduView<'_>) -> bool
     }
 }
 
-/// Whether an entry, whose datagram is known to mean something, sends a request under an identifier.
+/// Whether an entry, whose datagram must mean something, sends a request under an identifier.
 #[tactic(auto, unfolding(crate::specs::Requests::request_at, crate::specs::Sent::is_meant), using(crate::proofs::Meant::meant_within))]
 fn asks_at<L: ExerciseLog>(log: &L, identifier: &Identifier, entry: usize) -> bool
     requires { is_meant (L.recording log.now) entry ≡ true }
@@ -119,7 +119,7 @@ fn asks_at<L: ExerciseLog>(log: &L, identifier: &Identifier, entry: usize) -> bo
     }
 }
 
-/// The entries that send a request under an identifier.
+/// Search for an entry that sends a request under an identifier.
 #[derive(Drop)]
 struct Asking<'a, L: ExerciseLog> {
     log: &'a L,
@@ -136,7 +136,7 @@ impl<'a, L: ExerciseLog> Sought for Asking<'a, L> {
     }
 }
 
-/// The first request under an identifier of this hash, of those before an entry.
+/// The first request before `before` under an identifier of this hash.
 fn first_request<L: ExerciseLog>(
     requests: &Requests,
     log: &L,
@@ -152,8 +152,8 @@ fn first_request<L: ExerciseLog>(
     find(&requests.firsts.slots, hash, &Asking { log, identifier })
 }
 
-/// Whether a PDU is another order than what a station sends by an entry whose datagram is known to mean
-/// something.
+/// Whether a PDU is a different request from the PDU that a station sends at an entry, whose
+/// datagram must mean something.
 fn differs<L: ExerciseLog>(log: &L, station: u16, entry: usize, pdu: &PduView<'_>) -> bool
     requires { is_meant (L.recording log.now) entry ≡ true }
     ensures { let r = L.recording log.now in result ≡ option_map_or (λ q. not (is_same_order (pdu_of pdu.now) q)) (option_and_then (meant_by_send r.setting.exercise) (own_event r station entry)) false }
@@ -164,18 +164,18 @@ fn differs<L: ExerciseLog>(log: &L, station: u16, entry: usize, pdu: &PduView<'_
     }
 }
 
-/// What an entry of a station sends, beside what the station sent under the same identifier.
+/// How a station's send uses its request identifier.
 #[derive(Clone, Copy)]
 pub(crate) struct IdentifierUse {
-    /// Whether it is a request under an identifier that the station used for another order before.
+    /// Whether it is a request whose identifier the station used for a different request before.
     pub reused: bool,
     /// Whether it is known to be the first request of the station under its identifier.
     pub first: bool,
 }
 
-/// Keeps a request that is not the first under its identifier, and tells whether the identifier was used
-/// for another order before: it was where another order than the first is known, or where the first
-/// is one.
+/// Records a request that is not the first under its identifier. Returns whether the identifier was
+/// used for a different request before: that is known already, or the first request differs from
+/// this one.
 fn note_again<L: ExerciseLog>(
     requests: &mut Requests,
     log: &L,
@@ -202,7 +202,7 @@ fn note_again<L: ExerciseLog>(
     Ok(reused)
 }
 
-/// Keeps a request under an identifier, and tells how it uses the identifier.
+/// Records a request under an identifier; returns how it uses the identifier.
 fn note_under<L: ExerciseLog>(
     requests: &mut Requests,
     log: &L,
@@ -238,8 +238,8 @@ fn note_under<L: ExerciseLog>(
     }
 }
 
-/// Keeps what an entry of a station sends, and tells how it uses its identifier, where it is a request:
-/// what is sent first under an identifier is new.
+/// Records a station's send if it is a request; returns how it uses its identifier. The first
+/// request under an identifier is a new datagram.
 pub(crate) fn note_request<L: ExerciseLog>(
     requests: &mut Requests,
     log: &L,

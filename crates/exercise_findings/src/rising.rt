@@ -1,5 +1,6 @@
-//! How far what each station sent rose so far. Request identifiers rise mostly, and time stamps under
-//! one: what stands above all that a station sent before is new, and is not looked for.
+//! The highest mark (request identifier, then timestamp) that each station sent so far. Identifiers
+//! mostly rise, and timestamps under one identifier: a datagram with a higher mark is new and needs
+//! no look-up.
 
 ghost use Rattle.std.specs.Prelude.{◌≡◌, ◌<◌, ◌+◌, ◌*◌, ◌^◌, true, length, set, nat_lt, slice_index_or, if◌then◌else◌, IfOk};
 ghost use Rattle.siman_pdus.specs.Reading.{pdu_of};
@@ -11,14 +12,14 @@ use exercise_model::ExerciseLog;
 use siman_pdus::{PduView, request_id};
 use std::alloc::{AllocError, Global};
 
-/// The highest mark of what each station sent so far.
+/// The highest mark that each station sent so far.
 #[derive(Drop)]
 pub(crate) struct Rising {
-    /// By stations; 0 where one sent nothing.
+    /// For each station; 0 if it sent nothing.
     pub tops: Vec<u64>,
 }
 
-/// Nothing was sent before the first entry.
+/// The highest marks before the first entry: all 0.
 #[tactic(auto, using(crate::proofs::HigherMarks::none_rising))]
 pub(crate) fn none_risen<L: ExerciseLog>(alloc: Global, log: &L) -> Result<Rising, AllocError>
     ensures { IfOk result (AreRising (L.recording log.now) 0) }
@@ -28,14 +29,15 @@ pub(crate) fn none_risen<L: ExerciseLog>(alloc: Global, log: &L) -> Result<Risin
     })
 }
 
-/// Two numbers of 32 bits as one word.
+/// Two 32-bit numbers as one 64-bit word.
 fn word_of(high: u32, low: u32) -> u64
     ensures { result ≡ high * 2 ^ 32 + low }
 {
     u64::from(high) * 0x1_0000_0000 + u64::from(low)
 }
 
-/// The mark of a PDU: its request identifier, or 0, and then its time stamp.
+/// The mark of a PDU: its request identifier, or 0, in the upper 32 bits, its timestamp in the
+/// lower.
 fn mark_of(pdu: &PduView<'_>) -> u64
     ensures { result ≡ mark_of (pdu_of pdu.now) }
 {
@@ -46,7 +48,7 @@ fn mark_of(pdu: &PduView<'_>) -> u64
     word_of(request, pdu.stamp)
 }
 
-/// Keeps a mark of a station, where it is the highest, and tells whether it is.
+/// Raises a station's highest mark to `mark` if that is higher; returns whether it is.
 fn rise(tops: &mut Vec<u64>, station: usize, mark: u64) -> bool
     requires { station < length tops.old.items }
     ensures higher { result ≡ nat_lt (slice_index_or tops.old.items station 0) mark }
@@ -59,8 +61,8 @@ fn rise(tops: &mut Vec<u64>, station: usize, mark: u64) -> bool
     is_higher
 }
 
-/// Keeps how far a station rises by what it sends with the next entry, and tells whether that stands
-/// above all that it sent before.
+/// Updates a station's highest mark with its next send. Returns whether the mark is above all
+/// earlier ones; the datagram is new then.
 pub(crate) fn note_rise<L: ExerciseLog>(
     rising: &mut Rising,
     log: &L,

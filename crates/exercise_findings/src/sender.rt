@@ -1,4 +1,4 @@
-//! Which recorded station a PDU comes from.
+//! Look-up of the recorded station that sent a PDU.
 
 ghost use Rattle.std.specs.Prelude.{◌≡◌, is_some, Some, IfSome};
 ghost use Rattle.siman_pdus.specs.Reading.{pdu_of};
@@ -9,26 +9,26 @@ use exercise_model::{ExerciseLog, is_from};
 use siman_pdus::{Message, PduView};
 use std::alloc::{AllocError, Global};
 
-/// Where a station stands among the stations, under so many of its address. What is found is the same
-/// whatever stands here.
+/// Cache of station indices under a small hash of their addresses. It affects speed alone, never
+/// the result.
 pub(crate) type Places = Vec<u16>;
 
-/// How many places are kept.
+/// Number of places in the cache.
 const PLACES: usize = 1024;
 
-/// The number under which the place of the station at an address is kept.
+/// The cache place for an address.
 fn number_of(site: u16, application: u16) -> usize {
     (usize::from(site) * 64 + usize::from(application)) % PLACES
 }
 
-/// Keeps the place of a station under a number.
+/// Stores a station's index at a place of the cache.
 fn keep_place(places: &mut Places, number: usize, station: u16) {
     if number < places.len() {
         places[number] = station;
     }
 }
 
-/// The places of the stations of a log.
+/// The cache, filled with the stations of a log.
 pub(crate) fn places_of<L: ExerciseLog>(alloc: Global, log: &L) -> Result<Places, AllocError> {
     let mut places = vec![in alloc; 0; PLACES]?;
     for station in 0..log.station_count() {
@@ -39,7 +39,7 @@ pub(crate) fn places_of<L: ExerciseLog>(alloc: Global, log: &L) -> Result<Places
     Ok(places)
 }
 
-/// The recorded station that a PDU comes from, where it stands at the place that is kept.
+/// The recorded station that sent a PDU, if the cache holds it.
 fn sender_at_place<L: ExerciseLog>(log: &L, places: &Places, pdu: &PduView<'_>) -> Option<u16>
     ensures { IfSome result (λ station. sender_of (L.recording log.now) (pdu_of pdu.now) ≡ Some station) }
 {
@@ -58,7 +58,7 @@ fn sender_at_place<L: ExerciseLog>(log: &L, places: &Places, pdu: &PduView<'_>) 
     }
 }
 
-/// The recorded station that a PDU comes from, looked for where its place is kept first.
+/// The recorded station that sent a PDU; the cache is tried first.
 pub(crate) fn sender_of<L: ExerciseLog>(log: &L, places: &Places, pdu: &PduView<'_>) -> Option<u16>
     ensures sender { result ≡ sender_of (L.recording log.now) (pdu_of pdu.now) }
     ensures recorded { is_some result ≡ is_recorded (L.recording log.now).setting (pdu_of pdu.now) }
@@ -69,7 +69,7 @@ pub(crate) fn sender_of<L: ExerciseLog>(log: &L, places: &Places, pdu: &PduView<
     }
 }
 
-/// The recorded station that a PDU comes from, looked for among all.
+/// The recorded station that sent a PDU, searched among all.
 fn sender_among<L: ExerciseLog>(log: &L, pdu: &PduView<'_>) -> Option<u16>
     ensures sender { result ≡ sender_of (L.recording log.now) (pdu_of pdu.now) }
     ensures recorded { is_some result ≡ is_recorded (L.recording log.now).setting (pdu_of pdu.now) }

@@ -1,4 +1,4 @@
-//! Where each datagram was sent first, kept under the hashes of its bytes.
+//! Index of the first send of each datagram, by the hash of its bytes.
 
 ghost use Rattle.std.specs.Prelude.{◌≡◌, ◌<◌, ◌+◌, ℕ, Some, true, length, IfSome, OnOk};
 ghost use Rattle.exercise_findings.specs.Hashed.{datagram_hash};
@@ -13,7 +13,7 @@ use exercise_model::{EntryView, ExerciseLog};
 use std::alloc::{AllocError, Global};
 use std::hash::{DefaultHasher, Hasher};
 
-/// The entry by which each datagram was sent first by the station that it comes from.
+/// The first send of each datagram by its originating station.
 pub(crate) type Senders = Kept;
 
 /// The hash of a datagram.
@@ -25,7 +25,7 @@ pub(crate) fn datagram_hash(datagram: &[u8]) -> u32
     (hasher.finish() % 0x1_0000_0000) as u32
 }
 
-/// Whether an entry sends a datagram of these bytes.
+/// Whether an entry sends a datagram of these bytes; false past the last entry.
 fn sends_at<L: ExerciseLog>(log: &L, datagram: &[u8], entry: usize) -> bool
     ensures { result ≡ sends_at (L.recording log.now) datagram.now entry }
 {
@@ -38,7 +38,7 @@ fn sends_at<L: ExerciseLog>(log: &L, datagram: &[u8], entry: usize) -> bool
     }
 }
 
-/// The entries that send a datagram of these bytes.
+/// Search for an entry that sends a datagram of these bytes.
 #[derive(Drop)]
 pub(crate) struct Sending<'a, L: ExerciseLog> {
     pub log: &'a L,
@@ -55,7 +55,7 @@ impl<'a, L: ExerciseLog> Sought for Sending<'a, L> {
     }
 }
 
-/// The entry by which a datagram of this hash was sent first by the station that it comes from.
+/// The first send of a datagram of this hash by its originating station.
 pub(crate) fn first_hashed<L: ExerciseLog>(
     senders: &Senders,
     log: &L,
@@ -68,7 +68,7 @@ pub(crate) fn first_hashed<L: ExerciseLog>(
     find(&senders.slots, hash, &Sending { log, datagram })
 }
 
-/// The entry by which a datagram of these bytes was sent first by the station that it comes from.
+/// The first send of a datagram by its originating station.
 pub(crate) fn first_source<L: ExerciseLog>(
     senders: &Senders,
     log: &L,
@@ -79,7 +79,7 @@ pub(crate) fn first_source<L: ExerciseLog>(
     first_hashed(senders, log, datagram_hash(datagram), datagram)
 }
 
-/// The entry that was kept at a place, where it sends a datagram of these bytes.
+/// The entry at a place of the order, if it sends these bytes.
 fn source_kept_at<L: ExerciseLog>(
     senders: &Senders,
     log: &L,
@@ -91,18 +91,19 @@ fn source_kept_at<L: ExerciseLog>(
     kept_at(senders, place, &Sending { log, datagram })
 }
 
-/// The hints, under so many of the sender's address.
+/// Predictors, one for each small hash of a sender's address.
 pub(crate) type Hints = Vec<Hint>;
 
-/// How many hints there are.
+/// Number of predictors.
 const HINTS: usize = 256;
 
-/// Nothing was found so far.
+/// Predictors without hits.
 pub(crate) fn no_hints(alloc: Global) -> Result<Hints, AllocError> {
     vec![in alloc; Hint::new(); HINTS]
 }
 
-/// The number of the hint for a datagram, by where it says that it comes from.
+/// The predictor for a datagram, from the sender's address in its bytes (the low bytes of site and
+/// application).
 fn hint_of(datagram: &[u8]) -> usize {
     match (datagram.get(13), datagram.get(15)) {
         (Some(site), Some(application)) => {
@@ -112,7 +113,7 @@ fn hint_of(datagram: &[u8]) -> usize {
     }
 }
 
-/// The place where a hint leads.
+/// The place that a predictor predicts; 0 if there is no such predictor.
 fn place_of(hints: &Hints, number: usize) -> usize {
     match hints.get(number) {
         Some(hint) => hint.next(),
@@ -120,15 +121,15 @@ fn place_of(hints: &Hints, number: usize) -> usize {
     }
 }
 
-/// Keeps that a datagram of this hint was found at a place.
+/// Records a hit of a predictor at a place.
 fn keep_hint(hints: &mut Hints, number: usize, place: usize) {
     if number < hints.len() {
         hints[number].found(place);
     }
 }
 
-/// As [`first_source`], looked for first where the hint of its sender leads: stations mostly receive
-/// what one sent in the order in which it was sent, or each so much of it.
+/// As [`first_source`], trying the predictor of the sender first: stations mostly receive a
+/// sender's datagrams, or a regular share of them, in the order in which they were sent.
 pub(crate) fn next_source<L: ExerciseLog>(
     senders: &Senders,
     hints: &mut Hints,

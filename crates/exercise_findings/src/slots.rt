@@ -1,5 +1,6 @@
-//! Entries under hashes, in slots: an entry stands in the first slot that was free, from the home of
-//! its hash on. What it is looked for by is read from the log, so a slot keeps a hash and a number.
+//! Hash table of entries with linear probing: an entry is in the first slot that was free,
+//! searching from the home slot of its hash. A slot holds only a hash and an entry number; keys are
+//! read from the log.
 
 ghost use Rattle.std.specs.Prelude.{◌≡◌, ◌≢◌, ◌<◌, ◌⊎◌, ℕ, Bool, false, true, length, IfSome, IfNone, IfOk, OnOk};
 ghost use Rattle.exercise_findings.specs.Slots.{home, slot_behind, IsFirstFree, IsReached, IsPut, Stands};
@@ -8,41 +9,42 @@ use crate::number::NO_ENTRY;
 use crate::tagged::{Look, TaggedSlots};
 use std::alloc::{AllocError, Global};
 
-/// A slot: an entry, and the hash that it is kept under.
+/// A slot: an entry and its hash.
 #[derive(Clone, Copy)]
 pub(crate) struct Slot {
     /// The hash.
     pub hash: u32,
-    /// The entry; [`NO_ENTRY`] where the slot is free.
+    /// The entry; [`NO_ENTRY`] if the slot is free.
     pub entry: u32,
 }
 
-/// The slots, with how many have an entry.
+/// A hash table of entries.
 #[derive(Drop)]
 pub(crate) struct Slots {
     alloc: Global,
     /// The slots: none, or a power of two.
     pub slots: TaggedSlots,
-    /// How many have an entry. What is found is the same whatever stands here, and in the next line.
+    /// Number of occupied slots. This field and the next affect speed and memory alone, never the
+    /// result.
     used: usize,
-    /// How many slots there are once one is needed.
+    /// Number of slots at the first growth.
     least: usize,
 }
 
-/// What an entry is looked for by, among those under one hash.
+/// A search for one of the entries under a hash.
 pub(crate) trait Sought {
-    // What it answers, and of which entries.
+    // Which entries are sought, and which may be asked about.
     ghost is_sought: { Self → ℕ → Bool };
 
     ghost is_known: { Self → ℕ → Bool };
 
-    /// Whether it is this entry, of which something is known already.
+    /// Whether this entry, which must be known, is the one sought.
     fn is_sought(&self, entry: u32) -> bool
         requires { is_known self.now entry ≡ true }
         ensures { result ≡ is_sought self.now entry };
 }
 
-/// No entries, of so many that there may be. It takes no memory.
+/// An empty table, for a log of this many entries. It takes no memory.
 pub(crate) fn no_slots(alloc: Global, entries: usize) -> Slots
     ensures { length result.slots ≡ 0 }
 {
@@ -54,11 +56,11 @@ pub(crate) fn no_slots(alloc: Global, entries: usize) -> Slots
     }
 }
 
-/// How often the least number of slots is doubled at most.
+/// How often the least number of slots may be doubled.
 const DOUBLED: usize = 15;
 
-/// How many slots there are once one is needed: a power of two, half as many as there may be entries
-/// or fewer.
+/// Number of slots at the first growth: a power of two, at least 16, at most half the number of
+/// entries beyond that.
 fn least_slots(entries: usize) -> usize {
     let mut least: usize = 16;
     for _ in 0..DOUBLED {
@@ -69,7 +71,7 @@ fn least_slots(entries: usize) -> usize {
     least
 }
 
-/// The slot where a hash is looked for first.
+/// The home slot of a hash: where its search begins. `count` is a power of two.
 fn home(hash: u32, count: usize) -> usize
     requires { 0 < count }
     ensures value { result ≡ home count hash }
@@ -78,7 +80,7 @@ fn home(hash: u32, count: usize) -> usize
     hash as usize & (count - 1)
 }
 
-/// The slot behind one. Behind the last is the first.
+/// The next slot after one; the first after the last.
 fn slot_behind(place: usize, count: usize) -> usize
     requires { place < count }
     ensures value { result ≡ slot_behind count place }
@@ -87,7 +89,7 @@ fn slot_behind(place: usize, count: usize) -> usize
     if place + 1 == count { 0 } else { place + 1 }
 }
 
-/// The entry under a hash that is the one that is looked for.
+/// The sought entry under a hash.
 pub(crate) fn find<S: Sought>(slots: &Slots, hash: u32, sought: &S) -> Option<u32>
     requires { (e : ℕ) → Stands slots.now.slots e → S.is_known sought.now e ≡ true }
     ensures found { IfSome result (λ e. Stands slots.now.slots e × (S.is_sought sought.now e ≡ true)) }
@@ -113,7 +115,7 @@ pub(crate) fn find<S: Sought>(slots: &Slots, hash: u32, sought: &S) -> Option<u3
     None
 }
 
-/// The first slot that is free, from the home of a hash on.
+/// The first free slot, searching from the home slot of a hash.
 fn first_free(slots: &TaggedSlots, hash: u32) -> Option<usize>
     ensures { IfSome result (IsFirstFree slots.now hash) }
 {
@@ -131,8 +133,8 @@ fn first_free(slots: &TaggedSlots, hash: u32) -> Option<usize>
     None
 }
 
-/// Puts an entry into the first slot that is free, from the home of its hash on. Where none is free
-/// there is no room; [`make_room`] leaves a quarter of them free.
+/// Puts an entry into the first free slot from the home slot of its hash. Fails if none is free;
+/// [`make_room`] leaves a quarter of them free.
 fn put(slots: &mut TaggedSlots, hash: u32, entry: u32) -> Result<(), AllocError>
     requires some { entry ≢ 4294967295 }
     ensures reached { OnOk result (IsReached slots.new hash entry) }
@@ -148,7 +150,7 @@ fn put(slots: &mut TaggedSlots, hash: u32, entry: u32) -> Result<(), AllocError>
     }
 }
 
-/// Puts what stands in a slot into others, if it is an entry.
+/// Copies the entry of a slot, if it has one, into other slots.
 fn put_slot(slots: &mut TaggedSlots, slot: Slot) -> Result<(), AllocError>
     ensures reached { OnOk result (slot.entry ≢ 4294967295 → IsReached slots.new slot.hash slot.entry) }
     ensures kept { OnOk result ((h e : ℕ) → IsReached slots.old h e → IsReached slots.new h e) }
@@ -161,7 +163,7 @@ fn put_slot(slots: &mut TaggedSlots, slot: Slot) -> Result<(), AllocError>
     }
 }
 
-/// So many slots, with what stands in these.
+/// A new array of `count` slots with all entries of another.
 fn spread(alloc: Global, from: &TaggedSlots, count: usize) -> Result<TaggedSlots, AllocError>
     ensures kept { IfOk result (λ to. (h e : ℕ) → IsReached from.now h e → IsReached to h e) }
     ensures only { IfOk result (λ to. (e : ℕ) → Stands to e → Stands from.now e) }
@@ -173,7 +175,7 @@ fn spread(alloc: Global, from: &TaggedSlots, count: usize) -> Result<TaggedSlots
     Ok(to)
 }
 
-/// Makes twice as many slots where less than a quarter are free.
+/// Doubles the slots if at most a quarter are free.
 fn make_room(slots: &mut Slots) -> Result<(), AllocError>
     ensures kept { OnOk result ((h e : ℕ) → IsReached slots.old.slots h e → IsReached slots.new.slots h e) }
     ensures only { OnOk result ((e : ℕ) → Stands slots.new.slots e → Stands slots.old.slots e) }
@@ -190,7 +192,7 @@ fn make_room(slots: &mut Slots) -> Result<(), AllocError>
     Ok(())
 }
 
-/// Keeps an entry under a hash.
+/// Adds an entry under a hash.
 pub(crate) fn keep(slots: &mut Slots, hash: u32, entry: u32) -> Result<(), AllocError>
     requires { entry ≢ 4294967295 }
     ensures { OnOk result (IsPut hash entry slots.old.slots slots.new.slots) }

@@ -1,4 +1,4 @@
-//! The state of an entity of a station before an entry, and after the whole of the logs.
+//! The state of an entity of a station before an entry, and the entities after all logs.
 
 ghost use Rattle.std.specs.Prelude.{◌≡◌, ◌<◌, ◌≤◌, ◌+◌, ◌*◌, length, [], ◌∷◌, ◌++◌, if◌then◌else◌, option_map, IfOk, OnOk};
 ghost use Rattle.siman_pdus.specs.Reading.{pdu_of};
@@ -19,8 +19,8 @@ use exercise_model::{Change, ExerciseLog};
 use siman_pdus::PduView;
 use std::alloc::{AllocError, Global};
 
-/// What a PDU changes that a station sends at an entry, which is the first Able under its key or not,
-/// and that takes up this request, if there is one.
+/// The change that a PDU makes which a station sends at an entry. `first`: whether it is the first
+/// Able under its key; `taken`: the request that it takes up, with its entry.
 #[tactic(auto, unfolding(exercise_model::specs::State::change_by))]
 pub(crate) fn change_by<L: ExerciseLog>(
     log: &L,
@@ -58,7 +58,7 @@ pub(crate) fn state_before<L: ExerciseLog>(
     known_in(&tables.states[usize::from(station)], entity)
 }
 
-/// Adds an entity with its state at the end, where it is not Absent.
+/// Appends an entity with its state if it is not Absent.
 fn push_present(
     entities: &mut Vec<(u16, EntityState)>,
     entity: u16,
@@ -72,7 +72,7 @@ fn push_present(
     Ok(())
 }
 
-/// Whether something is kept of the entities of a page.
+/// Whether a page holds states of single entities.
 fn has_page(pages: &[Vec<Held>], page: u16) -> bool
     ensures { result ≡ has_page pages.now page }
 {
@@ -80,7 +80,7 @@ fn has_page(pages: &[Vec<Held>], page: u16) -> bool
     page < pages.len() && !pages[page].is_empty()
 }
 
-/// Adds the entities of the next page that are not Absent at the end.
+/// Appends the entities of the next page that are not Absent.
 fn push_page(
     entities: &mut Vec<(u16, EntityState)>,
     states: &States,

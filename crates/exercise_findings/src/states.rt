@@ -1,5 +1,6 @@
-//! The states of the entities of a station so far. What was set one by one stands in pages of 256
-//! entities, made at first use; a change of all entities is a number beside them, and looks at none.
+//! The current states of a station's entities. States that were set singly are in pages of 256
+//! entities, allocated at first use; a change of all entities is one number besides, and touches no
+//! page.
 
 ghost use Rattle.std.specs.Prelude.{◌≡◌, ◌<◌, ◌+◌, ℕ, ◌==◌, false, length, IfOk, OnOk, if◌then◌else◌};
 ghost use Rattle.dis_records.specs.declared.entity_state.EntityState.TheVariants.{Absent};
@@ -12,38 +13,38 @@ use dis_records::{EntityState, Kind, Scope};
 use exercise_model::{Change, ExerciseLog, Station, is_entity, state_made};
 use std::alloc::{AllocError, Global};
 
-/// How many numbers a page has.
+/// Entities in a page.
 pub(crate) const PAGE: u16 = 256;
 
-/// How many pages there are for all numbers.
+/// Pages for all entity numbers.
 pub(crate) const PAGES: u16 = 256;
 
-/// The state of an entity that was set by itself.
+/// The state of an entity that was set singly.
 #[derive(Clone, Copy)]
 pub(crate) struct Held {
     pub state: EntityState,
-    /// The number of the change that set it.
+    /// Number of the change that set it.
     pub since: u32,
 }
 
-/// The states of the entities of a station. Changes are numbered from 1 by the entries that make
-/// them; 0 stands for the opening.
+/// The states of the entities of a station. A change has the number of its entry plus 1; 0 is the
+/// opening.
 #[derive(Drop)]
 pub(crate) struct States {
     alloc: Global,
-    /// What was set one by one: entity `e` at place `e % 256` of page `e / 256`.
+    /// States set singly: entity `e` is at place `e % 256` of page `e / 256`.
     pub pages: Vec<Vec<Held>>,
-    /// The state of the entities of which nothing is kept.
+    /// The state of every entity that was not set singly since `alike`.
     pub rest: EntityState,
-    /// The number of the last change that made all entities alike: a Create or Remove of all.
+    /// Number of the last change that set all entities to one state: a Create or Remove of all.
     pub alike: u32,
-    /// The number of the last Start or Stop of all.
+    /// Number of the last Start or Stop of all.
     pub moved: u32,
-    /// What it made of the entities that were there.
+    /// The state to which that set the entities that were present.
     pub moved_to: EntityState,
 }
 
-/// No entity is there. It takes no memory.
+/// States in which no entity is present. It takes no memory.
 #[tactic(auto, unfolding(crate::specs::States::state_in, crate::specs::States::held_at))]
 fn no_entities(alloc: Global) -> States
     ensures up_to { AreUpTo 0 result }
@@ -59,7 +60,7 @@ fn no_entities(alloc: Global) -> States
     }
 }
 
-/// What is kept of an entity by itself.
+/// The state of an entity that was set singly, or `None`.
 fn held_at(states: &States, entity: u16) -> Option<Held>
     ensures { result ≡ held_at states.now.pages.items entity }
 {
@@ -71,7 +72,7 @@ fn held_at(states: &States, entity: u16) -> Option<Held>
     }
 }
 
-/// The state of a number.
+/// The state under an entity number, checked or not.
 #[tactic(auto, unfolding(crate::specs::States::state_in))]
 pub(crate) fn state_in(states: &States, entity: u16) -> EntityState
     ensures { result ≡ state_in states.now entity }
@@ -90,7 +91,7 @@ pub(crate) fn state_in(states: &States, entity: u16) -> EntityState
     }
 }
 
-/// The state of a number, Absent where it is no entity's.
+/// The state under an entity number; Absent if no entity can have that number.
 pub(crate) fn known_in(states: &States, entity: u16) -> EntityState
     ensures { result ≡ known_in states.now entity }
 {
@@ -101,7 +102,7 @@ pub(crate) fn known_in(states: &States, entity: u16) -> EntityState
     }
 }
 
-/// Makes empty pages up to this one.
+/// Adds empty pages up to and including this one.
 fn reach_page(pages: &mut Vec<Vec<Held>>, alloc: Global, page: usize) -> Result<(), AllocError>
     requires { page < 256 }
     ensures held { (e : ℕ) → held_at pages.new.items e ≡ held_at pages.old.items e }
@@ -113,7 +114,7 @@ fn reach_page(pages: &mut Vec<Vec<Held>>, alloc: Global, page: usize) -> Result<
     Ok(())
 }
 
-/// Keeps this at a place of a page; the places before it that had nothing get the filler.
+/// Sets a place of a page, filling new places before it with `filler`.
 fn put_at(page: &mut Vec<Held>, filler: Held, place: usize, held: Held) -> Result<(), AllocError>
     requires { place < 256 }
     ensures { OnOk result (IsPut filler place held page.old.items page.new.items) }
@@ -125,7 +126,7 @@ fn put_at(page: &mut Vec<Held>, filler: Held, place: usize, held: Held) -> Resul
     Ok(())
 }
 
-/// Sets the state of one number, by the change of this number or the opening.
+/// Sets the state under one number, by the change with this number (0: the opening).
 fn hold(states: &mut States, entity: u16, state: EntityState, number: u32) -> Result<(), AllocError>
     requires up_to { AreUpTo number states.old }
     ensures up_to { OnOk result (AreUpTo number states.new) }
@@ -145,7 +146,7 @@ fn hold(states: &mut States, entity: u16, state: EntityState, number: u32) -> Re
     put_at(&mut states.pages[page], filler, place, held)
 }
 
-/// Gives all entities one state, by the change of this entry.
+/// Sets all entities to one state, by the change of this entry.
 fn make_alike(states: &mut States, state: EntityState, entry: u32)
     requires few { entry < 4294967295 }
     requires up_to { AreUpTo entry states.old }
@@ -156,7 +157,7 @@ fn make_alike(states: &mut States, state: EntityState, entry: u32)
     states.alike = entry + 1;
 }
 
-/// This state for an entity that is there.
+/// The new state for an entity that is present; Absent stays Absent.
 fn moved(before: EntityState, state: EntityState) -> EntityState
     ensures { result ≡ (if is_absent before then Absent else state) }
 {
@@ -166,7 +167,7 @@ fn moved(before: EntityState, state: EntityState) -> EntityState
     }
 }
 
-/// Gives all entities that are there one state, by the change of this entry.
+/// Sets all present entities to one state, by the change of this entry.
 fn move_all(states: &mut States, state: EntityState, entry: u32)
     requires few { entry < 4294967295 }
     requires there { is_absent state ≡ false }
@@ -195,7 +196,7 @@ fn change_all(states: &mut States, kind: Kind, entry: u32)
     }
 }
 
-/// Makes the change of an entry.
+/// Applies the change of an entry.
 fn make_change(states: &mut States, change: Change, entry: u32) -> Result<(), AllocError>
     requires few { entry < 4294967295 }
     requires up_to { AreUpTo entry states.old }
@@ -239,7 +240,7 @@ pub(crate) fn no_changes<L: ExerciseLog>(alloc: Global, log: &L) -> Result<Vec<S
     Ok(states)
 }
 
-/// Makes the change of the next entry of a log, if it makes one.
+/// Applies the change of the next entry of a log, if it makes one.
 pub(crate) fn note_change<L: ExerciseLog>(
     states: &mut Vec<States>,
     log: &L,

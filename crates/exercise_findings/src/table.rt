@@ -1,4 +1,4 @@
-//! Tables that keep what came first under each key.
+//! Hash tables that hold the first value of each key.
 
 ghost use Rattle.std.specs.Prelude.{◌≡◌, Some, if◌then◌else◌, unwrap_or, IfOk, OnErr};
 ghost use Rattle.indexmap.specs.IndexMap.{get, IsUnchanged};
@@ -7,12 +7,11 @@ use indexmap::IndexMap;
 use std::alloc::AllocError;
 use std::hash::{BuildHasherDefault, DefaultHasher, Hash};
 
-/// A table whose keys come from a recording. Its writer may be a stranger, so the hasher is one for
-/// which nobody writes down keys that fall together.
+/// A hash table whose keys are from a recording. Its writer may be hostile, so the hasher is one
+/// for which no colliding keys can be prepared.
 pub(crate) type Table<K, V> = IndexMap<K, V, BuildHasherDefault<DefaultHasher>>;
 
-/// Makes room in a full table for three times as many more: each time that it grows it looks at all
-/// that it keeps.
+/// Grows a full table to four times its size, since each growth visits all entries.
 fn make_room<K: Eq + Hash, V>(table: &mut Table<K, V>) -> Result<(), AllocError>
     ensures { IsUnchanged table.old table.new }
 {
@@ -22,7 +21,7 @@ fn make_room<K: Eq + Hash, V>(table: &mut Table<K, V>) -> Result<(), AllocError>
     table.reserve(table.len().saturating_mul(3))
 }
 
-/// What stands under a key, once this is kept there where nothing was.
+/// Stores a value under a key that has none yet; returns the value that the key then has.
 pub(crate) fn keep_first<K: Copy + Eq + Hash, V: Copy>(
     table: &mut Table<K, V>,
     key: K,

@@ -1,4 +1,4 @@
-//! What a pass over a log keeps of the entries behind it, to look it up for the entries ahead.
+//! Look-up tables that a pass fills with the entries behind it and consults for the entries ahead.
 
 ghost use Rattle.std.specs.Prelude.{◌≡◌, ◌<◌, ◌+◌, length, None, true, OnOk, IfOk};
 ghost use Rattle.exercise_model.specs.Account.{change_at};
@@ -13,7 +13,7 @@ use crate::states::{States, no_changes, note_change};
 use exercise_model::{Change, ExerciseLog};
 use std::alloc::{AllocError, Global};
 
-/// What is kept of the entries so far.
+/// Look-up tables of the entries so far.
 pub(crate) struct Tables {
     /// The first entry under each key.
     pub firsts: Firsts,
@@ -21,7 +21,7 @@ pub(crate) struct Tables {
     pub states: Vec<States>,
 }
 
-// Not derived: who drops it makes one call, and does not take its table apart by himself.
+// Not derived, so that a caller that drops it makes one call instead of dropping the table inline.
 impl Drop for Tables {
     fn drop(self) {
         let Tables {
@@ -31,7 +31,7 @@ impl Drop for Tables {
     }
 }
 
-/// What is kept before the first entry.
+/// The tables before the first entry.
 pub(crate) fn no_tables<L: ExerciseLog>(alloc: Global, log: &L) -> Result<Tables, AllocError>
     ensures { IfOk result (λ tables. AreTied (L.recording log.now) 0 tables) }
 {
@@ -42,8 +42,8 @@ pub(crate) fn no_tables<L: ExerciseLog>(alloc: Global, log: &L) -> Result<Tables
     })
 }
 
-/// Keeps the next entry of a log, which makes this change and has this key of this base, and tells whether
-/// it is the first that has the key: what it sends is new then.
+/// Adds the next entry of a log, with its change, its key and the key's hash base. Returns whether
+/// it is the first under its key; a send is a new datagram then.
 #[tactic(auto, using(crate::proofs::FirstSends::new_key))]
 pub(crate) fn note_tables<L: ExerciseLog>(
     tables: &mut Tables,
@@ -66,7 +66,7 @@ pub(crate) fn note_tables<L: ExerciseLog>(
     note_entry(&mut tables.firsts, log, entry, key, base)
 }
 
-/// Keeps the next entry of a log, which makes no change and has this key of this base.
+/// Adds the next entry of a log, which makes no change, with its key and the key's hash base.
 pub(crate) fn note_key<L: ExerciseLog>(
     tables: &mut Tables,
     log: &L,

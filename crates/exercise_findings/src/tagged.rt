@@ -1,5 +1,5 @@
-//! Slots with a tag beside each, which tells that the slot is free, or a part of the hash that its entry
-//! is kept under. Tags lie close together, so most looks at slots end at a tag.
+//! Slots with an array of one-byte tags: a tag shows that its slot is free, or a part of the
+//! entry's hash. Tags are close together in memory, and most probes need only the tag.
 
 ghost use Rattle.std.specs.Prelude.{◌≡◌, ◌≢◌, ◌<◌, ◌==◌, [], set, replicate, length, slice_get, Some, IfOk};
 ghost use Rattle.exercise_findings.specs.declared.slots.Slot.{Slot};
@@ -10,34 +10,34 @@ use crate::slots::Slot;
 use std::alloc::{AllocError, Global};
 use std::marker::Model;
 
-/// The tag of a slot that is free.
+/// The tag of a free slot.
 const FREE_TAG: u8 = 0;
 
-/// A slot that is free.
+/// A free slot.
 const FREE: Slot = Slot {
     hash: 0,
     entry: NO_ENTRY,
 };
 
-/// The tag of what is kept under a hash: the first seven of its bits, and one more, 1 to 128.
+/// The tag of a hash: its highest seven bits plus one, 1 to 128.
 fn tag_of(hash: u32) -> u8
     ensures { result ≡ tag_of hash }
 {
     (hash / 0x200_0000) as u8 + 1
 }
 
-/// What a look at a slot tells of a hash.
+/// Result of probing a slot for a hash.
 #[derive(Clone, Copy)]
 pub(crate) enum Look {
     /// The slot is free.
     Free,
-    /// An entry stands there, under another hash.
+    /// The slot has an entry with another hash.
     Other,
-    /// This entry stands there, under the hash.
+    /// The slot has this entry, with the hash.
     Under(u32),
 }
 
-/// Slots, and the tag of each. Contracts see the slots.
+/// Slots, each with a tag. Contracts see only the slots.
 #[derive(Drop)]
 pub(crate) struct TaggedSlots {
     slots: Vec<Slot>,
@@ -67,7 +67,7 @@ impl TaggedSlots {
         }
     }
 
-    /// So many slots, all of them free.
+    /// `count` free slots.
     pub(crate) fn free(alloc: Global, count: usize) -> Result<TaggedSlots, AllocError>
         ensures { IfOk result (λ slots. slots ≡ replicate count free_slot) }
     {
@@ -76,14 +76,14 @@ impl TaggedSlots {
         Ok(TaggedSlots { slots, tags })
     }
 
-    /// How many slots there are.
+    /// The number of slots.
     pub(crate) fn count(&self) -> usize
         ensures { result ≡ length self.now }
     {
         self.slots.len()
     }
 
-    /// A slot.
+    /// The slot at a place.
     pub(crate) fn slot(&self, place: usize) -> Slot
         requires { place < length self.now }
         ensures { slice_get self.now place ≡ Some result }
@@ -100,7 +100,7 @@ impl TaggedSlots {
         self.tags[place] == FREE_TAG
     }
 
-    /// What stands in a slot, under a hash. The slot itself is read where the tags are one alone.
+    /// Probes a slot for a hash. The slot itself is read only if the tags match.
     #[inline(always)]
     pub(crate) fn look(&self, place: usize, hash: u32) -> Look
         requires { place < length self.now }
@@ -121,7 +121,7 @@ impl TaggedSlots {
         }
     }
 
-    /// Puts an entry under a hash into a slot, in the place of what stands there.
+    /// Puts an entry under a hash into a slot, replacing its contents.
     pub(crate) fn put(&mut self, place: usize, hash: u32, entry: u32)
         requires within { place < length self.old }
         requires some { entry ≢ 0xFFFFFFFF }

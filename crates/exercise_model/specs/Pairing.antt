@@ -1,4 +1,4 @@
--- Which events of a run the entries are that a recording pairs, read from the logs alone (profile).
+-- Events in a run of the entries that a recording pairs, read from the logs alone (profile).
 use Rattle.std.specs.Prelude.{◌≡◌, ℕ, List, Some, None, slice_get, is_some, true, false}
 use Rattle.siman_pdus.specs.declared.pdu.Pdu.{Pdu}
 use Rattle.exercise_model.specs.declared.acknowledge.AcknowledgeKey.{AcknowledgeKey}
@@ -12,7 +12,7 @@ use Rattle.exercise_model.specs.Change.{able, responds, key_of, sends_under, was
 use Rattle.exercise_model.specs.Run.{Contains, StandsFor}
 use Rattle.exercise_model.specs.Account.{sender_of}
 
--- entry j is, in what happened before, the first Get of station s that brings a request for its answer p
+-- entry j is, in the history `before`, the first Get of station s with a request that its answer p may take up
 pub record IsTakenUp (r : PlainRecording) (before : History) (s : ℕ) (p : Pdu) (j : ℕ) : Type 0 where
   pub bytes : List ℕ
   pub earlier : History
@@ -30,7 +30,7 @@ pub record IsFirstAbleSent (r : PlainRecording) (h : History) (t : ℕ) (k : Ack
   pub sends : sends_under r.setting.exercise able k (Send t bytes) ≡ true
   pub first : was_acknowledged r.setting.exercise able k (log_at t earlier) ≡ false
 
--- entry j is, in the history h, the first Able under the key of p of the recorded station that p comes from
+-- entry j is, in the history h, the first Able under the key of p that the recorded sender of p sent
 pub record IsChangeBehind (r : PlainRecording) (h : History) (p : Pdu) (j : ℕ) : Type 0 where
   pub station : ℕ
   pub key : AcknowledgeKey

@@ -1,16 +1,15 @@
-//! Exercises as their logs tell them: stations, what each of them sent, received and told, and which
-//! histories of events can have been.
+//! Model of a recorded exercise: stations, their entries, the meaning of datagrams, the states of
+//! entities, and which histories of events are possible. It never reads or writes files or
+//! certificates, and decides nothing about a recording. The layer above may rely on
+//! [`ExerciseLog`], whose value in contracts is one plain recording (a setting and its entries), on
+//! the definitions in `specs/`, and on these laws.
 //!
-//! It knows no file and no certificate, and decides nothing about a recording. The layers above rest
-//! on [`ExerciseLog`], whose meaning is one plain recording (a setting and its entries), and on the
-//! definitions in `specs/`: a datagram's meaning, events and histories, the request that an answer
-//! takes up, changes and states, why an event may not happen, and runs. The laws of runs are
-//! [`what_explains_holds`], [`logs_suffice`], [`accounts_are_whole`], [`entries_stand`],
-//! [`changes_are_known`], [`allowed_stays_allowed`] and [`ends_are_one`]; that of a first answer is
-//! [`first_answers_change_states`], that of the forms of a recording [`forms_decide_who_is_heard`],
-//! that of some of its stations alone [`parts_are_explained`], and that of a recording that is carried
-//! over to the second format [`conversion_keeps_runs`]. Only [`Recording::push`] and [`meaning_of`]
-//! take memory.
+//! Runs: [`what_explains_holds`], [`logs_suffice`], [`accounts_are_whole`], [`entries_stand`],
+//! [`changes_are_known`], [`allowed_stays_allowed`] and [`ends_are_one`]. First answers:
+//! [`first_answers_change_states`]. Forms: [`forms_decide_who_is_heard`]. Some of the stations
+//! alone: [`parts_are_explained`]. Conversion to the second format: [`conversion_keeps_runs`].
+//!
+//! Only [`Recording::push`] and [`meaning_of`] take memory.
 #![tactic(auto)]
 
 mod acknowledge;

@@ -1,4 +1,4 @@
--- What is told alike of a recording of the first format and of its conversion (profile).
+-- What a recording of the first form and its conversion have in common in a review (profile).
 use Rattle.std.specs.Prelude.{◌≡◌, ℕ}
 use Rattle.exercise_model.specs.Recording.{PlainRecording}
 use Rattle.exercise_model.specs.Account.{others_of}
@@ -9,8 +9,8 @@ use Rattle.exercise_review.specs.Span.{all_spans}
 use Rattle.exercise_review.specs.Tally.{station_counts}
 use Rattle.exercise_review.specs.Told.{orders_of, orders_told}
 
--- BOTH ARE REVIEWED ALIKE: the heads, the orders and what became of them at their parties, the stretches of lives, the counts, the number of lines, and
--- what is missing
+-- BOTH ARE REVIEWED ALIKE: equal heads, orders, outcomes at the parties, spans of lives, counts, number of rows and
+-- missing sends
 pub record AreReviewedAlike (old new : PlainRecording) : Type 0 where
   pub heads : (i : ℕ) → head_of old i ≡ head_of new i
   pub orders : orders_of old ≡ orders_of new

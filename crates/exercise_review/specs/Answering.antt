@@ -1,4 +1,5 @@
--- What answers an order in a run, by what it says alone, whatever request its station took it to answer (profile).
+-- Answers to an order in a run, judged by their contents alone, whichever request their station took them to answer
+-- (profile).
 use Rattle.std.specs.Prelude.{◌≡◌, ℕ, List, true, Some}
 use Rattle.siman_pdus.specs.declared.pdu.Pdu.{Pdu}
 use Rattle.siman_pdus.specs.Answers.{is_answer_to}
@@ -19,12 +20,12 @@ pub record SendsAnswer (r : PlainRecording) (h : History) (o : OrderData) (t : �
   pub meant : meaning r.setting.exercise bytes ≡ Some answer
   pub answers : is_answer_to answer o.request ≡ true
 
--- and one that settles it
+-- in h station t sent a datagram that answers the order and settles it
 pub record SendsSettling (r : PlainRecording) (h : History) (o : OrderData) (t : ℕ) : Type 0 where
   pub sends : SendsAnswer r h o t
   pub settles : settles sends.answer.body ≡ true
 
--- in h station s received a datagram that comes from station t, answers the order and settles it
+-- in h station s received a datagram whose origin is station t, and which answers the order and settles it
 pub record GetsSettling (r : PlainRecording) (h : History) (o : OrderData) (s t : ℕ) : Type 0 where
   pub before : History
   pub bytes : List ℕ

@@ -1,4 +1,4 @@
--- What is asked of an order at each of its parties alike, so that it is found once (profile).
+-- Data about an order that every party's outcome needs, so that they are computed once (profile).
 use Rattle.std.specs.Prelude.{◌≡◌}
 use Rattle.exercise_model.specs.Recording.{PlainRecording}
 use Rattle.exercise_review.specs.declared.outcome.Asked.{Asked}
@@ -8,7 +8,8 @@ use Rattle.exercise_review.specs.Outcome.{sends_told}
 use Rattle.exercise_review.specs.Register.{request_digest}
 use Rattle.exercise_review.specs.Stamped.{IsSaid}
 
--- bytes that say it, if they are at hand, the digest of its request, how often it was sent, and what was gathered of it at its maker, if that was done
+-- bytes that mean the order, if available; the digest of its request; how often it was sent; and the data collected at
+-- its maker, if any
 pub record IsAsked (r : PlainRecording) (o : OrderData) (x : Asked) : Type 0 where
   pub said : IsSaid r o.request x.said
   pub digest : x.digest ≡ request_digest o.request

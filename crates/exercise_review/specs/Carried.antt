@@ -1,4 +1,4 @@
--- What became of the entities where a change is told (profile).
+-- What happens to the entities where a recording reports a change (profile).
 use Rattle.std.specs.Prelude.{◌≡◌, ℕ, List, Some}
 use Rattle.exercise_model.specs.declared.state.Change.{Change}
 use Rattle.exercise_model.specs.Recording.{PlainRecording}

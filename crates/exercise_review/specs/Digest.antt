@@ -1,4 +1,4 @@
--- Digests of requests: what is the same order at one station has one digest (profile).
+-- Digests of requests: at one station, repeats of one order have one digest (profile).
 use Rattle.std.specs.Prelude.{ℕ, ◌+◌, ◌*◌, ◌%◌, ◌^◌, length, fold, unwrap_or}
 use Rattle.std.specs.Hash.{u64}
 use Rattle.std.specs.Hash.DefaultHasher.{initial, write, finish}
@@ -40,7 +40,7 @@ id_fed h id = fed h 0 id
 abbrev pub ids_fed : DefaultHasher → IdLists → DefaultHasher
 ids_fed h d = fold id_fed (fold id_fed (fed h (length d.fixed) (length d.variable)) d.fixed) d.variable
 
--- what a request asks, but for its identifier
+-- the contents of a request, without its identifier
 abbrev pub body_fed : DefaultHasher → Body → DefaultHasher
 body_fed h (bodies.StartResume real sim request) = time_fed (time_fed h real) sim
 body_fed h (bodies.StopFreeze real reason behaviour request) = fed (time_fed h real) reason behaviour
@@ -49,16 +49,16 @@ body_fed h (bodies.DataQuery request interval ids) = ids_fed (fed h 0 interval) 
 body_fed h (bodies.SetData request datums) = datums_fed h datums
 body_fed h body = h
 
--- who asks whom, under which identifier
+-- the origin, the target and the request identifier
 abbrev pub head_fed : (origin target : EntityId) → (request : ℕ) → DefaultHasher
 head_fed origin target request =
     fed (fed initial request (both origin.entity target.entity)) (both origin.site origin.application) (both target.site target.application)
 
--- THE DIGEST OF p, a number of 64 bits: of all in which it is compared with others, but the version and the exercise
+-- THE DIGEST OF p, a number of 64 bits: of all fields by which orders are compared, except the version and the exercise
 unfoldable pub digest : Pdu → ℕ
 digest p = finish (body_fed (head_fed p.origin p.target (unwrap_or (request_id_of p.body) 0)) p.body) % 2 ^ 64
 
--- a digest at station s: so far on for each station, an odd number
+-- a digest at station s: an odd step for each station
 abbrev pub at_station : (s d : ℕ) → ℕ
 at_station s d = (d + (s * 0x9E3779B97F4A7C15) % 2 ^ 64) % 2 ^ 64
 

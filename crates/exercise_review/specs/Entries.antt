@@ -1,17 +1,17 @@
--- What the entries of a recording send and receive, one by one (profile).
+-- The bytes and PDUs that the entries of a recording send and receive (profile).
 use Rattle.std.specs.Prelude.{ℕ, List, ◌==◌, Option, Some, None, option_and_then, slice_get, if◌then◌else◌}
 use Rattle.siman_pdus.specs.declared.pdu.Pdu.{Pdu}
 use Rattle.exercise_model.specs.Entry.{Entry, Sent, Received, Told}
 use Rattle.exercise_model.specs.Recording.{PlainRecording}
 use Rattle.exercise_model.specs.Meaning.{meaning}
 
--- the bytes that an entry sends, if it is one of station s
+-- the bytes that an entry sends, if it belongs to station s
 abbrev pub bytes_sent_by : ℕ → Entry → Option (List ℕ)
 bytes_sent_by s (Sent t stamp b) = if t == s then Some b else None
 bytes_sent_by s (Received t stamp b) = None
 bytes_sent_by s (Told t e y) = None
 
--- the bytes that it receives, if it is one of station s
+-- the bytes that it receives, if it belongs to station s
 abbrev pub bytes_got_by : ℕ → Entry → Option (List ℕ)
 bytes_got_by s (Sent t stamp b) = None
 bytes_got_by s (Received t stamp b) = if t == s then Some b else None
@@ -23,22 +23,22 @@ bytes_of (Sent t stamp b) = Some b
 bytes_of (Received t stamp b) = Some b
 bytes_of (Told t e y) = None
 
--- WHAT STATION s SENDS AT ENTRY i, byte by byte
+-- THE BYTES THAT STATION s SENDS at entry i
 unfoldable pub bytes_sent : PlainRecording → ℕ → ℕ → Option (List ℕ)
 bytes_sent r s i = option_and_then (bytes_sent_by s) (slice_get r.entries i)
 
--- WHAT IT RECEIVES AT ENTRY i
+-- THE BYTES THAT STATION s RECEIVES at entry i
 unfoldable pub bytes_got : PlainRecording → ℕ → ℕ → Option (List ℕ)
 bytes_got r s i = option_and_then (bytes_got_by s) (slice_get r.entries i)
 
--- the PDU that station s sends at entry i, if it sends something that is not "other"
+-- the PDU that station s sends at entry i, unless the datagram is "other"
 unfoldable pub sent_by : PlainRecording → ℕ → ℕ → Option Pdu
 sent_by r s i = option_and_then (meaning r.setting.exercise) (bytes_sent r s i)
 
--- the PDU that station s receives at entry i
+-- the PDU that station s receives at entry i, unless the datagram is "other"
 unfoldable pub got_by : PlainRecording → ℕ → ℕ → Option Pdu
 got_by r s i = option_and_then (meaning r.setting.exercise) (bytes_got r s i)
 
--- the PDU of entry i, sent or received, at whatever station
+-- the PDU that entry i sends or receives, at any station
 unfoldable pub meant_at : PlainRecording → ℕ → Option Pdu
 meant_at r i = option_and_then (meaning r.setting.exercise) (option_and_then bytes_of (slice_get r.entries i))

@@ -1,4 +1,4 @@
--- What became of an order at a party of it, by the logs of its maker and of that party (profile).
+-- The fate of an order at one of its parties, by the logs of its maker and of that party (profile).
 use Rattle.std.specs.Prelude.{ℕ, List, [], ◌∷◌, length, Bool, true, false, ◌&&◌, not, codes, Option, Some, None, is_some, option_and_then, if◌then◌else◌}
 use Rattle.exercise_model.specs.Recording.{PlainRecording}
 use Rattle.exercise_model.specs.Place.{first_below}
@@ -27,12 +27,13 @@ abbrev pub fate_of_heard : Option Word → Fate
 fate_of_heard None = fates.Answered
 fate_of_heard (Some word) = fate_heard word
 
--- the first row that holds
+-- the fate of the first row that holds; unknown if none does
 abbrev pub first_fate : List (Bool × Fate) → Fate
 first_fate [] = fates.Unknown
 first_fate (row ∷ rows) = if row.0 then row.1 else first_fate rows
 
--- THE ROWS OF FATES at a recorded party: a row is judged only where every log that it asks is there, and that of the maker is where the maker is recorded
+-- THE ROWS OF FATES at a recorded party: a row applies only if every log that it needs is recorded, the maker's only if
+-- the maker is
 abbrev pub fate_rows : Traces → List (Bool × Fate)
 fate_rows t =
     (t.made && is_some t.heard, fate_of_heard t.heard)
@@ -45,7 +46,7 @@ fate_rows t =
 abbrev pub fate_by : Traces → Fate
 fate_by t = first_fate (fate_rows t)
 
--- the word of the first answer of station t that the maker heard and that settles
+-- the word of the first answer of station t that settles the order and that the maker heard
 abbrev pub word_heard : PlainRecording → OrderData → ℕ → Option Word
 word_heard r o t = option_and_then (word_at r) (first_settling r (is_news r o t))
 
@@ -53,8 +54,8 @@ word_heard r o t = option_and_then (word_at r) (first_settling r (is_news r o t)
 abbrev pub has_replied : PlainRecording → OrderData → ℕ → Bool
 has_replied r o t = is_some (first_below (is_reply r o t) (length r.entries))
 
--- THE TRACES OF AN ORDER at station t: whether its maker is recorded; the word of the first answer of t that this one heard and that settles; and
--- whether t sent a reply that settles, any reply, and got a copy
+-- THE TRACES OF AN ORDER at station t: whether its maker is recorded; the word of the first answer of t that settles
+-- and that the maker heard; and whether t sent a reply that settles, sent any reply, and received a copy
 unfoldable pub traces_of : PlainRecording → OrderData → ℕ → Traces
 traces_of r o t =
     record {
@@ -65,12 +66,12 @@ traces_of r o t =
       got = is_some (first_copy r o t);
     }
 
--- THE FATE OF AN ORDER at a party: of one that nobody recorded nothing is known
+-- THE FATE OF AN ORDER at a party: unknown at an address of no recorded station
 unfoldable pub fate_of : PlainRecording → OrderData → Party → Fate
 fate_of r o (parties.Station t) = fate_by (traces_of r o t)
 fate_of r o (parties.Outside a) = fates.Unknown
 
--- the fate asks the log of the maker and the log of the party
+-- the fate needs the log of the maker and the log of the party
 abbrev pub asks_both : Fate → Bool
 asks_both fates.Done = true
 asks_both fates.Refused = true
@@ -78,7 +79,7 @@ asks_both fates.Answered = true
 asks_both fates.Unheard = true
 asks_both fate = false
 
--- how a fate is spelled
+-- the spelling of a fate
 abbrev pub fate_text : Fate → List ℕ
 fate_text fates.Done = codes "done"
 fate_text fates.Answered = codes "answered"

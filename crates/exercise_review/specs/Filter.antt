@@ -1,4 +1,4 @@
--- Which lines of a view filters keep: words of one key are alternatives, different keys must all hold (profile).
+-- Filters for the rows of a view: values of one key are alternatives, different keys must all hold (profile).
 use Rattle.std.specs.Prelude.{◌≡◌, ◌⊎◌, ℕ, List, [], ◌∷◌, filter, Bool, false, ◌&&◌, ◌||◌, ◌==◌, not, Option, Some, None}
 use Rattle.std.specs.List.{list_any}
 use Rattle.dis_records.specs.declared.entity.EntityId.{EntityId}
@@ -22,30 +22,31 @@ abbrev pub is_there : Outsider → Option Outsider → Bool
 is_there a None = false
 is_there a (Some b) = same_address a b
 
--- an address is this one, or there is none
+-- an address is this one, or is missing
 abbrev pub is_there_or_nowhere : Outsider → Option Outsider → Bool
 is_there_or_nowhere a None = not false
 is_there_or_nowhere a (Some b) = same_address a b
 
--- where an entity is
+-- the address of the station of an entity
 abbrev pub place_of : EntityId → Outsider
 place_of id = record { site = id.site; application = id.application }
 
 abbrev pub same_entity : EntityId → EntityId → Bool
 same_entity a b = same_address (place_of a) (place_of b) && (a.entity == b.entity)
 
--- an order covers an entity: it addresses where that is, and its number is that of the entity or open
+-- an order covers an entity: it addresses the entity's station, and its entity number is that of the entity or open
 abbrev pub covers_entity : EntityId → OrderAt → Bool
 covers_entity id x = is_addressed x.to (pair_at (place_of id)) && ((x.to.entity == id.entity) || is_open x.kind x.to.entity)
 
--- ---- what a filter keeps
+-- ---- what passes a filter
 
--- station lines: of that station, and under no other key
+-- rows of stations: of that station, and under no other key
 abbrev pub passes_station : StationCounts → Filter → Bool
 passes_station x (filters.Station a) = same_address a x.at
 passes_station x filter = false
 
--- order lines: from or at that station; at the entity or nowhere, where the target covers it; of that request of that maker; of that fate; none by a name
+-- rows of orders: from or at that station; at the entity's station or without a party, if the target covers the entity;
+-- of that request of that maker; of that fate; none by a name
 abbrev pub passes_order : OrderAt → Filter → Bool
 passes_order x (filters.Station a) = same_address a x.from || is_there a x.at
 passes_order x (filters.Entity id) = is_there_or_nowhere (place_of id) x.at && covers_entity id x
@@ -53,7 +54,8 @@ passes_order x (filters.Request a n) = same_address a x.from && same_id x.reques
 passes_order x (filters.Fate f) = same_fate f x.outcome.fate
 passes_order x (filters.Kind name) = false
 
--- state lines: of the entities of that station; of that entity; begun by that request; none under a fate, and none by a name
+-- rows of states: of the entities of that station; of that entity; begun by that request; none under a fate, and none
+-- by a name
 abbrev pub passes_span : Span → Filter → Bool
 passes_span x (filters.Station a) = same_address a (place_of x.entity)
 passes_span x (filters.Entity id) = same_entity id x.entity
@@ -63,7 +65,7 @@ passes_span x (filters.Kind name) = false
 
 -- ---- filters together
 
--- the key of a filter
+-- the number of the key of a filter
 abbrev pub key_of : Filter → ℕ
 key_of (filters.Station a) = 0
 key_of (filters.Entity id) = 1
@@ -77,15 +79,15 @@ is_under key filter = key_of filter == key
 abbrev pub passes_under : ℕ → (Filter → Bool) → Filter → Bool
 passes_under key test filter = is_under key filter && test filter
 
--- of the filters under one key one passes, or there are none
+-- one of the filters under a key passes, or there are none under it
 unfoldable pub holds_under : (Filter → Bool) → List Filter → ℕ → Bool
 holds_under test fs key = not (list_any (is_under key) fs) || list_any (passes_under key test) fs
 
--- FILTERS KEEP a line, of which this tells what passes
+-- FILTERS SELECT a row for which `test` says which filters it passes
 unfoldable pub keeps : List Filter → (Filter → Bool) → Bool
 keeps fs test = holds_under test fs 0 && (holds_under test fs 1 && (holds_under test fs 2 && (holds_under test fs 3 && holds_under test fs 4)))
 
--- THE STATIONS, ORDERS AND STRETCHES that filters keep, in their order
+-- THE STATIONS, ORDERS AND SPANS that filters select, in order
 abbrev pub kept_stations : List Filter → List StationCounts → List StationCounts
 kept_stations fs xs = filter (λ x. keeps fs (passes_station x)) xs
 

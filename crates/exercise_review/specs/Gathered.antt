@@ -1,4 +1,5 @@
--- What the logs of its maker and of a party say of an order, gathered from the last entry back to the first (profile).
+-- Everything the logs of an order's maker and of one station hold about the order, collected from the last entry to the
+-- first (profile).
 use Rattle.std.specs.Prelude.{◌≡◌, ℕ, List, length, Bool, false, Option, option_and_then, IfSome}
 use Rattle.std.specs.Option.{option_map_or}
 use Rattle.exercise_model.specs.Recording.{PlainRecording}
@@ -18,15 +19,15 @@ use Rattle.exercise_review.specs.Party.{first_copy}
 use Rattle.exercise_review.specs.Reply.{is_reply, is_news, change_of_order}
 use Rattle.exercise_review.specs.Word.{word_of, word_at, first_settling}
 
--- there is a reply, and it settles
+-- the reply exists and settles
 abbrev pub settles_in : Option Reply → Bool
 settles_in reply = option_map_or (λ (x : Reply). x.settles) reply false
 
--- the first entry at which a maker, if there is one, receives a reply, if it is one
+-- the first entry at which an optional maker receives an optional reply
 abbrev pub first_news : PlainRecording → (maker : Option ℕ) → Option Reply → Option ℕ
 first_news r maker reply = option_and_then (λ s. option_and_then (λ (x : Reply). first_below (gets_in r s x.bytes.now) (length r.entries)) reply) maker
 
--- and the last
+-- the last entry at which it does
 abbrev pub last_news : PlainRecording → (maker : Option ℕ) → Option Reply → Option ℕ
 last_news r maker reply = option_and_then (λ s. option_and_then (λ (x : Reply). last_below (gets_in r s x.bytes.now) (length r.entries)) reply) maker
 
@@ -34,18 +35,19 @@ last_news r maker reply = option_and_then (λ s. option_and_then (λ (x : Reply)
 abbrev pub word_in : PlainRecording → List ℕ → Option Word
 word_in r b = option_and_then (λ p. word_of p.body) (meaning r.setting.exercise b)
 
--- what is kept of an entry is its word
+-- the word is that of the entry
 abbrev pub IsSpoken : PlainRecording → Spoken → Type 0
 IsSpoken r x = x.word ≡ option_and_then (word_at r) x.entry
 
--- what is kept of the replies, and of what was heard of them, are their words
+-- the words of the replies, and of those that the maker heard, are those of their entries
 pub record AreSpoken (r : PlainRecording) (replied : Replied) (news : HeardNews) : Type 0 where
   pub settled : IsSpoken r replied.settled
   pub last : IsSpoken r replied.last
   pub heard : IsSpoken r news.settled
   pub heard_last : IsSpoken r news.last
 
--- WHAT WAS GATHERED of an order at station t: its sends and its copies there, the replies of the station, and what the maker heard of these
+-- EVERYTHING ABOUT AN ORDER at station t: its sends and its copies there, the replies of the station, and those that
+-- the maker heard
 pub record IsGathered (r : PlainRecording) (o : OrderData) (t : ℕ) (x : Gathered) : Type 0 where
   pub sends : x.sends ≡ count_below (sends_order r t o.request) (length r.entries)
   pub count : x.copies.count ≡ receipts_of r o t
@@ -57,6 +59,6 @@ pub record IsGathered (r : PlainRecording) (o : OrderData) (t : ℕ) (x : Gather
   pub news : x.news.last.entry ≡ last_below (is_news r o t) (length r.entries)
   pub words : AreSpoken r x.replied x.news
 
--- what was gathered of an order at the station that made it, if that was done
+-- everything about an order at its maker, if that was collected
 abbrev pub IsOwn : PlainRecording → OrderData → Option Gathered → Type 0
 IsOwn r o own = IfSome own (λ (x : Gathered). IfSome o.maker (λ s. IsGathered r o s x))

@@ -1,4 +1,4 @@
--- What stations did about an order in a run (profile).
+-- Actions of stations on an order in a run (profile).
 use Rattle.std.specs.Prelude.{◌≡◌, ℕ, List, true, Some}
 use Rattle.siman_pdus.specs.declared.pdu.Pdu.{Pdu}
 use Rattle.siman_pdus.specs.Answers.{is_answer_to}
@@ -12,7 +12,7 @@ use Rattle.exercise_review.specs.declared.word.Word.{Word}
 use Rattle.exercise_review.specs.Order.{OrderData}
 use Rattle.exercise_review.specs.Word.{settles, word_of}
 
--- in what happened in h, station t received the order o
+-- in h station t received the order o
 pub record Receives (r : PlainRecording) (h : History) (o : OrderData) (t : ℕ) : Type 0 where
   pub before : History
   pub bytes : List ℕ
@@ -21,7 +21,8 @@ pub record Receives (r : PlainRecording) (h : History) (o : OrderData) (t : ℕ)
   pub meant : meaning r.setting.exercise bytes ≡ Some request
   pub same : is_same_order o.request request ≡ true
 
--- in h, right after `before`, station t replied to the order with these bytes: they mean an answer to it, and what that answer takes up is this order
+-- in h, right after `before`, station t replied to the order with these bytes: they mean an answer to it, and the
+-- request that the answer takes up is this order
 pub record Replies (r : PlainRecording) (h before : History) (o : OrderData) (t : ℕ) (bytes : List ℕ) : Type 0 where
   pub answer : Pdu
   pub taken : Pdu
@@ -59,7 +60,7 @@ pub record Hears (r : PlainRecording) (h : History) (o : OrderData) (s t : ℕ) 
   pub reply : Replies r h place o t bytes
   pub settles : Settles r bytes
 
--- and that datagram says this word, and station t had sent it before
+-- and that datagram says this word, and station t sent it earlier
 pub record HearsWord (r : PlainRecording) (h : History) (o : OrderData) (s t : ℕ) (word : Word) : Type 0 where
   pub heard : Hears r h o s t
   pub says : word_of heard.settles.answer.body ≡ Some word

@@ -1,4 +1,4 @@
--- What the maker of an order knows of its answers, by what it received (profile).
+-- What the maker of an order can know of its answers, from the datagrams that it received (profile).
 use Rattle.std.specs.Prelude.{◌≡◌, ◌<◌, ℕ, zero, suc, List, [], ◌++◌, length, Bool, true, ◌&&◌, nat_lt, Some, None, if◌then◌else◌}
 use Rattle.std.specs.Option.{option_to_list}
 use Rattle.siman_pdus.specs.declared.pdu.Pdu.{Pdu}
@@ -17,12 +17,12 @@ abbrev pub is_party_of : PlainRecording → OrderData → Party → Bool
 is_party_of r o (parties.Station t) = is_party r o t
 is_party_of r o (parties.Outside a) = is_party_outside r o (pair_at a)
 
--- what the maker received at entry i is told of this party
+-- the datagram that the maker received at entry i counts as heard from this party
 abbrev pub is_heard_of : PlainRecording → OrderData → Party → ℕ → Bool
 is_heard_of r o (parties.Station t) i = is_news r o t i
 is_heard_of r o (parties.Outside a) i = is_told_from r o (pair_at a) i
 
--- SOME PARTY HAS AN ANSWER HEARD at entry i that settles the order
+-- AN ANSWER OF SOME PARTY COUNTS AS HEARD at entry i and settles the order
 pub record IsHeardSettled (r : PlainRecording) (o : OrderData) (i : ℕ) : Type 0 where
   pub party : Party
   pub takes_part : is_party_of r o party ≡ true
@@ -37,7 +37,7 @@ pub record IsReceivedSettled (r : PlainRecording) (o : OrderData) (s i : ℕ) : 
   pub answers : is_answer_to pdu o.request ≡ true
   pub settles : settles pdu.body ≡ true
 
--- ---- as a manager takes it
+-- ---- as a manager takes its input
 
 -- a PDU answers the order and settles it
 abbrev pub settles_order : Pdu → Pdu → Bool
@@ -48,6 +48,6 @@ unfoldable pub came_below : PlainRecording → (s i n : ℕ) → List Pdu
 came_below r s i zero = []
 came_below r s i (suc n) = option_to_list (if nat_lt i n then got_by r s n else None) ++ came_below r s i n
 
--- WHAT CAME TO STATION s after entry i, the latest first
+-- THE PDUS THAT STATION s RECEIVED after entry i, the latest first
 abbrev pub came_after : PlainRecording → (s i : ℕ) → List Pdu
 came_after r s i = came_below r s i (length r.entries)

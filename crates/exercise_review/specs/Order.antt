@@ -1,4 +1,5 @@
--- Orders: requests, each told by the entry at which it first stands (profile, over the requests of IEEE 1278.1-2012, 5.6.5).
+-- Orders: requests, each identified by its head, its first entry (profile, over the requests of IEEE 1278.1-2012,
+-- 5.6.5).
 use Rattle.std.specs.Prelude.{ℕ, length, Bool, false, ◌&&◌, not, nat_lt, Option, Some, None, is_some, option_map, option_and_then, slice_get, if◌then◌else◌}
 use Rattle.std.specs.Option.{option_map_or}
 use Rattle.dis_records.specs.Entity.{is_addressed}
@@ -17,17 +18,17 @@ use Rattle.exercise_review.specs.declared.order.Order.{Order}
 use Rattle.exercise_review.specs.Counted.{count_below}
 use Rattle.exercise_review.specs.Entries.{sent_by, got_by}
 
--- an order: the entry that is its head, the recorded station that made it (none where it came from outside), and what it asks
+-- an order: its head, the recorded station that made it (none if it is from outside), and its request
 pub record OrderData : Type 0 where
   pub head : ℕ
   pub maker : Option ℕ
   pub request : Pdu
 
--- what an order in place shows
+-- the order that a value of the code represents
 abbrev pub order_of : Order → OrderData
 order_of o = record { head = o.head; maker = o.maker; request = pdu_of o.request }
 
--- ---- the same order again
+-- ---- entries with equal orders
 
 -- entry i sends the order of p from station s: in all but timestamp and status it is p
 unfoldable pub sends_order : PlainRecording → ℕ → Pdu → ℕ → Bool
@@ -37,7 +38,7 @@ sends_order r s p i = option_map_or (is_same_order p) (sent_by r s i) false
 unfoldable pub gets_order : PlainRecording → ℕ → Pdu → ℕ → Bool
 gets_order r s p i = option_map_or (is_same_order p) (got_by r s i) false
 
--- an entry receives the order of p, at whatever station
+-- an entry receives the order of p, at any station
 abbrev pub entry_gets : ℕ → Pdu → Entry → Bool
 entry_gets x p (Sent s stamp b) = false
 entry_gets x p (Received s stamp b) = option_map_or (is_same_order p) (meaning x b) false
@@ -46,9 +47,10 @@ entry_gets x p (Told s e y) = false
 unfoldable pub gets_anywhere : PlainRecording → Pdu → ℕ → Bool
 gets_anywhere r p i = option_map_or (entry_gets r.setting.exercise p) (slice_get r.entries i) false
 
--- ---- who comes from outside
+-- ---- PDUs from outside
 
--- p COMES FROM OUTSIDE: stations may have taken part that nobody recorded, and it comes from one of them
+-- p IS FROM OUTSIDE: the recording is open, so unrecorded stations may have taken part, and p has one of them as its
+-- origin
 unfoldable pub is_outside : PlainRecording → Pdu → Bool
 is_outside r p = is_open r.setting.form && not (is_recorded r.setting p)
 
@@ -66,7 +68,7 @@ is_for_station r p = is_some (first_below (is_meant r p) (length r.setting.stati
 abbrev pub head_sent : PlainRecording → ℕ → Pdu → Option ℕ
 head_sent r s p = if is_request_body p.body then first_below (sends_order r s p) (length r.entries) else None
 
--- the head of a request from outside to a recorded station: the first entry at which somebody receives the order
+-- the head of a request from outside to a recorded station: the first entry at which any station receives the order
 abbrev pub head_got : PlainRecording → Pdu → Option ℕ
 head_got r p = if is_request_body p.body && (is_outside r p && is_for_station r p) then first_below (gets_anywhere r p) (length r.entries) else None
 
@@ -75,13 +77,13 @@ head_of_entry r (Sent s stamp b) = option_and_then (head_sent r s) (meaning r.se
 head_of_entry r (Received s stamp b) = option_and_then (head_got r) (meaning r.setting.exercise b)
 head_of_entry r (Told s e y) = None
 
--- THE HEAD OF AN ENTRY: where it sends a request, or receives one from outside, the entry at which that order first stands
+-- THE HEAD OF AN ENTRY: if it sends a request, or receives one from outside, the first entry of that order
 unfoldable pub head_of : PlainRecording → ℕ → Option ℕ
 head_of r i = option_and_then (head_of_entry r) (slice_get r.entries i)
 
 -- ---- orders
 
--- the order with head i, where p was sent by a recorded station (some maker) or came from outside (none)
+-- the order with head i, where p was sent by a recorded station (some maker) or is from outside (none)
 abbrev pub made_by : ℕ → Option ℕ → Pdu → OrderData
 made_by i maker p = record { head = i; maker = maker; request = p }
 
@@ -90,11 +92,12 @@ order_of_entry r i (Sent s stamp b) = option_map (made_by i (Some s)) (meaning r
 order_of_entry r i (Received s stamp b) = option_map (made_by i None) (meaning r.setting.exercise b)
 order_of_entry r i (Told s e y) = None
 
--- THE ORDER AT ENTRY i: there is one where the entry is its own head
+-- THE ORDER AT ENTRY i: exists if the entry is its own head
 unfoldable pub order_at : PlainRecording → ℕ → Option OrderData
 order_at r i = if same_id (head_of r i) (Some i) then option_and_then (order_of_entry r i) (slice_get r.entries i) else None
 
--- HOW OFTEN AN ORDER WAS SENT: at so many entries, whose head it is; what came from outside stands in no log
+-- HOW OFTEN AN ORDER WAS SENT: the number of entries at which its maker sends it; 0 for an order from outside, whose
+-- sends are in no log
 unfoldable pub sends_of : PlainRecording → OrderData → ℕ
 sends_of r o = option_map_or (λ s. count_below (sends_order r s o.request) (length r.entries)) o.maker 0
 

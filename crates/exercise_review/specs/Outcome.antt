@@ -1,4 +1,4 @@
--- What is told of an order at each of its parties (profile).
+-- The outcome of an order at each of its parties (profile).
 use Rattle.std.specs.Prelude.{ℕ, ◌-◌, List, [], ◌∷◌, length, map, nat_le, Option, Some, None, option_map, option_and_then, slice_get, if◌then◌else◌}
 use Rattle.exercise_model.specs.Entry.{Entry, Sent, Received, Told}
 use Rattle.exercise_model.specs.Recording.{PlainRecording}
@@ -17,7 +17,7 @@ use Rattle.exercise_review.specs.Fate.{fate_of}
 
 -- ---- clocks
 
--- the stamp of an entry: what the clock of its station had
+-- the stamp of an entry, by the clock of its station; none for a state report
 abbrev pub stamp_of : Entry → Option ℕ
 stamp_of (Sent s stamp b) = Some stamp
 stamp_of (Received s stamp b) = Some stamp
@@ -26,19 +26,19 @@ stamp_of (Told s e y) = None
 unfoldable pub stamp_at : PlainRecording → ℕ → Option ℕ
 stamp_at r i = option_and_then stamp_of (slice_get r.entries i)
 
--- how far a clock went on, unless it was set back
+-- how far a clock advanced, unless it was set back
 abbrev pub went_on : ℕ → ℕ → Option ℕ
 went_on from until = if nat_le from until then Some (until - from) else None
 
--- how long it took from entry i to entry j by the clock of their station
+-- the time from entry i to entry j by the clock of their station
 abbrev pub took_between : PlainRecording → ℕ → ℕ → Option ℕ
 took_between r i j = option_and_then (λ from. option_and_then (went_on from) (stamp_at r j)) (stamp_at r i)
 
--- HOW LONG AN ORDER TOOK, from its head to the entry of its news
+-- THE TIME AN ORDER TOOK, from its head to the entry `news`
 abbrev pub took : PlainRecording → OrderData → Option ℕ → Option ℕ
 took r o news = option_and_then (took_between r o.head) news
 
--- ---- what is told
+-- ---- outcomes
 
 -- how often the order was sent, if its maker is recorded
 abbrev pub sends_told : PlainRecording → OrderData → Option ℕ
@@ -48,7 +48,7 @@ sends_told r o = option_map (λ s. sends_of r o) o.maker
 abbrev pub receipts_of : PlainRecording → OrderData → ℕ → ℕ
 receipts_of r o t = count_below (is_copy r o t) (length r.entries)
 
--- AT A RECORDED STATION all is told that the two logs have
+-- THE OUTCOME AT A RECORDED STATION has everything from the two logs
 abbrev pub outcome_here : PlainRecording → OrderData → ℕ → Outcome
 outcome_here r o t = record {
   party = Some (parties.Station t);
@@ -64,7 +64,7 @@ outcome_here r o t = record {
   fate = fate_of r o (parties.Station t);
 }
 
--- AT AN ADDRESS THAT NOBODY RECORDED, what the maker heard from there
+-- THE OUTCOME AT AN ADDRESS OF NO RECORDED STATION has what the maker heard from there
 abbrev pub outcome_outside : PlainRecording → OrderData → Outsider → Outcome
 outcome_outside r o a = record {
   party = Some (parties.Outside a);
@@ -80,7 +80,7 @@ outcome_outside r o a = record {
   fate = fate_of r o (parties.Outside a);
 }
 
--- OF AN ORDER THAT HAS NO PARTY, that it was sent
+-- THE OUTCOME OF AN ORDER WITHOUT PARTIES has only the number of sends
 abbrev pub outcome_nowhere : PlainRecording → OrderData → Outcome
 outcome_nowhere r o = record {
   party = None;
@@ -100,11 +100,11 @@ unfoldable pub outcome_at : PlainRecording → OrderData → Party → Outcome
 outcome_at r o (parties.Station t) = outcome_here r o t
 outcome_at r o (parties.Outside a) = outcome_outside r o a
 
--- one for each party, or the one of an order that has none
+-- one outcome for each party, or the one of an order without parties
 abbrev pub outcomes_at : PlainRecording → OrderData → List Party → List Outcome
 outcomes_at r o [] = outcome_nowhere r o ∷ []
 outcomes_at r o (party ∷ parties) = map (outcome_at r o) (party ∷ parties)
 
--- WHAT BECAME OF AN ORDER, by rising addresses of its parties
+-- THE OUTCOMES OF AN ORDER, by rising address of its parties
 unfoldable pub outcomes_of : PlainRecording → OrderData → List Outcome
 outcomes_of r o = outcomes_at r o (parties_of r o)

@@ -1,4 +1,5 @@
--- The parties of an order: whom it is for, and who answered it from outside (profile, over IEEE 1278.1-2012, 5.6 and 6.2.79).
+-- The parties of an order: the stations that it is for, and the unrecorded ones that answered it (profile, over IEEE
+-- 1278.1-2012, 5.6 and 6.2.79).
 use Rattle.std.specs.Prelude.{ℕ, length, Bool, false, ◌&&◌, ◌||◌, ◌==◌, not, nat_lt, Option, Some, is_some, option_and_then}
 use Rattle.std.specs.Option.{option_map_or}
 use Rattle.dis_records.specs.declared.entity.EntityId.{EntityId}
@@ -25,26 +26,27 @@ first_copy r o t = first_below (is_copy r o t) (length r.entries)
 
 -- ---- recorded parties
 
--- STATION t IS A PARTY: the order addresses it; its own maker is one only where it received the order
+-- STATION t IS A PARTY: the order addresses it; its own maker is one only if it received the order
 unfoldable pub is_party : PlainRecording → OrderData → ℕ → Bool
 is_party r o t = is_meant r o.request t && (not (same_id o.maker (Some t)) || is_some (first_copy r o t))
 
 -- ---- parties outside
 
--- the pair of an address outside
+-- an address outside, as a pair
 abbrev pub pair_at : Outsider → Pair
 pair_at a = record { site = a.site; application = a.application }
 
--- p answers the order o, from the address a outside
+-- p answers the order o, and its origin is the address a outside
 abbrev pub tells_from : PlainRecording → OrderData → Pair → Pdu → Bool
 tells_from r o a p = is_answer_to p o.request && (is_outside r p && is_from a p)
 
--- TOLD FROM OUTSIDE: after it sent the order, which is its first one under the identifier, the maker receives at entry i an answer to it from the address a, which nobody recorded
+-- AN ANSWER FROM OUTSIDE: the order is its maker's first one under the identifier, and at entry i, after the head, the
+-- maker receives an answer to it from the address a outside
 unfoldable pub is_told_from : PlainRecording → OrderData → Pair → ℕ → Bool
 is_told_from r o a i =
     is_first_under_id r o && (nat_lt o.head i && option_map_or (tells_from r o a) (option_and_then (λ s. got_by r s i) o.maker) false)
 
--- the identifier names this site and this application alone
+-- the identifier names exactly this site and this application
 abbrev pub names : EntityId → Pair → Bool
 names id a = is_address a && ((id.site == a.site) && (id.application == a.application))
 
@@ -56,7 +58,8 @@ is_at r a s = nat_lt s (length r.setting.stations) && (((station_at r s).address
 unfoldable pub is_recorded_at : PlainRecording → Pair → Bool
 is_recorded_at r a = is_some (first_below (is_at r a) (length r.setting.stations))
 
--- AN ADDRESS a OUTSIDE IS A PARTY: the order is one of a recorded station, nobody recorded a, and the order names it or was told from there
+-- AN ADDRESS a OUTSIDE IS A PARTY: a recorded station made the order, no recorded station has the address a, and the
+-- order names it or the maker received an answer from it
 unfoldable pub is_party_outside : PlainRecording → OrderData → Pair → Bool
 is_party_outside r o a =
     is_open r.setting.form && (is_some o.maker && (not (is_recorded_at r a)

@@ -1,4 +1,4 @@
--- What entries are looked up by: their station, and the order that they make, bring or take up (profile).
+-- The keys by which entries are indexed: by their station, and by the order that they make, bring or take up (profile).
 use Rattle.std.specs.Prelude.{◌≡◌, ◌<◌, ◌≤◌, ◌==◌, ℕ, length, Bool, true, false, nat_eq, Option, Some, None, option_map, option_and_then, slice_get, slice_index_or, IfSome, if◌then◌else◌}
 use Rattle.std.specs.Option.{option_map_or}
 use Rattle.std.specs.List.{IsDistinct}
@@ -36,11 +36,13 @@ order_key s p = if is_request_body p.body then Some (digest_of s p) else None
 abbrev pub id_key : ℕ → Pdu → Option ℕ
 id_key s p = option_map (identifier_at s) (request_id_of p.body)
 
--- what station s sends at entry i is looked up with the order that it makes or, for an answer, takes up
+-- the key of a PDU that station s sends at entry i: for a request its key, for an answer the key of the request it
+-- takes up
 unfoldable pub sent_key : PlainRecording → (s i : ℕ) → Pdu → Option ℕ
 sent_key r s i p = if is_request_body p.body then order_key s p else option_and_then (order_key s) (option_and_then (got_by r s) (pair_of r i))
 
--- what it receives with the order that it brings or, for an answer in an open recording, under its identifier
+-- the key of a PDU that station s receives: for a request its key; for another PDU, in an open recording, the key of
+-- its request identifier
 unfoldable pub got_key : Form → ℕ → Pdu → Option ℕ
 got_key f s p = if is_request_body p.body then order_key s p else (if is_open f then id_key s p else None)
 
@@ -49,7 +51,7 @@ entry_key r i (Sent s stamp b) = option_and_then (sent_key r s i) (meaning r.set
 entry_key r i (Received s stamp b) = option_and_then (got_key r.setting.form s) (meaning r.setting.exercise b)
 entry_key r i (Told s e y) = None
 
--- THE KEY OF ENTRY i, if it has to do with an order
+-- THE KEY OF ENTRY i, if it belongs to an order
 unfoldable pub key_at : PlainRecording → ℕ → Option ℕ
 key_at r i = option_and_then (entry_key r i) (slice_get r.entries i)
 
@@ -57,7 +59,7 @@ key_at r i = option_and_then (entry_key r i) (slice_get r.entries i)
 abbrev pub nowhere : ℕ
 nowhere = 65535
 
--- the second key is that of a request's identifier where it is sent, and of the order alone where it is received
+-- the second key: for a sent request that of its identifier, for a received request that of its order at no station
 abbrev pub second_key : ℕ → Entry → Option ℕ
 second_key x (Sent s stamp b) = option_and_then (λ p. if is_request_body p.body then id_key s p else None) (meaning x b)
 second_key x (Received s stamp b) = option_and_then (order_key nowhere) (meaning x b)
@@ -83,35 +85,35 @@ has_second r = holds (second_at r)
 abbrev pub IsUnder : PlainRecording → (ℕ → Bool) → ℕ → Type 0
 IsUnder r test k = (i : ℕ) → test i ≡ true → has_key r k i ≡ true
 
--- what keeps the keys of entries, in the order in which they first came; all are digests
+-- the distinct keys, in the order of their first entries; all are digests
 abbrev pub Keys : Type 0
 Keys = IndexSet ℕ (BuildHasherDefault FoldHasher)
 
--- the key for whose place a number stands
+-- the key at a place; none for the number `no_entry`
 abbrev pub key_numbered : Keys → ℕ → Option ℕ
 key_numbered keys number = option_and_then (slice_get keys.keys) (entry_of number)
 
--- the key that is told so
+-- the key that a value of type `Keyed` gives
 abbrev pub key_told : Keys → Keyed → Option ℕ
 key_told keys Nothing = None
 key_told keys (At place) = slice_get keys.keys place
 key_told keys (Key k) = Some k
 
--- a number that stands for no entry
+-- the number for no entry
 abbrev pub no_entry : ℕ
 no_entry = 0xFFFFFFFF
 
--- a number stands for the place of a key, or for none where there is no key
+-- the number is the place of the key, or `no_entry` if there is no key
 pub record IsPlaced (keys : Keys) (key : Option ℕ) (number : ℕ) : Type 0 where
   pub is : key_numbered keys number ≡ key
   pub none : key ≡ None → number ≡ no_entry
 
--- entry j goes back to the last one before it that has its key, for which this number stands
+-- the number is the previous entry with the key of entry j
 abbrev pub IsBefore : (ℕ → Option ℕ) → ℕ → ℕ → Type 0
 IsBefore keys j number = (k : ℕ) → holds keys k j ≡ true → entry_of number ≡ last_below (holds keys k) j
 
--- THE TIE, after the entries below n: of each key that stands somewhere the last of them that has it, where the key of each of them stands, and from each of
--- them the way back
+-- THE INDEX IS RIGHT for the entries below n: it has, for each key, the last entry with it; for each entry, the place
+-- of its key and the previous entry with it
 pub record AreRegistered (keys : ℕ → Option ℕ) (n : ℕ) (w : Ways) : Type 0 where
   pub unique : IsDistinct nat_eq w.keys.keys
   pub count : length w.last.items ≡ length w.keys.keys
@@ -120,7 +122,7 @@ pub record AreRegistered (keys : ℕ → Option ℕ) (n : ℕ) (w : Ways) : Type
   pub rest : (i : ℕ) → n ≤ i → slice_index_or w.places.items i no_entry ≡ no_entry
   pub before : (i : ℕ) → i < n → IsBefore keys i (slice_index_or w.before.items i no_entry)
 
--- entry n was kept, whose key stands at place p
+-- entry n was added under the key at place p
 pub record IsKept (n p : ℕ) (old new : Ways) : Type 0 where
   pub keys : new.keys ≡ old.keys
   pub count : length new.last.items ≡ length old.last.items
@@ -128,10 +130,10 @@ pub record IsKept (n p : ℕ) (old new : Ways) : Type 0 where
   pub places : (i : ℕ) → slice_index_or new.places.items i no_entry ≡ (if i == n then p else slice_index_or old.places.items i no_entry)
   pub before : (i : ℕ) → slice_index_or new.before.items i no_entry ≡ (if i == n then slice_index_or old.last.items p no_entry else slice_index_or old.before.items i no_entry)
 
--- the entries below n by their second keys, if these are kept
+-- the index of all entries by their second keys, if it exists
 abbrev pub AreSeconds : PlainRecording → Option Ways → Type 0
 AreSeconds r second = IfSome second (AreRegistered (second_at r) (length r.entries))
 
--- the key under which the maker of an order is told of it
+-- the key of the entries at which the maker of an order may receive answers to it
 unfoldable pub told_key : OrderData → Option ℕ
 told_key o = id_key (option_map_or (λ s. s) o.maker 0) o.request

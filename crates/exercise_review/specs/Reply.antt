@@ -1,4 +1,5 @@
--- What a party replied to an order, and what its maker heard of that (profile, over the exchanges of IEEE 1278.1-2012, 5.6.5).
+-- The replies of a party to an order, and their receipts by its maker (profile, over the exchanges of IEEE 1278.1-2012,
+-- 5.6.5).
 use Rattle.std.specs.Prelude.{ℕ, List, length, Bool, false, ◌&&◌, bytes_eq, Option, is_some, option_and_then}
 use Rattle.std.specs.Option.{option_map_or}
 use Rattle.siman_pdus.specs.Answers.{is_answer_to}
@@ -17,19 +18,19 @@ answers_order r o t i = option_map_or (λ p. is_answer_to p o.request) (sent_by 
 abbrev pub takes_copy : PlainRecording → OrderData → ℕ → ℕ → Bool
 takes_copy r o t i = option_map_or (is_copy r o t) (pair_of r i) false
 
--- A REPLY OF STATION t: it sends at entry i an answer to the order, which takes up a copy of it
+-- A REPLY OF STATION t: it sends at entry i an answer to the order that takes up a copy of it
 unfoldable pub is_reply : PlainRecording → OrderData → ℕ → ℕ → Bool
 is_reply r o t i = answers_order r o t i && takes_copy r o t i
 
--- the reply at entry i changes something at its station
+-- the reply at entry i makes a change at its station
 unfoldable pub is_changing_reply : PlainRecording → OrderData → ℕ → ℕ → Bool
 is_changing_reply r o t i = is_reply r o t i && is_some (change_at r i)
 
--- THE CHANGE THAT AN ORDER MADE at station t: the first of its replies that changes something
+-- THE CHANGE THAT AN ORDER MADE at station t: the entry of the first of its replies that makes a change
 unfoldable pub change_of_order : PlainRecording → OrderData → ℕ → Option ℕ
 change_of_order r o t = first_below (is_changing_reply r o t) (length r.entries)
 
--- entry j is a reply of station t in these bytes
+-- entry j is a reply of station t with these bytes
 unfoldable pub replies_in : PlainRecording → OrderData → ℕ → List ℕ → ℕ → Bool
 replies_in r o t b j = is_reply r o t j && option_map_or (bytes_eq b) (bytes_sent r t j) false
 

@@ -1,4 +1,4 @@
--- What is told of a whole recording, and how many lines it takes (profile).
+-- The review of a whole recording, and its number of rows (profile).
 use Rattle.std.specs.Prelude.{◌≡◌, ℕ, ◌+◌, ◌<◌, ◌≤◌, List, length, map, Result, Ok, Err}
 use Rattle.exercise_model.specs.Recording.{PlainRecording}
 use Rattle.exercise_model.specs.Account.{others_of, values_below}
@@ -15,18 +15,19 @@ use Rattle.exercise_review.specs.Row.{AreRows}
 use Rattle.exercise_review.specs.Stay.{span_at}
 use Rattle.exercise_review.specs.Tally.{fates_of, station_counts}
 
--- HOW MANY LINES a review has: the first one, and one for each station, for each order at each of its parties, and for each stretch of a life
+-- THE NUMBER OF ROWS of a review: the first one, and one for each station, for each order at each of its parties, and
+-- for each span of a life
 abbrev pub line_count : PlainRecording → ℕ
 line_count r = 1 + length r.setting.stations + length (orders_told r) + length (all_spans r)
 
--- the orders at their parties and the stretches of all lives, where they do not take too many lines
+-- the orders at their parties and the spans of all lives, within the limit of rows
 pub record TellsLists (r : PlainRecording) (told : List OrderAt) (spans : List Span) : Type 0 where
   pub told_is : told ≡ orders_told r
   pub spans_is : spans ≡ all_spans r
   pub within : line_count r ≤ MOST_LINES
 
--- A REVIEW TELLS of a recording how many orders there are, how many datagrams are "other", how many orders have each fate, what is counted of each
--- station, the orders at their parties and the stretches of all lives
+-- A REVIEW has the number of orders, of "other" datagrams and of each fate, the counts of each station, the orders at
+-- their parties and the spans of all lives
 pub record TellsReview (r : PlainRecording) (v : Review) : Type 0 where
   pub orders : v.orders ≡ length (orders_of r)
   pub others : v.others ≡ others_of r
@@ -34,13 +35,13 @@ pub record TellsReview (r : PlainRecording) (v : Review) : Type 0 where
   pub stations : v.stations.items ≡ values_below (station_counts r) (length r.setting.stations)
   pub lists : TellsLists r v.told.items v.spans.items
 
--- A recording is told whole, or its lines are too many; of want of memory nothing is said.
+-- The result is the whole review, or OverLimit if it has too many rows; Memory says nothing about the recording.
 abbrev pub Reviews : PlainRecording → Result Review ReviewFault → Type 0
 Reviews r (Ok v) = TellsReview r v
 Reviews r (Err OverLimit) = MOST_LINES < line_count r
 Reviews r (Err Memory) = Unit {0}
 
--- WHAT IS KEPT OF A RECORDING for its review: the same, in less room
+-- THE TABLES OF A REVIEW: its contents in compact form
 pub record KeepsReview (r : PlainRecording) (k : KeptReview) : Type 0 where
   pub orders : k.orders ≡ length (orders_of r)
   pub fates : k.fates ≡ fates_of (orders_told r)

@@ -1,4 +1,4 @@
--- What is kept of an order at a party, in few bytes: the rest is read from the log (profile).
+-- Compact rows of orders at their parties: fields that can be read from the log are left out (profile).
 use Rattle.std.specs.Prelude.{◌≡◌, ◌==◌, ℕ, ◌+◌, ◌<◌, ◌≤◌, List, ◌++◌, length, map, Option, Some, None, IfSome, option_map, option_and_then, unwrap_or, Result, Ok, Err, if◌then◌else◌}
 use Rattle.std.specs.Option.{option_or}
 use Rattle.exercise_model.specs.Recording.{PlainRecording}
@@ -21,13 +21,13 @@ use Rattle.exercise_review.specs.Word.{word_at}
 abbrev pub sends_kept : (maker : Option ℕ) → ℕ → Option ℕ
 sends_kept maker count = option_map (λ s. count) maker
 
--- how often a recorded station received an order; of others it is not known
+-- how often a recorded station received an order; none for other parties
 abbrev pub receipts_kept : Option Party → ℕ → Option ℕ
 receipts_kept None count = None
 receipts_kept (Some (parties.Station s)) count = Some count
 receipts_kept (Some (parties.Outside a)) count = None
 
--- the word that is kept by a number, if that stands for one
+-- the word with this number, if any
 abbrev pub word_numbered : ℕ → Option Word
 word_numbered n =
     if n == 1 then Some words.Other
@@ -41,11 +41,11 @@ word_numbered n =
     else (if n == 9 then Some words.Data
     else None))))))))
 
--- the word of a number or, where that stands for none, of an entry
+-- the word with this number, or else the word of an optional entry
 abbrev pub word_kept : PlainRecording → ℕ → Option ℕ → Option Word
 word_kept r n entry = option_or (word_numbered n) (option_and_then (word_at r) entry)
 
--- the words of the entries that are kept, and how long it took to the news
+-- the outcome in a row, with the words and the time read from the log where needed
 abbrev pub outcome_kept : PlainRecording → OrderData → Row → Outcome
 outcome_kept r o x = record {
   party = x.party;
@@ -61,27 +61,28 @@ outcome_kept r o x = record {
   fate = x.fate;
 }
 
--- WHAT A ROW TELLS: the order that stands at its head, at its party
+-- THE CONTENTS OF A ROW: the order at its head, at its party
 unfoldable pub row_told : PlainRecording → Row → Option OrderAt
 row_told r x = option_map (λ o. order_told r o (outcome_kept r o x)) (order_at r x.head)
 
--- ROWS TELL these orders at their parties
+-- THE ROWS have these orders at their parties as their contents
 abbrev pub AreRows : PlainRecording → List Row → List OrderAt → Type 0
 AreRows r rows told = map (row_told r) rows ≡ map Some told
 
--- WHERE THERE IS ROOM FOR SO MANY, what came is told behind what was there; OverLimit says that these are more; of want of memory nothing is said
+-- ROWS OF THESE ORDERS appended to the rows, at most `most` in all; OverLimit means that these would be more; Memory
+-- says nothing
 abbrev pub AddsRows : PlainRecording → (most : ℕ) → (old : List Row) → (added : List OrderAt) → Result (Unit {0}) ReviewFault → (new : List Row) → Type 0
 AddsRows r most old added (Ok x) new = (map (row_told r) new ≡ map (row_told r) old ++ map Some added) × (length new ≤ most)
 AddsRows r most old added (Err OverLimit) new = most < length old + length added
 AddsRows r most old added (Err Memory) new = Unit {0}
 
--- ---- what can be kept so
+-- ---- outcomes that a row can represent
 
 -- an entry of the recording, if there is one
 abbrev pub IsAmong : PlainRecording → Option ℕ → Type 0
 IsAmong r entry = IfSome entry (λ i. i < length r.entries)
 
--- WHAT IS TOLD OF AN ORDER AT A PARTY can be read again: its entries are there, and the rest follows from them
+-- A ROW CAN REPRESENT AN OUTCOME: its entries are in the recording, and its other fields follow from them
 pub record IsKept (r : PlainRecording) (o : OrderData) (x : Outcome) : Type 0 where
   pub sends : x.sends ≡ sends_told r o
   pub receipts : x.receipts ≡ receipts_kept x.party (unwrap_or x.receipts 0)

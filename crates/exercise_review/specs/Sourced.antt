@@ -1,4 +1,5 @@
--- Where what an entry sends was received first and last, kept in columns by the number of that entry (profile).
+-- Columns of receipts by source: the first and the last receipt of each sent datagram, by the number of the sending
+-- entry (profile).
 use Rattle.std.specs.Prelude.{◌≡◌, ℕ, List, ◌<◌, length, Bool, true, false, ◌&&◌, Option, Some, is_some, is_none, slice_index_or}
 use Rattle.siman_pdus.specs.Answers.{same_id}
 use Rattle.exercise_model.specs.Account.{pair_of}
@@ -13,34 +14,35 @@ use Rattle.exercise_review.specs.Entries.{bytes_sent}
 use Rattle.exercise_review.specs.Records.{entry_places}
 use Rattle.exercise_review.specs.Register.{key_at, no_entry}
 
--- entry i comes from entry j, and has no key: so it brings no request
+-- entry j is the source of entry i, which has no key and so brings no request
 unfoldable pub comes_from : PlainRecording → (j i : ℕ) → Bool
 comes_from r j i = is_none (key_at r i) && same_id (source_of r i) (Some j)
 
--- the entry for which a number stands in a column in the place of entry j
+-- the entry in a column at the index j
 abbrev pub entry_in : List ℕ → ℕ → Option ℕ
 entry_in column j = entry_of (slice_index_or column j no_entry)
 
--- THE TIE: of the entries below n that come from the same entry, the first and the last; they are all of one station
+-- THE COLUMNS ARE RIGHT for the entries below n: they have, for each source, the first and the last receipt; all
+-- receipts of one source are at one station
 pub record TellsSources (r : PlainRecording) (n : ℕ) (x : SourceColumns) : Type 0 where
   pub closed : is_open r.setting.form ≡ false
   pub first : (j : ℕ) → entry_in x.first.items j ≡ first_below (comes_from r j) n
   pub last : (j : ℕ) → entry_in x.last.items j ≡ last_below (comes_from r j) n
   pub place : (j f i : ℕ) → first_below (comes_from r j) n ≡ Some f → i < n → comes_from r j i ≡ true → entry_places r i ≡ entry_places r f
 
--- where columns do not tell all, nothing is said of them
+-- incomplete columns say nothing
 abbrev pub AreSources : PlainRecording → ℕ → SourceColumns → Type 0
 AreSources r n x = x.whole ≡ true → TellsSources r n x
 
--- entry i takes up a request, and nothing comes from it
+-- entry i takes up a request and has no receipt
 unfoldable pub is_unheard : PlainRecording → SourceColumns → ℕ → Bool
 is_unheard r x i = is_some (pair_of r i) && is_none (entry_in x.first.items i)
 
--- columns tell all: of each entry that takes up a request where it was received first and last
+-- columns are complete: they have the first and the last receipt of each entry that takes up a request
 pub record AreWhole (r : PlainRecording) (x : SourceColumns) : Type 0 where
   pub tells : TellsSources r (length r.entries) x
   pub each : (i : ℕ) → is_some (pair_of r i) ≡ true → is_some (entry_in x.first.items i) ≡ true
 
--- AN ANSWER IN THESE BYTES: entry i sends them, at whatever station, and takes up a request
+-- AN ANSWER IN THESE BYTES: entry i sends them, at any station, and takes up a request
 abbrev pub IsAnswerIn : PlainRecording → ℕ → List ℕ → Type 0
 IsAnswerIn r i b = ((t : ℕ) × (bytes_sent r t i ≡ Some b)) × (is_some (pair_of r i) ≡ true)

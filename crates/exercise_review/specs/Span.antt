@@ -1,4 +1,4 @@
--- The stretches of the lives of a recording's entities, as they are told: by station, entity and time (profile).
+-- The spans of the lives of a recording's entities, by station, entity and time (profile).
 use Rattle.std.specs.Prelude.{ℕ, ◌+◌, List, [], ◌∷◌, length, map, Option, option_map, option_and_then}
 use Rattle.std.specs.Option.{option_to_list}
 use Rattle.dis_records.specs.declared.entity.EntityId.{EntityId}
@@ -22,9 +22,9 @@ use Rattle.exercise_review.specs.Outcome.{stamp_at}
 use Rattle.exercise_review.specs.Parties.{outsider_at}
 use Rattle.exercise_review.specs.Room.{lists_below}
 
--- ---- as it is told
+-- ---- spans
 
--- the request that the answer at entry i takes up, as the change at the beginning of a stretch does
+-- the request that the answer at entry i takes up, such as the answer at the start of a span
 unfoldable pub request_behind : PlainRecording → ℕ → Option Pdu
 request_behind r i = option_and_then (meant_at r) (pair_at_entry r i)
 
@@ -32,7 +32,7 @@ request_behind r i = option_and_then (meant_at r) (pair_at_entry r i)
 abbrev pub entity_at : Pair → ℕ → EntityId
 entity_at a e = record { site = a.site; application = a.application; entity = e }
 
--- A STRETCH OF AN ENTITY'S LIFE with the stamps of its ends, and with the request of the change that began it
+-- A SPAN OF AN ENTITY'S LIFE: a stretch with the stamps of its ends, and with the request of the change that began it
 abbrev pub span_of : PlainRecording → EntityId → Stretch → Span
 span_of r id x = record {
   entity = id;
@@ -45,37 +45,37 @@ span_of r id x = record {
   request = option_and_then (λ p. request_id_of p.body) (option_and_then (request_behind r) x.from);
 }
 
--- those of entity e of station s
+-- the spans of entity e of station s
 abbrev pub entity_spans : PlainRecording → ℕ → ℕ → List Span
 entity_spans r s e = map (span_of r (entity_at (station_at r s).address e)) (lives_of r s e)
 
--- those of the entity behind the first n numbers, which begin with 1
+-- the spans of entity n + 1, since entities are numbered from 1
 abbrev pub spans_behind : PlainRecording → ℕ → ℕ → List Span
 spans_behind r s n = entity_spans r s (n + 1)
 
--- THE STRETCHES OF THE LIVES OF STATION s, of its entities 1 to 0xFFFD one after the other
+-- THE SPANS OF THE LIVES OF STATION s, of its entities 1 to 0xFFFD in order
 unfoldable pub spans_of : PlainRecording → ℕ → List Span
 spans_of r s = lists_below (spans_behind r s) LARGEST_ENTITY
 
--- and those of all stations
+-- the spans of all stations
 unfoldable pub all_spans : PlainRecording → List Span
 all_spans r = lists_below (spans_of r) (length r.setting.stations)
 
 -- ---- how they are found
 
--- what entry i changes at station s
+-- the change that entry i makes at station s
 abbrev pub own_change : PlainRecording → ℕ → ℕ → Option Change
 own_change r s i = option_and_then (change_made r.setting.exercise (station_at r s) (log_before r s i)) (own_event r s i)
 
--- what entry i changes, as it is kept
+-- the change of entry i, as a value of the code
 abbrev pub made_of : ℕ → Change → Made
 made_of i c = record { entry = i; change = c }
 
--- the change that station s makes at entry i, if there is one
+-- the change that station s makes at entry i, if any, as a list
 unfoldable pub made_at : PlainRecording → ℕ → ℕ → List Made
 made_at r s i = option_to_list (option_map (made_of i) (own_change r s i))
 
--- the changes of station s, in their order
+-- the changes of station s, in order
 unfoldable pub changes_made : PlainRecording → ℕ → List Made
 changes_made r s = lists_below (made_at r s) (length r.entries)
 

@@ -1,4 +1,4 @@
--- The stretches of the lives of a recording's entities, as they are kept: their entries are numbers of 32 bits (profile).
+-- The compact form of the spans of lives: their entries are numbers of 32 bits (profile).
 use Rattle.std.specs.Prelude.{◌≡◌, ℕ, ◌+◌, ◌<◌, ◌≤◌, List, [], ◌∷◌, length, map, None, Result, Ok, Err, Vec, if◌then◌else◌}
 use Rattle.std.specs.declared.alloc.Global.{Global}
 use Rattle.dis_records.specs.declared.entity_state.EntityState.{EntityState}
@@ -17,15 +17,15 @@ use Rattle.exercise_review.specs.Life.{LifeSoFar, lives_of}
 use Rattle.exercise_review.specs.Room.{lists_below}
 use Rattle.exercise_review.specs.Span.{span_of, entity_at}
 
--- the stretch of the life of its entity that a stay stands for
+-- the stretch that a stay represents
 abbrev pub stretch_in : Stay → Stretch
 stretch_in y = record { state = y.state; from = entry_of y.from; until = entry_of y.until }
 
--- A STAY AS IT IS TOLD
+-- THE SPAN THAT A STAY REPRESENTS
 abbrev pub span_at : PlainRecording → Stay → Span
 span_at r y = span_of r (entity_at (station_at r y.station).address y.entity) (stretch_in y)
 
--- WHERE THERE IS ROOM FOR SO MANY, these are told of the stays; OverLimit says that these are more; of want of memory nothing is said
+-- STAYS OF THESE SPANS, at most `most`; OverLimit means that these would be more; Memory says nothing
 abbrev pub StaysWithin : PlainRecording → (most : ℕ) → List Span → Result (Vec Stay Global) ReviewFault → Type 0
 StaysWithin r most spans (Ok stays) = (map (span_at r) stays.items ≡ spans) × (length stays.items ≤ most)
 StaysWithin r most spans (Err OverLimit) = most < length spans
@@ -33,38 +33,38 @@ StaysWithin r most spans (Err Memory) = Unit {0}
 
 -- ---- how they are found
 
--- a stretch of the life of entity e of station s, as it is kept
+-- the stay of a stretch of the life of entity e of station s
 abbrev pub stay_of : ℕ → ℕ → Stretch → Stay
 stay_of s e x = record { station = s; entity = e; state = x.state; from = entry_number x.from; until = entry_number x.until }
 
--- those of entity e of station s
+-- the stays of entity e of station s
 abbrev pub entity_stays : PlainRecording → ℕ → ℕ → List Stay
 entity_stays r s e = map (stay_of s e) (lives_of r s e)
 
--- those of the entity behind the first n numbers, which begin with 1
+-- the stays of entity n + 1, since entities are numbered from 1
 abbrev pub stays_behind : PlainRecording → ℕ → ℕ → List Stay
 stays_behind r s n = entity_stays r s (n + 1)
 
--- those of station s, of its entities 1 to 0xFFFD one after the other
+-- the stays of station s, of its entities 1 to 0xFFFD in order
 unfoldable pub stays_of : PlainRecording → ℕ → List Stay
 stays_of r s = lists_below (stays_behind r s) LARGEST_ENTITY
 
--- and those of all stations
+-- the stays of all stations
 unfoldable pub all_stays : PlainRecording → List Stay
 all_stays r = lists_below (stays_of r) (length r.setting.stations)
 
--- the stretch that a life is in, as far as it goes
+-- the current stretch of a life, without an end
 abbrev pub stretch_so_far : LifeSoFar → Stretch
 stretch_so_far l = record { state = l.state; from = l.since; until = None }
 
--- a stay that an entity is in, up to the entry of a number: none where it is Absent
+-- a stay that ends at the entry with number n: none if the entity is Absent
 abbrev pub ended_at : Stay → ℕ → List Stay
 ended_at y n = if is_absent y.state then [] else record y { until = n } ∷ []
 
--- what ends at an entry that leaves the entity in state z
+-- the stay that ends at an entry that leaves the entity in state z, if that differs
 abbrev pub ended_by : Stay → ℕ → EntityState → List Stay
 ended_by y n z = if same_state z y.state then [] else ended_at y n
 
--- the stay that it is in from there on
+-- the current stay after that entry
 abbrev pub stays_on : Stay → ℕ → EntityState → Stay
 stays_on y n z = if same_state z y.state then y else record y { state = z; from = n }

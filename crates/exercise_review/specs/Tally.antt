@@ -1,4 +1,4 @@
--- How many orders have each fate, and what is counted of each station (profile).
+-- Counts of the fates of orders, and counts of each station (profile).
 use Rattle.std.specs.Prelude.{◌≡◌, ◌<◌, ◌≤◌, ℕ, ◌+◌, ◌*◌, List, [], length, map, option_map, option_and_then, slice_index_or, Bool, false, ◌&&◌, ◌==◌, Option, Some, None, slice_get, Result, Ok, Err}
 use Rattle.std.specs.Option.{option_map_or}
 use Rattle.dis_records.specs.declared.entity_state.EntityState.{EntityState}
@@ -51,22 +51,22 @@ is_station s None = false
 is_station s (Some (parties.Station t)) = t == s
 is_station s (Some (parties.Outside a)) = false
 
--- an order at a party has the fate f there; it has it at station s
+-- an order at a party has the fate f; it has it at station s
 abbrev pub is_fate : Fate → OrderAt → Bool
 is_fate f x = same_fate x.outcome.fate f
 
 abbrev pub is_fate_at : ℕ → Fate → OrderAt → Bool
 is_fate_at s f x = is_station s x.outcome.party && is_fate f x
 
--- the one at place i passes
+-- the item at place i passes
 unfoldable pub passes_at : {X : Type 0} → (X → Bool) → List X → ℕ → Bool
 passes_at test xs i = option_map_or test (slice_get xs i) false
 
--- HOW MANY of a list pass
+-- THE NUMBER OF ITEMS of a list that pass
 unfoldable pub many : {X : Type 0} → (X → Bool) → List X → ℕ
 many test xs = count_below (passes_at test xs) (length xs)
 
--- how many of each fate there are, by tests of each
+-- the counts of all fates, given the count of each
 abbrev pub counts_by : (Fate → ℕ) → FateCounts
 counts_by count = record {
   done = count fates.Done;
@@ -80,7 +80,7 @@ counts_by count = record {
   nobody = count fates.Nobody;
 }
 
--- HOW MANY HAVE EACH FATE, of orders at their parties; and of these at station s
+-- THE NUMBER OF ORDERS AT THEIR PARTIES with each fate, in all and at station s
 unfoldable pub fates_of : List OrderAt → FateCounts
 fates_of xs = counts_by (λ f. many (is_fate f) xs)
 
@@ -89,7 +89,7 @@ fates_at s xs = counts_by (λ f. many (is_fate_at s f) xs)
 
 -- ---- stations
 
--- an entry is one of station s
+-- an entry belongs to station s
 abbrev pub is_entry_of : ℕ → Entry → Bool
 is_entry_of s e = station_of (event_of e) == s
 
@@ -100,7 +100,7 @@ is_made_by s o = same_id o.maker (Some s)
 abbrev pub is_running : ℕ × EntityState → Bool
 is_running present = same_state present.1 Running
 
--- ---- where they are counted
+-- ---- counters
 
 -- the maker of each order, if a recorded station made it
 abbrev pub makers_of : List OrderData → List (Option ℕ)
@@ -109,7 +109,7 @@ makers_of os = map (λ (o : OrderData). o.maker) os
 unfoldable pub maker_places : (makers : List (Option ℕ)) → ℕ → Option ℕ
 maker_places makers i = option_and_then (λ maker. maker) (slice_get makers i)
 
--- each station has nine places, one for each fate
+-- each station has nine counters, one for each fate
 abbrev pub place_at : Fate → Option Party → Option ℕ
 place_at f None = None
 place_at f (Some (parties.Station t)) = Some (t * 9 + fate_number f)
@@ -121,12 +121,12 @@ row_place x = place_at x.fate x.party
 unfoldable pub row_places : List Row → ℕ → Option ℕ
 row_places xs i = option_and_then row_place (slice_get xs i)
 
--- the number of the fate of each
+-- the number of the fate of each order at a party
 unfoldable pub row_numbers : List Row → ℕ → Option ℕ
 row_numbers xs i = option_map (λ (x : Row). fate_number x.fate) (slice_get xs i)
 
--- WHAT IS COUNTED OF STATION s, beside its address: the entries of its log, the orders that it made, the fates of those that it was party to, and its entities
--- that are there at the end, and how many of them run
+-- THE COUNTS OF STATION s, with its address: the entries of its log, the orders that it made, the fates of those that
+-- it was party to, its entities that exist at the end, and how many of them run
 unfoldable pub station_counts : PlainRecording → ℕ → StationCounts
 station_counts r s = record {
   at = outsider_at (station_at r s).address;
@@ -137,25 +137,26 @@ station_counts r s = record {
   running = many is_running (states_of r s);
 }
 
--- of each station, the entities that are there at the end
+-- for each station, the entities that exist at the end
 abbrev pub ArePresent : PlainRecording → List (List (ℕ × EntityState)) → Type 0
 ArePresent r all = (s : ℕ) → slice_index_or all s [] ≡ states_of r s
 
--- ---- what is told and counted, one entry after the other
+-- ---- the review of the entries, in order
 
--- WHAT WAS TOLD of the entries below n: who made each of their orders, and these at their parties; and how many entries each station has
+-- THE REVIEW OF THE ENTRIES below n: the maker of each of their orders, the rows of these at their parties, and the
+-- number of entries of each station
 pub record IsTold (r : PlainRecording) (n : ℕ) (t : Told) : Type 0 where
   pub records : AreRecords r (length r.entries) t.records.items
   pub makers : t.makers.items ≡ makers_of (lists_below (orders_at r) n)
   pub rows : AreRows r t.rows.items (lists_below (told_at r) n)
 
--- all of that, where the orders at their parties are no more than so many; of want of memory nothing is said
+-- the review of all entries with at most `most` rows; OverLimit means that there are more; Memory says nothing
 abbrev pub TellsWithin : PlainRecording → (most : ℕ) → Result Told ReviewFault → Type 0
 TellsWithin r most (Ok t) = IsTold r (length r.entries) t × AreRows r t.rows.items (orders_told r) × (length t.rows.items ≤ most)
 TellsWithin r most (Err OverLimit) = most < length (orders_told r)
 TellsWithin r most (Err Memory) = Unit {0}
 
--- what was counted of each station: the orders that it made, and the fates of those that it was party to
+-- the counts of each station: the orders that it made, and the fates of those that it was party to
 pub record AreCounted (r : PlainRecording) (c : Counts) : Type 0 where
   pub made : (s : ℕ) → s < length r.setting.stations → slice_index_or c.made.items s 0 ≡ many (is_made_by s) (orders_of r)
   pub fates : (s : ℕ) → s < length r.setting.stations → (f : Fate) → slice_index_or c.fates.items (s * 9 + fate_number f) 0 ≡ many (is_fate_at s f) (orders_told r)

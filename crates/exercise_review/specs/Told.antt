@@ -1,4 +1,4 @@
--- The orders of a recording at their parties, as they are told: by head, then by the address of the party (profile).
+-- The orders of a recording at their parties, by head and then by address of the party (profile).
 use Rattle.std.specs.Prelude.{ℕ, List, length, map, option_map}
 use Rattle.std.specs.Option.{option_to_list}
 use Rattle.std.specs.List.{flat_map}
@@ -12,7 +12,7 @@ use Rattle.exercise_review.specs.Parties.{outsider_at, maker_address, party_addr
 use Rattle.exercise_review.specs.Outcome.{outcomes_of}
 use Rattle.exercise_review.specs.Room.{lists_below}
 
--- AN ORDER AT A PARTY with whoever made it, what it asks and of whom
+-- AN ORDER AT A PARTY, with its maker, its kind, its target and its outcome there
 abbrev pub order_told : PlainRecording → OrderData → Outcome → OrderAt
 order_told r o x = record {
   head = o.head;
@@ -24,15 +24,15 @@ order_told r o x = record {
   outcome = x;
 }
 
--- an order at each of its parties, or once where it has none
+-- an order at each of its parties, or once if it has none
 abbrev pub order_at_parties : PlainRecording → OrderData → List OrderAt
 order_at_parties r o = map (order_told r o) (outcomes_of r o)
 
--- the order at entry i, if there is one
+-- the order at entry i, if any, as a list
 abbrev pub orders_at : PlainRecording → ℕ → List OrderData
 orders_at r i = option_to_list (order_at r i)
 
--- what is told of entry i: the order at it, at each of its parties
+-- the order at entry i, if any, at each of its parties
 abbrev pub told_at : PlainRecording → ℕ → List OrderAt
 told_at r i = flat_map (order_at_parties r) (orders_at r i)
 

@@ -1,4 +1,5 @@
--- The words of answers, and which of several counts (SISO-REF-010: response flag of an Acknowledge, request status of an Action Response).
+-- The words of answers, and which of several answers counts (SISO-REF-010: response flag of an Acknowledge, request
+-- status of an Action Response).
 use Rattle.std.specs.Prelude.{ℕ, List, length, Bool, true, false, ◌&&◌, ◌==◌, codes, decimal, Option, Some, None, option_and_then, if◌then◌else◌}
 use Rattle.std.specs.Option.{option_or, option_map_or}
 use Rattle.siman_pdus.specs.declared.pdu.Body.{Body}
@@ -30,7 +31,7 @@ status_word n =
     else (if n == 5 then words.Rejected
     else words.Number n)))))
 
--- THE WORD OF AN ANSWER; the other kinds say none
+-- THE WORD OF AN ANSWER; the other kinds have none
 abbrev pub word_of : Body → Option Word
 word_of (bodies.Acknowledge flag response request) = Some (response_word response)
 word_of (bodies.ActionResponse request status datums) = Some (status_word status)
@@ -45,11 +46,11 @@ settles (bodies.ActionResponse request status datums) = if status == 1 then fals
 settles (bodies.DataPdu request datums) = true
 settles body = false
 
--- the word of what entry i sends or receives
+-- the word of the PDU that entry i sends or receives
 unfoldable pub word_at : PlainRecording → ℕ → Option Word
 word_at r i = option_and_then (λ p. word_of p.body) (meant_at r i)
 
--- what entry i sends or receives settles its order
+-- the PDU that entry i sends or receives settles its order
 unfoldable pub settles_at : PlainRecording → ℕ → Bool
 settles_at r i = option_map_or (λ p. settles p.body) (meant_at r i) false
 
@@ -65,11 +66,11 @@ first_settling r test = first_below (is_settling r test) (length r.entries)
 unfoldable pub telling : PlainRecording → (ℕ → Bool) → Option ℕ
 telling r test = option_or (first_settling r test) (last_below test (length r.entries))
 
--- THE WORD of those that pass
+-- THE WORD THAT COUNTS among those that pass
 abbrev pub word_told : PlainRecording → (ℕ → Bool) → Option Word
 word_told r test = option_and_then (word_at r) (telling r test)
 
--- how a word is spelled
+-- the spelling of a word
 abbrev pub word_text : Word → List ℕ
 word_text words.Other = codes "other"
 word_text words.Able = codes "able"

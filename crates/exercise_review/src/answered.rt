@@ -1,4 +1,4 @@
-//! What a station replied to an order, gathered from the last entry back to the first.
+//! The replies of a station to an order, collected from the last entry to the first.
 
 ghost use Rattle.std.specs.Prelude.{◌≡◌, ◌&&◌, is_some, IfSome, Some, None, if◌then◌else◌};
 ghost use Rattle.std.specs.Option.{option_or};
@@ -11,18 +11,18 @@ use crate::reply::Reply;
 use crate::word::Spoken;
 use exercise_model::ExerciseLog;
 
-/// What a station replied to an order.
+/// The replies of a station to an order.
 #[derive(Clone, Copy)]
 pub(crate) struct Replied {
     /// The first reply that settles.
     pub settled: Spoken,
     /// The last reply.
     pub last: Spoken,
-    /// The first reply that changes something at the station.
+    /// The first reply that makes a change at the station.
     pub change: Option<usize>,
 }
 
-/// What was gathered of the replies behind an entry, and of the reply there, if it is one.
+/// The replies from an entry on, given those after it and the reply at the entry, if any.
 pub(crate) fn with_reply<L: ExerciseLog>(
     findings: &Register<'_, L>,
     behind: Replied,

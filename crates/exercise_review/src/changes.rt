@@ -9,7 +9,7 @@ use exercise_findings::Findings;
 use exercise_model::{Change, EntryView, ExerciseLog};
 use std::alloc::{AllocError, Global};
 
-/// What an entry changes.
+/// A change and the entry that makes it.
 #[derive(Clone, Copy)]
 pub(crate) struct Made {
     /// The entry, a number from 0.
@@ -17,7 +17,7 @@ pub(crate) struct Made {
     pub change: Change,
 }
 
-/// What an entry changes at a station, if it is one of that station.
+/// The change that an entry makes, if it is a send of this station.
 #[tactic(auto, unfolding(exercise_model::specs::Place::own_event, exercise_model::specs::Account::change_at))]
 fn own_change<L: ExerciseLog>(
     findings: &Findings<'_, L>,
@@ -33,7 +33,7 @@ fn own_change<L: ExerciseLog>(
     }
 }
 
-/// The changes of a station, in their order.
+/// The changes of a station, in order.
 #[tactic(auto, using(crate::proofs::Lists::list_steps), unfolding(crate::specs::Span::changes_made))]
 pub(crate) fn changes_made<L: ExerciseLog>(
     alloc: Global,
@@ -53,7 +53,7 @@ pub(crate) fn changes_made<L: ExerciseLog>(
     Ok(changes)
 }
 
-/// No changes, of so many stations.
+/// An empty list of changes for each station.
 fn no_changes(alloc: Global, stations: usize) -> Result<Vec<Vec<Made>>, AllocError>
     ensures count { IfOk result (λ all. length all.items ≡ stations) }
     ensures each { IfOk result (λ all. (s : ℕ) → IfSome (slice_get all.items s) (λ changes. changes.items ≡ [])) }
@@ -65,7 +65,7 @@ fn no_changes(alloc: Global, stations: usize) -> Result<Vec<Vec<Made>>, AllocErr
     Ok(all)
 }
 
-/// Adds what the next entry changes to the changes of its station.
+/// Adds the change of the next entry, if any, to the list of its station.
 fn note_change<L: ExerciseLog>(
     all: &mut Vec<Vec<Made>>,
     findings: &Findings<'_, L>,
@@ -85,7 +85,7 @@ fn note_change<L: ExerciseLog>(
     Ok(())
 }
 
-/// The changes of each station, in their order, in one pass over the entries.
+/// The changes of each station, in order, from one pass over the entries.
 pub(crate) fn changes_by_station<L: ExerciseLog>(
     alloc: Global,
     findings: &Findings<'_, L>,

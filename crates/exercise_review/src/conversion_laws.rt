@@ -1,5 +1,5 @@
-//! The law of conversion: a review does not ask for the format. A function is a theorem: it has no
-//! body, and its contract is the law.
+//! The law of conversion: a review does not depend on the format. A function is a theorem: it has
+//! no body, and its contract is the law.
 
 ghost use Rattle.std.specs.Prelude.{◌≡◌, ◌↔◌, Result};
 ghost use Rattle.exercise_model.specs.declared.form.Form.TheVariants.{First};
@@ -10,10 +10,10 @@ ghost use Rattle.exercise_review.specs.declared.review.Review.{Review};
 ghost use Rattle.exercise_review.specs.Review.{Reviews};
 ghost use Rattle.exercise_review.specs.Alike.{AreReviewedAlike};
 
-/// The law of conversion: a recording of the first form and the one that is equal to it in all but
-/// the form, which is Closed, have the same orders at their parties, the same stretches of lives, the
-/// same counts and the same number of lines (`alike`); so what a review tells of the one it tells of
-/// the other, and where it is refused of the one for too many lines, it is of the other (`reviews`).
+/// The law of conversion: a recording of the first form, and its copy of the form Closed that is
+/// otherwise equal, have equal orders at their parties, equal spans of lives, equal counts and an
+/// equal number of rows (`alike`). So both have equal reviews, and if one is refused for too many
+/// rows, so is the other (`reviews`).
 pub fn conversion_keeps_views()
     ensures alike { (r : PlainRecording) → r.setting.form ≡ First → AreReviewedAlike r (converted r) }
     ensures reviews { (r : PlainRecording) (result : Result Review ReviewFault) → r.setting.form ≡ First → Reviews r result ↔ Reviews (converted r) result }

@@ -1,4 +1,4 @@
-//! How many numbers fall to each place.
+//! Counts of numbers by place.
 
 ghost use Rattle.std.specs.Prelude.{◌≡◌, ◌<◌, ◌+◌, ℕ, Some, length, slice_index_or, IfOk, if◌then◌else◌};
 ghost use Rattle.siman_pdus.specs.Answers.{same_id};
@@ -6,7 +6,8 @@ ghost use Rattle.exercise_review.specs.Counted.{count_at};
 
 use std::alloc::{AllocError, Global};
 
-/// Numbers that fall to places, or to none. What it means is one function; no call takes memory.
+/// An assignment of numbers to places, or to none. Its meaning is `places`; no call allocates
+/// memory.
 pub(crate) trait Placing {
     ghost use Rattle.std.specs.Prelude.{◌≡◌, ℕ, Option};
 
@@ -18,7 +19,7 @@ pub(crate) trait Placing {
         ensures { result ≡ places self.now number };
 }
 
-/// Counts one more at a place, if it is one of those that are counted.
+/// Increases the counter at a place, if there is such a counter.
 pub(crate) fn count_one(counts: &mut Vec<usize>, place: Option<usize>)
     requires { (k : ℕ) → slice_index_or counts.old.items k 0 < 18446744073709551615 }
     ensures count { length counts.new.items ≡ length counts.old.items }
@@ -32,7 +33,7 @@ pub(crate) fn count_one(counts: &mut Vec<usize>, place: Option<usize>)
     }
 }
 
-/// How many of the numbers below an end fall to each of so many places.
+/// For each of `places` places, the number of numbers below `end` that are assigned to it.
 pub(crate) fn counts_of<P: Placing>(
     alloc: Global,
     placing: &P,

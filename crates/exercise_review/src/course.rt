@@ -1,5 +1,5 @@
-//! The changes of a station, and which of them comes next for an entity: of those of the entity alone,
-//! and of those of all entities.
+//! The changes of a station, with look-up of the next change of an entity: among its own changes,
+//! and among those of all entities.
 
 ghost use Rattle.std.specs.Prelude.{◌≡◌, ℕ, ◌+◌, ◌-◌, ◌<◌, ◌≤◌, ◌==◌, true, false, length, slice_index_or, IfOk, if◌then◌else◌};
 ghost use Rattle.dis_records.specs.declared.entity_state.EntityState.TheVariants.{Absent};
@@ -13,38 +13,36 @@ use exercise_findings::Findings;
 use exercise_model::{Change, ExerciseLog, state_made};
 use std::alloc::{AllocError, Global};
 
-/// Where the changes of one entity alone stand, for each entity. Places are numbers from 0 in the
-/// list of a station's changes; its end stands for none.
+/// For each entity, its own changes (those of scope `One`). Places are indices into the station's
+/// list of changes; its length means none.
 #[derive(Drop)]
 pub(crate) struct Own {
-    /// The first of each number, up to the last; there is none of a greater one.
+    /// First own change of each entity number, up to `last`; greater numbers have none.
     pub first: Vec<u32>,
-    /// From each such change the next of the same number.
+    /// For each own change, the next own change of that entity.
     pub next: Vec<u32>,
 }
 
-/// The changes of a station in their order, with the states that it opens with. Which change comes
-/// next for an entity is looked up, so a life passes over what does not move it.
+/// The changes of a station in order, with its opening states. Look-up of the next change lets a
+/// life skip changes that do not affect the entity.
 #[derive(Drop)]
 pub(crate) struct Course<'a> {
     pub changes: &'a [Made],
-    /// The greatest number of the entities that the station opens with, or that a change is one of
-    /// alone; 0 where there are none.
+    /// Greatest entity number in the opening states or in an own change; 0 if there are none.
     pub last: u16,
-    /// The state of each number up to the last before the first change; those of greater ones are
-    /// Absent.
+    /// Opening state of each entity number up to `last`; greater numbers are Absent.
     pub starts: Vec<EntityState>,
     pub own: Own,
-    /// From each place on the first change of all entities that moves those that are Absent: up to the
-    /// last such change, so nothing is kept where there is none;
+    /// For each place, the first change of all entities from there on that changes the state
+    /// Absent. Ends with the last such change, so it is empty if there are none.
     pub absent: Vec<u32>,
-    /// those that are Stopped,
+    /// As `absent`, for the state Stopped.
     pub stopped: Vec<u32>,
-    /// and those that are Running.
+    /// As `absent`, for the state Running.
     pub running: Vec<u32>,
 }
 
-/// The place that is written at a place; the end where nothing is.
+/// The place recorded at index `at`, or `end` if none is.
 fn place_in(places: &[u32], at: usize, end: usize) -> usize
     ensures { result ≡ slice_index_or places.now at end }
 {
@@ -54,7 +52,7 @@ fn place_in(places: &[u32], at: usize, end: usize) -> usize
     }
 }
 
-/// Writes a place.
+/// Stores a place.
 fn put(places: &mut Vec<u32>, at: usize, place: u32)
     requires { at < length places.old.items }
     ensures count { length places.new.items ≡ length places.old.items }
@@ -63,7 +61,7 @@ fn put(places: &mut Vec<u32>, at: usize, place: u32)
     places[at] = place;
 }
 
-/// Whether a change is one of all entities, and leaves those in this state in another.
+/// Whether a change is one of all entities and changes this state.
 fn moves_all(change: Change, state: EntityState) -> bool
     ensures { result ≡ moves_all state change }
 {
@@ -73,8 +71,7 @@ fn moves_all(change: Change, state: EntityState) -> bool
     }
 }
 
-/// From which place on no change of all entities moves those in this state: the one behind the last
-/// that does, or 0 where none does.
+/// Place just after the last change of all entities that changes this state; 0 if none does.
 fn last_move(changes: &[Made], state: EntityState) -> usize
     ensures within { result ≤ length changes.now }
     ensures none { (i : ℕ) → result ≤ i → i < length changes.now → moves_all state (change_in changes.now i) ≡ false }
@@ -89,8 +86,8 @@ fn last_move(changes: &[Made], state: EntityState) -> usize
     last
 }
 
-/// Where the first change of all entities stands, from a place on, that moves those in this state;
-/// for the places behind it that is written.
+/// First change of all entities, from a place on, that changes this state, given the table of the
+/// later places.
 fn move_from(changes: &[Made], state: EntityState, places: &[u32], place: usize) -> usize
     requires within { place < length changes.now }
     requires behind { AreNextIn (moves_all state) changes.now (place + 1) places.now }
@@ -103,7 +100,7 @@ fn move_from(changes: &[Made], state: EntityState, places: &[u32], place: usize)
     }
 }
 
-/// From each place on, where the first change of all entities stands that moves those in this state.
+/// For each place, the first change of all entities from there on that changes this state.
 fn moves_of(alloc: Global, changes: &[Made], state: EntityState) -> Result<Vec<u32>, AllocError>
     requires { length changes.now < 4294967296 }
     ensures { IfOk result (λ places. AreNextIn (moves_all state) changes.now 0 places.items) }
@@ -126,7 +123,7 @@ fn greater(number: u16, other: u16) -> u16
     if number < other { other } else { number }
 }
 
-/// The greatest number of the entities that a station opens with; 0 where there are none.
+/// Greatest entity number in the opening states; 0 if there are none.
 fn last_opening(opening: &[(u16, EntityState)]) -> u16
     ensures { (i : ℕ) → i < length opening.now → (slice_index_or opening.now i (0, Absent)).0 ≤ result }
 {
@@ -137,7 +134,7 @@ fn last_opening(opening: &[(u16, EntityState)]) -> u16
     last
 }
 
-/// The number of the entity alone that a change is one of; 0 where it is one of all.
+/// Entity number of a change of one entity; 0 for a change of all.
 fn own_number(change: Change) -> u16
     ensures { (e : ℕ) → result < e → is_of e change ≡ false }
 {
@@ -147,7 +144,7 @@ fn own_number(change: Change) -> u16
     }
 }
 
-/// The greatest number of the entities that these changes are changes of alone; 0 where there are none.
+/// Greatest entity number in changes of one entity; 0 if there are none.
 fn last_changed(changes: &[Made]) -> u16
     ensures { AreUpTo result changes.now }
 {
@@ -158,7 +155,7 @@ fn last_changed(changes: &[Made]) -> u16
     last
 }
 
-/// Notes the change at a place, where those behind it are noted.
+/// Adds the change at a place to the table, which has all later changes.
 fn note_own(own: &mut Own, changes: &[Made], last: u16, place: usize)
     requires few { length changes.now < 4294967296 }
     requires within { place < length changes.now }
@@ -175,7 +172,7 @@ fn note_own(own: &mut Own, changes: &[Made], last: u16, place: usize)
     }
 }
 
-/// No change of one entity alone is noted yet.
+/// Table without any own change.
 fn no_own(alloc: Global, changes: &[Made], last: u16) -> Result<Own, AllocError>
     requires { length changes.now < 4294967296 }
     ensures { IfOk result (AreOwn changes.now last (length changes.now)) }
@@ -187,7 +184,7 @@ fn no_own(alloc: Global, changes: &[Made], last: u16) -> Result<Own, AllocError>
     })
 }
 
-/// Where the changes of one entity alone stand, for each entity up to the last.
+/// Table of the own changes of each entity up to `last`.
 fn own_of(alloc: Global, changes: &[Made], last: u16) -> Result<Own, AllocError>
     requires few { length changes.now < 4294967296 }
     requires numbers { AreUpTo last changes.now }
@@ -201,7 +198,7 @@ fn own_of(alloc: Global, changes: &[Made], last: u16) -> Result<Own, AllocError>
     Ok(own)
 }
 
-/// Writes the state of a number.
+/// Stores the opening state of an entity number.
 fn start(starts: &mut Vec<EntityState>, number: u16, state: EntityState)
     requires { number < length starts.old.items }
     ensures count { length starts.new.items ≡ length starts.old.items }
@@ -210,7 +207,8 @@ fn start(starts: &mut Vec<EntityState>, number: u16, state: EntityState)
     starts[usize::from(number)] = state;
 }
 
-/// The state of each number up to the last, by the entities that a station opens with.
+/// Opening state of each entity number up to `last`; the first of several states of one entity
+/// counts.
 fn starts_of(
     alloc: Global,
     opening: &[(u16, EntityState)],
@@ -229,7 +227,7 @@ fn starts_of(
 }
 
 impl<'a> Course<'a> {
-    /// The course of a station, of whose changes these are the list.
+    /// Course of a station, given the list of its changes.
     pub fn of<L: ExerciseLog>(
         alloc: Global,
         findings: &Findings<'_, L>,
@@ -253,7 +251,7 @@ impl<'a> Course<'a> {
         })
     }
 
-    /// The state of a number before the first change.
+    /// Opening state of an entity.
     pub fn start(&self, number: u16) -> EntityState
         ensures { result ≡ slice_index_or self.now.starts.items number Absent }
     {
@@ -263,7 +261,7 @@ impl<'a> Course<'a> {
         }
     }
 
-    /// Where the first change of one entity alone stands.
+    /// Place of the first own change of an entity.
     pub fn first_own(&self, number: u16) -> usize
         requires { AreInOrder self.now }
         ensures { IsNextIn (is_of number) self.now.changes.now 0 result }
@@ -271,7 +269,7 @@ impl<'a> Course<'a> {
         place_in(&self.own.first, usize::from(number), self.changes.len())
     }
 
-    /// Where the next change of one entity alone stands, past such a change of it.
+    /// Place of the next own change of an entity after one of its own changes.
     pub fn next_own(&self, number: u16, place: usize) -> usize
         requires order { AreInOrder self.now }
         requires within { place < length self.now.changes.now }
@@ -282,7 +280,7 @@ impl<'a> Course<'a> {
         self.own.next[place] as usize
     }
 
-    /// Where the first change of all entities stands, from a place on, that moves those in this state.
+    /// Place of the first change of all entities, from a place on, that changes this state.
     pub fn next_of_all(&self, state: EntityState, place: usize) -> usize
         requires order { AreInOrder self.now }
         requires within { place ≤ length self.now.changes.now }

@@ -1,6 +1,6 @@
-//! Digests of requests: numbers that are the same for what is the same order, and at each station
-//! another one. Strangers choose what requests say, so the hasher is one for which nobody writes down
-//! many that fall together.
+//! Digests of requests: equal for repeats of one order, and different at each station. Strangers
+//! choose the contents of requests, so the hasher is one for which nobody can construct many
+//! collisions.
 
 ghost use Rattle.std.specs.Prelude.{◌≡◌, ◌-◌, ◌%◌, ◌^◌, ℕ, fold, length, take, map};
 ghost use Rattle.std.specs.Hash.DefaultHasher.{write, initial};
@@ -14,18 +14,18 @@ use dis_records::{ClockTime, DatumsView, EntityId, IdsView, VariableView};
 use siman_pdus::{BodyView, PduView, request_id};
 use std::hash::{DefaultHasher, Hasher};
 
-/// How far the digests of an order at two stations that follow each other lie apart: an odd number,
-/// so that those at different stations differ.
+/// Difference between the digests of an order at consecutive stations: an odd number, so that the
+/// digests at different stations differ.
 const STEP: u64 = 0x9E37_79B9_7F4A_7C15;
 
-/// Two numbers of 16 bits as one.
+/// Two numbers of 16 bits as one of 32.
 fn both(high: u16, low: u16) -> u32
     ensures { result ≡ both high low }
 {
     u32::from(high) * 0x1_0000 + u32::from(low)
 }
 
-/// Feeds two numbers of 32 bits as one word.
+/// Feeds two numbers of 32 bits as one word of 64.
 #[tactic(auto, unfolding(crate::specs::Digest::fed))]
 fn feed(hasher: &mut DefaultHasher, high: u32, low: u32)
     ensures { hasher.new ≡ fed hasher.old high low }
@@ -33,7 +33,7 @@ fn feed(hasher: &mut DefaultHasher, high: u32, low: u32)
     hasher.write_u64(u64::from(high) * 0x1_0000_0000 + u64::from(low));
 }
 
-/// Feeds a time.
+/// Feeds a clock time.
 fn feed_time(hasher: &mut DefaultHasher, time: ClockTime)
     ensures { hasher.new ≡ time_fed hasher.old time }
 {
@@ -49,7 +49,7 @@ fn feed_fixed(hasher: &mut DefaultHasher, datums: FixedRecords<'_>)
     }
 }
 
-/// Feeds identifiers of datums.
+/// Feeds datum identifiers.
 fn feed_ids(hasher: &mut DefaultHasher, ids: DatumIdRecords<'_>)
     ensures { hasher.new ≡ fold id_fed hasher.old ids.entry }
 {
@@ -58,8 +58,7 @@ fn feed_ids(hasher: &mut DefaultHasher, ids: DatumIdRecords<'_>)
     }
 }
 
-/// Feeds a value, its unused bits aside: in one piece where it has none, else its last byte behind those
-/// before it.
+/// Feeds a value with its unused bits cleared: whole if it has none, else the last byte separately.
 #[tactic(auto, using(crate::proofs::Digests::whole_stands, crate::proofs::Digests::last_follows, crate::proofs::Digests::none_follows))]
 fn feed_value(hasher: &mut DefaultHasher, datum: VariableView<'_>)
     ensures { hasher.new ≡ write hasher.old (canonical (shown datum.entry)).bytes }
@@ -74,7 +73,7 @@ fn feed_value(hasher: &mut DefaultHasher, datum: VariableView<'_>)
     }
 }
 
-/// Feeds a variable datum, its unused bits and its padding aside.
+/// Feeds a variable datum, without its unused bits and its padding.
 fn feed_record(hasher: &mut DefaultHasher, datum: VariableView<'_>)
     ensures { hasher.new ≡ variable_fed hasher.old (canonical (shown datum.entry)) }
 {
@@ -109,7 +108,7 @@ fn feed_query(hasher: &mut DefaultHasher, ids: &IdsView<'_>)
     feed_ids(hasher, ids.variable());
 }
 
-/// Feeds what a request asks, but for its identifier.
+/// Feeds the contents of a request, without its identifier.
 fn feed_body(hasher: &mut DefaultHasher, body: &BodyView<'_>)
     ensures { hasher.new ≡ body_fed hasher.old (body_of body.now) }
 {
@@ -140,7 +139,7 @@ fn feed_body(hasher: &mut DefaultHasher, body: &BodyView<'_>)
     }
 }
 
-/// What is fed of who asks whom, under which identifier.
+/// Hasher fed with the origin, the target and the request identifier.
 fn head_fed(origin: EntityId, target: EntityId, request: u32) -> DefaultHasher
     ensures { result ≡ head_fed origin target request }
 {
@@ -154,7 +153,8 @@ fn head_fed(origin: EntityId, target: EntityId, request: u32) -> DefaultHasher
     hasher
 }
 
-/// The digest of a PDU: of all in which it is compared with others, but the version and the exercise.
+/// Digest of a PDU: of all fields by which orders are compared, except the version and the
+/// exercise.
 #[tactic(auto, unfolding(crate::specs::Digest::digest))]
 pub(crate) fn digest(pdu: &PduView<'_>) -> u64
     ensures { result ≡ digest (pdu_of pdu.now) }
@@ -168,7 +168,7 @@ pub(crate) fn digest(pdu: &PduView<'_>) -> u64
     hasher.finish()
 }
 
-/// The digest of a request identifier at a station.
+/// Digest of a request identifier at a station.
 #[tactic(auto, unfolding(crate::specs::Digest::identifier_at))]
 pub(crate) fn identifier_at(station: u16, request: u32) -> u64
     ensures { result ≡ identifier_at station request }
@@ -178,14 +178,14 @@ pub(crate) fn identifier_at(station: u16, request: u32) -> u64
     hasher.finish()
 }
 
-/// A digest at a station: so far on for each station.
+/// Digest at a station, from the digest without a station.
 pub(crate) fn at_station(station: u16, digest: u64) -> u64
     ensures { result ≡ at_station station digest }
 {
     digest.wrapping_add(u64::from(station).wrapping_mul(STEP))
 }
 
-/// The digest of what has this one at a station.
+/// Digest without a station, from the digest at a station.
 #[tactic(auto, using(crate::proofs::Moved::digest_back))]
 pub(crate) fn digest_under(station: u16, digest: u64) -> u64
     ensures { (d : ℕ) → digest ≡ at_station station d → result ≡ d % 2 ^ 64 }
@@ -193,7 +193,7 @@ pub(crate) fn digest_under(station: u16, digest: u64) -> u64
     digest.wrapping_sub(u64::from(station).wrapping_mul(STEP))
 }
 
-/// The digest at one station of what has this one at another.
+/// Digest at station `to`, from the digest at station `from`.
 #[tactic(auto, using(crate::proofs::Moved::digest_moved))]
 pub(crate) fn moved(from: u16, to: u16, digest: u64) -> u64
     ensures { (d : ℕ) → digest ≡ at_station from d → result ≡ at_station to d }

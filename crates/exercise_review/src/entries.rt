@@ -1,4 +1,4 @@
-//! The entries of a recording, and what they send and receive.
+//! Reads the entries of a recording and the PDUs that they send and receive.
 
 ghost use Rattle.std.specs.Prelude.{◌≡◌, ◌<◌, length, true, Some, is_some, option_map, slice_get, IfSome};
 ghost use Rattle.siman_pdus.specs.Reading.{pdu_of};
@@ -11,7 +11,7 @@ use crate::register::Register;
 use exercise_model::{EntryView, ExerciseLog, meaning_again, meaning_view};
 use siman_pdus::PduView;
 
-/// The entry of a number in a log, if there is one.
+/// The entry of a log with this number; `None` past the last.
 pub(crate) fn entry_in<L: ExerciseLog>(log: &L, entry: usize) -> Option<EntryView<'_>>
     ensures entry { option_map shown result ≡ slice_get (L.recording log.now).entries entry }
     ensures within { IfSome result (λ _. entry < length (L.recording log.now).entries) }
@@ -24,7 +24,7 @@ pub(crate) fn entry_in<L: ExerciseLog>(log: &L, entry: usize) -> Option<EntryVie
     }
 }
 
-/// The entry of a number, if there is one.
+/// The entry of a recording with this number; `None` past the last.
 pub(crate) fn entry_at<'a, L: ExerciseLog>(
     findings: &Register<'a, L>,
     entry: usize,
@@ -36,14 +36,14 @@ pub(crate) fn entry_at<'a, L: ExerciseLog>(
     entry_in(findings.log(), entry)
 }
 
-/// How many entries there are.
+/// Number of entries.
 pub(crate) fn entry_count<L: ExerciseLog>(findings: &Register<'_, L>) -> usize
     ensures { result ≡ length findings.now.entries }
 {
     findings.log().entry_count()
 }
 
-/// What a datagram means in the exercise of a recording.
+/// The meaning of a datagram in the exercise of a recording.
 pub(crate) fn meant<'b, L: ExerciseLog>(
     findings: &Register<'_, L>,
     bytes: &'b [u8],
@@ -53,7 +53,7 @@ pub(crate) fn meant<'b, L: ExerciseLog>(
     meaning_view(findings.log().exercise(), bytes)
 }
 
-/// What a datagram is known to mean in the exercise of a recording.
+/// The meaning of a datagram that is known to have one in the exercise of a recording.
 pub(crate) fn meant_again<'b, L: ExerciseLog>(
     findings: &Register<'_, L>,
     bytes: &'b [u8],
@@ -81,7 +81,7 @@ pub(crate) fn bytes_sent_in<L: ExerciseLog>(log: &L, station: u16, entry: usize)
     }
 }
 
-/// The same of an entry of a recording.
+/// The bytes that a station sends at an entry of a recording.
 pub(crate) fn bytes_sent<'a, L: ExerciseLog>(
     findings: &Register<'a, L>,
     station: u16,
@@ -109,7 +109,7 @@ pub(crate) fn bytes_got_in<L: ExerciseLog>(log: &L, station: u16, entry: usize) 
     }
 }
 
-/// The same of an entry of a recording.
+/// The bytes that a station receives at an entry of a recording.
 pub(crate) fn bytes_got<'a, L: ExerciseLog>(
     findings: &Register<'a, L>,
     station: u16,
@@ -120,7 +120,7 @@ pub(crate) fn bytes_got<'a, L: ExerciseLog>(
     bytes_got_in(findings.log(), station, entry)
 }
 
-/// The PDU that a station sends at an entry, if it sends something that is not "other".
+/// The PDU that a station sends at an entry, unless the datagram is "other".
 #[tactic(auto, unfolding(crate::specs::Entries::sent_by))]
 pub(crate) fn sent_by<'a, L: ExerciseLog>(
     findings: &Register<'a, L>,
@@ -135,7 +135,7 @@ pub(crate) fn sent_by<'a, L: ExerciseLog>(
     }
 }
 
-/// The PDU that a station receives at an entry, if it receives something that is not "other".
+/// The PDU that a station receives at an entry, unless the datagram is "other".
 #[tactic(auto, unfolding(crate::specs::Entries::got_by))]
 pub(crate) fn got_by<'a, L: ExerciseLog>(
     findings: &Register<'a, L>,
@@ -150,7 +150,7 @@ pub(crate) fn got_by<'a, L: ExerciseLog>(
     }
 }
 
-/// The PDU of an entry of a log, sent or received, at whatever station.
+/// The PDU that an entry of a log sends or receives, at any station.
 #[tactic(auto, unfolding(crate::specs::Entries::meant_at))]
 pub(crate) fn meant_in<L: ExerciseLog>(log: &L, entry: usize) -> Option<PduView<'_>>
     ensures { option_map pdu_of result ≡ meant_at (L.recording log.now) entry }
@@ -163,7 +163,7 @@ pub(crate) fn meant_in<L: ExerciseLog>(log: &L, entry: usize) -> Option<PduView<
     }
 }
 
-/// The same of an entry of a recording.
+/// The PDU that an entry of a recording sends or receives, at any station.
 pub(crate) fn meant_at<'a, L: ExerciseLog>(
     findings: &Register<'a, L>,
     entry: usize,

@@ -1,12 +1,12 @@
-//! Entries as numbers of 32 bits, one of which stands for none: so ways keep them.
+//! Entry numbers of 32 bits for the tables of the index, with one value for no entry.
 
 ghost use Rattle.std.specs.Prelude.{◌≡◌};
 ghost use Rattle.exercise_findings.specs.Number.{entry_number, entry_of};
 
-/// Stands for no entry: a number that none has.
+/// The value for no entry; no entry has this number.
 pub(crate) const NO_ENTRY: u32 = u32::MAX;
 
-/// The number of an entry, or the one that stands for none.
+/// Number of an optional entry; `NO_ENTRY` if there is none.
 pub(crate) fn entry_number(entry: Option<u32>) -> u32
     ensures { result ≡ entry_number entry }
 {
@@ -16,7 +16,7 @@ pub(crate) fn entry_number(entry: Option<u32>) -> u32
     }
 }
 
-/// The entry that a number stands for.
+/// The entry with a number; `None` for `NO_ENTRY`.
 pub(crate) fn entry_of(number: u32) -> Option<usize>
     ensures { result ≡ entry_of number }
 {

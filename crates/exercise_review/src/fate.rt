@@ -1,4 +1,4 @@
-//! What became of an order at a party of it.
+//! The fate of an order at one of its parties.
 
 ghost use Rattle.std.specs.Prelude.{◌≡◌};
 ghost use Rattle.exercise_review.specs.Order.{order_of};
@@ -15,31 +15,31 @@ use crate::word::Word;
 use exercise_model::ExerciseLog;
 use std::fmt;
 
-/// What became of an order at a party of it. Each row is judged only where every log that it asks
-/// is there.
+/// The fate of an order at one of its parties. Each case applies only if all the logs it needs are
+/// recorded.
 #[derive(Clone, Copy, PartialEq, Eq)]
 pub enum Fate {
     /// The maker heard an answer of the party that settles, and that says able, complete or data.
     Done,
-    /// It heard one that settles and says another word than those of done and refused.
+    /// The maker heard one that settles, with a word other than those of done and refused.
     Answered,
-    /// It heard one that settles, and that says unable or rejected.
+    /// The maker heard one that settles, and that says unable or rejected.
     Refused,
     /// The party replied, and no reply settles.
     Pending,
     /// A reply settles, and the maker heard no answer of the party that settles.
     Unheard,
-    /// The party received the order, and did not reply.
+    /// The party received the order and did not reply.
     Unanswered,
     /// The party did not receive the order.
     Lost,
-    /// None of these, since a log is not there.
+    /// None of these, since a log is not recorded.
     Unknown,
     /// The order has no party at all.
     Nobody,
 }
 
-/// What the logs of the maker and of a recorded party say of an order.
+/// Traces of an order in the logs of its maker and of a recorded party.
 #[derive(Clone, Copy)]
 pub struct Traces {
     /// Whether the maker is recorded.
@@ -66,7 +66,7 @@ impl Fate {
         }
     }
 
-    /// The fate that traces tell at a recorded party.
+    /// The fate at a recorded party, given the traces.
     pub fn of(traces: &Traces) -> Fate
         ensures { result ≡ fate_by traces.now }
     {
@@ -87,7 +87,7 @@ impl Fate {
         }
     }
 
-    /// Its name, as `done`.
+    /// Its name, such as `done`.
     pub fn name(self) -> &'static str
         ensures { result.now ≡ fate_text self }
     {
@@ -117,7 +117,7 @@ impl fmt::Display for Fate {
     }
 }
 
-/// The traces of an order at a recorded station, where this was gathered there.
+/// Traces of an order at a recorded station, given the data collected there.
 #[tactic(auto, unfolding(crate::specs::Fate::traces_of), using(crate::proofs::Walks::found_alike))]
 pub(crate) fn traces_by<L: ExerciseLog>(replies: &Replies<'_, L>, gathered: Gathered) -> Traces
     requires { let q = replies.now in IsGathered q.findings.now (order_of q.order.now) q.station gathered }
@@ -132,7 +132,7 @@ pub(crate) fn traces_by<L: ExerciseLog>(replies: &Replies<'_, L>, gathered: Gath
     }
 }
 
-/// The traces of an order at a recorded station. It takes no memory.
+/// Traces of an order at a recorded station. Allocates no memory.
 pub fn traces_of<L: ExerciseLog>(
     findings: &Register<'_, L>,
     order: &Order<'_>,
@@ -149,7 +149,7 @@ pub fn traces_of<L: ExerciseLog>(
     traces_by(&replies, gathered)
 }
 
-/// The fate of an order at a party of it. It takes no memory.
+/// Fate of an order at one of its parties. Allocates no memory.
 #[tactic(auto, unfolding(crate::specs::Fate::fate_of))]
 pub fn fate_of<L: ExerciseLog>(findings: &Register<'_, L>, order: &Order<'_>, party: Party) -> Fate
     ensures { result ≡ fate_of findings.now (order_of order.now) party }

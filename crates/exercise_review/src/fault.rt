@@ -1,4 +1,4 @@
-//! Why a review is not made.
+//! The faults of a review.
 
 ghost use Rattle.std.specs.Prelude.{◌≡◌};
 ghost use Rattle.exercise_review.specs.declared.fault.ReviewFault.TheVariants.{Memory};
@@ -6,10 +6,10 @@ ghost use Rattle.exercise_review.specs.declared.fault.ReviewFault.TheVariants.{M
 use std::alloc::{AllocError, AllocFailed};
 use thiserror::Error;
 
-/// Why a review is not made.
+/// A fault of a review.
 #[derive(Clone, Copy, Debug, PartialEq, Eq, Error)]
 pub enum ReviewFault {
-    /// It would have more than 4,194,304 lines.
+    /// It would have more than 4,194,304 rows.
     #[error("over-limit")]
     OverLimit,
     /// Memory ran out.

@@ -1,4 +1,4 @@
-//! Which lines of a review filters keep.
+//! Filters for the rows of a review.
 
 ghost use Rattle.std.specs.Prelude.{◌≡◌, Some};
 ghost use Rattle.siman_pdus.specs.Answers.{same_id};
@@ -11,14 +11,14 @@ use crate::tally::StationCounts;
 use crate::told::OrderAt;
 use dis_records::{EntityId, Kind, addresses, is_open};
 
-/// What a word asks for: the lines of one key with this value.
+/// A filter: selects the rows with this value under one key.
 #[derive(Clone, Copy)]
 pub enum Filter {
-    /// The lines of a station.
+    /// Rows of a station.
     Station(Outsider),
-    /// Those of an entity.
+    /// Rows of an entity.
     Entity(EntityId),
-    /// Those of a request, by whoever made it and its identifier.
+    /// Rows of a request, by the address of its maker and its identifier.
     Request(Outsider, u32),
     /// Orders with a fate.
     Fate(Fate),
@@ -26,23 +26,23 @@ pub enum Filter {
     Kind(EntryName),
 }
 
-/// The name of an entry of a log.
+/// Name of an entry of a log.
 #[derive(Clone, Copy, PartialEq, Eq)]
 pub enum EntryName {
-    /// It sends or receives a PDU of this kind.
+    /// Of an entry that sends or receives a PDU of this kind.
     Kind(Kind),
-    /// It tells the state of an entity.
+    /// Of a state report.
     Told,
-    /// It sends or receives a datagram that means nothing in the exercise.
+    /// Of an entry that sends or receives a datagram that means nothing in the exercise.
     Other,
 }
 
-/// What a line tells of, which filters may keep. No call takes memory.
+/// A row that filters may select. No call allocates memory.
 pub trait Filtered {
     ghost use Rattle.std.specs.Prelude.{◌≡◌, Bool};
     ghost use Rattle.exercise_review.specs.declared.filter.Filter.{Filter};
 
-    /// Which filters it passes.
+    /// The filters that it passes.
     ghost test: { Self → Filter → Bool };
 
     /// Whether it passes a filter.
@@ -66,7 +66,7 @@ fn is_there(address: Outsider, at: Option<Outsider>) -> bool
     }
 }
 
-/// Where an entity is.
+/// Address of the station of an entity.
 fn place_of(entity: EntityId) -> Outsider
     ensures { result ≡ place_of entity }
 {
@@ -76,8 +76,8 @@ fn place_of(entity: EntityId) -> Outsider
     }
 }
 
-/// Whether an order covers an entity: it addresses where that is, and its number is that of the
-/// entity or names no single one.
+/// Whether an order covers an entity: it addresses the entity's station, and its entity number is
+/// that of the entity or names no single entity.
 fn covers_entity(entity: EntityId, order: &OrderAt) -> bool
     ensures { result ≡ covers_entity entity order.now }
 {
@@ -85,7 +85,7 @@ fn covers_entity(entity: EntityId, order: &OrderAt) -> bool
         && (order.to.entity == entity.entity || is_open(order.kind, order.to.entity))
 }
 
-/// Whether a number is that of a request.
+/// Whether an optional request identifier is this number.
 fn is_request(request: Option<u32>, number: u32) -> bool
     ensures { result ≡ same_id request (Some number) }
 {
@@ -145,7 +145,7 @@ impl Filtered for Span {
 }
 
 impl Filter {
-    /// The place of its key among the keys.
+    /// Number of its key, from 0.
     fn key(self) -> u8
         ensures { result ≡ key_of self }
     {
@@ -159,7 +159,7 @@ impl Filter {
     }
 }
 
-/// Whether a line passes one of the filters under a key, or there are none.
+/// Whether a row passes one of the filters under a key, or there are none under it.
 #[tactic(auto, unfolding(crate::specs::Filter::holds_under))]
 fn holds_under<T: Filtered>(filters: &[Filter], item: &T, key: u8) -> bool
     ensures { result ≡ holds_under (T.test item.now) filters.now key }
@@ -187,8 +187,8 @@ fn keeps_some<T: Filtered>(filters: &[Filter], item: &T) -> bool
         && holds_under(filters, item, 4)
 }
 
-/// Whether filters keep a line: of the filters under each key it passes one, or there are none. Mostly there
-/// are none at all.
+/// Whether filters select a row: under each key that has filters, it passes one of them. Without
+/// filters, which is the usual case, true at once.
 #[tactic(auto, using(crate::proofs::Unfiltered::none_keep))]
 pub fn keeps<T: Filtered>(filters: &[Filter], item: &T) -> bool
     ensures { result ≡ keeps filters.now (T.test item.now) }

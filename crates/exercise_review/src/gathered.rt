@@ -1,5 +1,5 @@
-//! What the logs of its maker and of a party say of an order, gathered on one way back through the
-//! entries under its key.
+//! Everything the logs of an order's maker and of one station hold about the order, collected in
+//! one pass over the entries under its key.
 
 ghost use Rattle.std.specs.Prelude.{◌≡◌, ◌<◌, ◌+◌, ◌&&◌, length, Some, None, true, false, is_some, IfSome, if◌then◌else◌};
 ghost use Rattle.std.specs.Option.{option_or, option_map_or};
@@ -29,8 +29,8 @@ use crate::word::{Spoken, Word, first_settling, settles};
 use exercise_model::{EntryView, ExerciseLog};
 use siman_pdus::{PduView, answers, same_order};
 
-/// What an entry has to do with an order at a station: it sends the order, or is a copy of it, or a
-/// reply to it, or none of these.
+/// Role of an entry for an order at a station: a send of the order, a copy of it, a reply to it, or
+/// none of these.
 #[derive(Clone, Copy)]
 struct Part<'a> {
     is_send: bool,
@@ -38,21 +38,21 @@ struct Part<'a> {
     reply: Option<Reply<'a>>,
 }
 
-/// What the logs say of an order at a station.
+/// Everything the logs hold about an order at a station.
 #[derive(Clone, Copy)]
 pub(crate) struct Gathered {
     /// How often the station sent it.
     pub sends: usize,
-    /// How often it received it, and where first.
+    /// How often the station received it, and the first such entry.
     pub copies: Counted,
-    /// What the station replied.
+    /// The station's replies.
     pub replied: Replied,
-    /// What the maker heard of that.
+    /// The replies of the station that the maker heard.
     pub news: HeardNews,
 }
 
-/// What a station sends at an entry, where these bytes mean this PDU, if that is a reply. What is known
-/// to be a copy is not read again.
+/// The reply at an entry where a station sends these bytes, which mean this PDU, if it is one. A
+/// known copy is not read again.
 #[tactic(auto, unfolding(crate::specs::Reply::is_reply, crate::specs::Entries::sent_by, crate::specs::Word::settles_at), using(crate::proofs::Heard::meant_sent, crate::proofs::Under::is_answering))]
 fn reply_in<'b, L: ExerciseLog>(
     replies: &Replies<'_, L>,
@@ -85,7 +85,7 @@ fn reply_in<'b, L: ExerciseLog>(
     })
 }
 
-/// What has nothing to do with an order.
+/// The role of an entry that has nothing to do with the order.
 const fn no_part<'a>() -> Part<'a>
     ensures { (result.is_send ≡ false) × ((result.is_copy ≡ false) × (result.reply ≡ None)) }
 {
@@ -96,8 +96,8 @@ const fn no_part<'a>() -> Part<'a>
     }
 }
 
-/// What an entry at which a station sends this has to do with an order there. What takes up no request
-/// is no reply.
+/// Role of an entry at which a station sends these bytes. A datagram that takes up no request is no
+/// reply.
 #[tactic(auto, unfolding(crate::specs::Order::sends_order, crate::specs::Reply::is_reply, crate::specs::Entries::sent_by))]
 fn part_sent<'a, L: ExerciseLog>(
     replies: &Replies<'_, L>,
@@ -134,7 +134,7 @@ fn part_sent<'a, L: ExerciseLog>(
     }
 }
 
-/// What an entry has to do with an order at a station.
+/// Role of an entry for an order at a station.
 #[tactic(auto, unfolding(crate::specs::Reply::is_reply, crate::specs::Order::sends_order, crate::specs::Order::gets_order, crate::specs::Entries::sent_by, crate::specs::Entries::got_by, crate::specs::Entries::bytes_sent, crate::specs::Entries::bytes_got))]
 fn part_at<'a, L: ExerciseLog>(
     replies: &Replies<'a, L>,
@@ -167,7 +167,7 @@ fn part_at<'a, L: ExerciseLog>(
     }
 }
 
-/// The same, where an entry, if there is one, is known to be a copy: it is not read again.
+/// Role of an entry, as `part_at`, where `known` may be a known copy, which is not read again.
 #[tactic(auto, using(crate::proofs::Under::copy_alone))]
 fn part_known<'a, L: ExerciseLog>(
     replies: &Replies<'a, L>,
@@ -197,7 +197,7 @@ fn part_known<'a, L: ExerciseLog>(
     }
 }
 
-/// The entry that is known to be a copy: that which a reply takes up, if there is one.
+/// An entry that is known to be a copy: the one that a reply takes up, or the one known before.
 fn known_by(known: Option<usize>, reply: Option<Reply<'_>>) -> Option<usize>
     ensures { result ≡ option_map_or (λ (x : Reply). Some x.copy) reply.entry known }
 {
@@ -207,7 +207,7 @@ fn known_by(known: Option<usize>, reply: Option<Reply<'_>>) -> Option<usize>
     }
 }
 
-/// One more, if there is one.
+/// A count, increased by one if `is_one`.
 fn with_one(behind: usize, is_one: bool) -> usize
     requires { behind < 18446744073709551615 }
     ensures { result ≡ (if is_one then 1 else 0) + behind }
@@ -215,7 +215,7 @@ fn with_one(behind: usize, is_one: bool) -> usize
     if is_one { behind + 1 } else { behind }
 }
 
-/// How many copies there are behind an entry and there, and which is the first.
+/// Number and first of the copies at an entry and after it, given those after it.
 fn with_copy(behind: Counted, entry: usize, is_copy: bool) -> Counted
     requires { behind.count < 18446744073709551615 }
     ensures count { result.count ≡ (if is_copy then 1 else 0) + behind.count }
@@ -231,7 +231,7 @@ fn with_copy(behind: Counted, entry: usize, is_copy: bool) -> Counted
     }
 }
 
-/// Nothing yet.
+/// An empty collection.
 fn nothing_gathered() -> Gathered
     ensures sends { result.sends ≡ 0 }
     ensures copies { (result.copies.count ≡ 0) × (result.copies.first ≡ None) }
@@ -257,7 +257,7 @@ fn nothing_gathered() -> Gathered
     }
 }
 
-/// What the logs say of an order at a station, by the entries under its key there.
+/// Everything the logs hold about an order at a station, from the entries under its key there.
 fn gathered_under<L: ExerciseLog>(
     replies: &Replies<'_, L>,
     key: u64,
@@ -295,7 +295,7 @@ fn gathered_under<L: ExerciseLog>(
     gathered
 }
 
-/// What the maker of an order heard of the replies of a station: all entries are asked.
+/// What the maker of an order heard of the station's replies. Tests all entries.
 fn heard_anywhere<L: ExerciseLog>(replies: &Replies<'_, L>) -> HeardNews
     ensures heard { let q = replies.now in result.settled.entry ≡ first_settling q.findings.now (is_news q.findings.now (order_of q.order.now) q.station) }
     ensures news { let q = replies.now in result.last.entry ≡ last_below (is_news q.findings.now (order_of q.order.now) q.station) (length q.findings.now.entries) }
@@ -310,7 +310,7 @@ fn heard_anywhere<L: ExerciseLog>(replies: &Replies<'_, L>) -> HeardNews
     }
 }
 
-/// How often a station received an order, and where first: all entries are asked.
+/// How often a station received an order, and the first such entry. Tests all entries.
 #[tactic(auto, unfolding(crate::specs::Party::first_copy))]
 fn copies_anywhere<L: ExerciseLog>(replies: &Replies<'_, L>) -> Counted
     ensures count { let q = replies.now in result.count ≡ receipts_of q.findings.now (order_of q.order.now) q.station }
@@ -324,7 +324,7 @@ fn copies_anywhere<L: ExerciseLog>(replies: &Replies<'_, L>) -> Counted
     counted_entries(replies.findings, None, &gets)
 }
 
-/// How often a station sent an order: all entries are asked.
+/// How often a station sent an order. Tests all entries.
 fn sends_anywhere<L: ExerciseLog>(replies: &Replies<'_, L>) -> usize
     ensures { let q = replies.now in result ≡ count_below (sends_order q.findings.now q.station (order_of q.order.now).request) (length q.findings.now.entries) }
 {
@@ -336,7 +336,7 @@ fn sends_anywhere<L: ExerciseLog>(replies: &Replies<'_, L>) -> usize
     counted_entries(replies.findings, None, &sends).count
 }
 
-/// What the logs say of a PDU at a station: all entries are asked.
+/// Everything the logs hold about a PDU at a station. Tests all entries.
 fn gathered_anywhere<L: ExerciseLog>(replies: &Replies<'_, L>) -> Gathered
     ensures { let q = replies.now in IsGathered q.findings.now (order_of q.order.now) q.station result }
 {
@@ -354,8 +354,8 @@ fn gathered_anywhere<L: ExerciseLog>(replies: &Replies<'_, L>) -> Gathered
     }
 }
 
-/// What the logs say of an order at a station, where this is its key there. Bytes that say it may be at
-/// hand.
+/// Everything the logs hold about an order at a station, given its key there. `said` may give bytes
+/// that mean the order.
 pub(crate) fn gathered_of<L: ExerciseLog>(
     replies: &Replies<'_, L>,
     key: Option<u64>,

@@ -1,5 +1,5 @@
-//! Where the answers of a recording were received: by the entries that they come from where those
-//! tell all, else by their bytes.
+//! Index of the receipts of answers: by the entries that sent them if that is complete, else by
+//! bytes.
 
 ghost use Rattle.std.specs.Prelude.{◌≡◌, length, false, option_map, IfOk};
 ghost use Rattle.exercise_model.specs.Place.{first_below};
@@ -17,15 +17,15 @@ use exercise_findings::{Findings, Hint};
 use exercise_model::ExerciseLog;
 use std::alloc::{AllocError, Global};
 
-/// Where the answers of a recording were received.
+/// Index of the receipts of answers of a recording.
 pub(crate) enum Hearing<'a> {
-    /// By the entries that they come from: each that takes up a request is there.
+    /// By the entries that sent them: complete for each entry that takes up a request.
     BySource(SourceColumns),
-    /// By the stations that received them, and their bytes.
+    /// By the receiving stations and the bytes.
     ByBytes(Heard<'a>),
 }
 
-// Not derived: who drops it makes one call, and does not take its tables apart by himself.
+// Written by hand, so that a drop is one call and the caller does not drop each table by itself.
 impl<'a> Drop for Hearing<'a> {
     fn drop(self) {
         match self {
@@ -35,7 +35,7 @@ impl<'a> Drop for Hearing<'a> {
     }
 }
 
-/// Where each station received each datagram, in a recording whose entries have these ways.
+/// Index of the receipts of a log by station and bytes, given the index of its entries.
 fn heard_in<'a, L: ExerciseLog>(
     alloc: Global,
     log: &'a L,
@@ -52,8 +52,8 @@ fn heard_in<'a, L: ExerciseLog>(
     Ok(heard)
 }
 
-/// Where the answers of a recording were received, of which this was found and whose entries have
-/// these ways: by what was kept of their sources, if that tells all.
+/// Index of the receipts of answers of a recording, given the index of its entries. Uses the
+/// columns by source if they are complete.
 pub(crate) fn hearing_of<'a, L: ExerciseLog>(
     alloc: Global,
     findings: &Findings<'a, L>,
@@ -71,8 +71,8 @@ pub(crate) fn hearing_of<'a, L: ExerciseLog>(
     Ok(Hearing::ByBytes(heard))
 }
 
-/// The first and the last entry at which a station received these bytes, if it did, where they mean no
-/// request: an entry sends them that takes up one.
+/// First and last entry at which a station received these bytes, if it did. The bytes mean no
+/// request, and `entry` sends them as an answer that takes up one.
 pub(crate) fn receipts_in<L: ExerciseLog>(
     hearing: &Hearing<'_>,
     log: &L,

@@ -1,9 +1,9 @@
-//! Where what is looked up in turn mostly stands.
+//! Predictors for sequential look-ups.
 
 use exercise_findings::Hint;
 
-/// Where the next key and the next receipt are looked for first. What is found is the same whatever
-/// stands here.
+/// Predicted places of the next key and the next receipt. They affect only the speed of a look-up,
+/// never its result.
 #[derive(Clone, Copy)]
 pub(crate) struct Hints {
     pub keys: Hint,
@@ -11,7 +11,7 @@ pub(crate) struct Hints {
 }
 
 impl Hints {
-    /// Nothing was found so far.
+    /// No prediction yet.
     pub(crate) const fn new() -> Hints {
         Hints {
             keys: Hint::new(),

@@ -1,4 +1,4 @@
-//! The keys by which entries are looked up.
+//! The keys by which entries are indexed.
 
 ghost use Rattle.std.specs.Prelude.{◌≡◌, ◌<◌, ℕ, Option, true, Some, None, is_some, length, slice_get, option_map, option_and_then, IfSome};
 ghost use Rattle.siman_pdus.specs.Reading.{pdu_of};
@@ -21,7 +21,7 @@ use siman_pdus::{PduView, is_request, request_id};
 /// A number that no station has.
 const NOWHERE: u16 = 65_535;
 
-/// The digest of a PDU, if it is a request.
+/// Digest of a PDU, if it is a request.
 pub(crate) fn request_digest(pdu: &PduView<'_>) -> Option<u64>
     ensures { result ≡ request_digest (pdu_of pdu.now) }
 {
@@ -32,7 +32,7 @@ pub(crate) fn request_digest(pdu: &PduView<'_>) -> Option<u64>
     }
 }
 
-/// The key at a station of what has this digest.
+/// Key at a station of a request with this digest.
 #[tactic(auto, unfolding(crate::specs::Register::order_key, crate::specs::Digest::digest_of))]
 pub(crate) fn key_under(station: u16, digest: Option<u64>) -> Option<u64>
     ensures { (p : Pdu) → digest ≡ request_digest p → result ≡ order_key station p }
@@ -43,14 +43,14 @@ pub(crate) fn key_under(station: u16, digest: Option<u64>) -> Option<u64>
     }
 }
 
-/// The key of a PDU at a station, if it is a request: its digest there.
+/// Key of a PDU at a station, if it is a request: its digest there.
 pub(crate) fn order_key(station: u16, pdu: &PduView<'_>) -> Option<u64>
     ensures { result ≡ order_key station (pdu_of pdu.now) }
 {
     key_under(station, request_digest(pdu))
 }
 
-/// The key of the request identifier of a PDU at a station, if it has one: its digest there.
+/// Key of the request identifier of a PDU at a station, if it has one: its digest there.
 pub(crate) fn id_key(station: u16, pdu: &PduView<'_>) -> Option<u64>
     ensures { result ≡ id_key station (pdu_of pdu.now) }
 {
@@ -60,7 +60,7 @@ pub(crate) fn id_key(station: u16, pdu: &PduView<'_>) -> Option<u64>
     }
 }
 
-/// What a station receives at an entry, if it receives something that is not "other".
+/// The PDU that a station receives at an entry, unless the datagram is "other".
 #[tactic(auto, unfolding(crate::specs::Entries::got_by, crate::specs::Entries::bytes_got))]
 fn got_at<'a, L: ExerciseLog>(
     findings: &Findings<'a, L>,
@@ -83,7 +83,7 @@ fn got_at<'a, L: ExerciseLog>(
     }
 }
 
-/// The key of the request that a station receives at an entry.
+/// Key of the request that a station receives at an entry.
 fn got_order_key<L: ExerciseLog>(
     findings: &Findings<'_, L>,
     station: u16,
@@ -97,7 +97,7 @@ fn got_order_key<L: ExerciseLog>(
     }
 }
 
-/// How the key is told of the request that an answer takes up, which its station received at an entry.
+/// Index key of an answer: the key of the request it takes up, received at entry `taken`.
 fn keyed_taken<L: ExerciseLog>(
     findings: &Findings<'_, L>,
     ways: &Ways,
@@ -116,8 +116,8 @@ fn keyed_taken<L: ExerciseLog>(
     keyed_as(ways, taken)
 }
 
-/// How the key is told of a request that a station sends at an entry, where it is one that it sent
-/// recently, but for the timestamp. It is not read.
+/// Index key of a sent request, if it repeats a recent one of this station except for the
+/// timestamp. Compares bytes and does not decode the datagram.
 fn keyed_sent_again<L: ExerciseLog>(
     findings: &Findings<'_, L>,
     ways: &Ways,
@@ -142,8 +142,8 @@ fn keyed_sent_again<L: ExerciseLog>(
     }
 }
 
-/// How the key is told of what a station receives at an entry, where it is what it received recently,
-/// but for the timestamp. It is not read.
+/// Index key of a received datagram, if it repeats a recent one at this station except for the
+/// timestamp. Compares bytes and does not decode the datagram.
 fn keyed_got_again<L: ExerciseLog>(
     findings: &Findings<'_, L>,
     ways: &Ways,
@@ -167,8 +167,8 @@ fn keyed_got_again<L: ExerciseLog>(
     }
 }
 
-/// How the key is told of what a station sends at an entry: of the order that it makes or, for an answer,
-/// of the one that it takes up. What takes up a request is not read.
+/// Index key of a sent datagram: for a request its key, for an answer the key of the request it
+/// takes up. An answer that takes up a request is not decoded.
 fn keyed_sent<L: ExerciseLog>(
     findings: &Findings<'_, L>,
     ways: &Ways,
@@ -194,8 +194,8 @@ fn keyed_sent<L: ExerciseLog>(
     }
 }
 
-/// The key of what a station receives in a recording of a form: of the order that it brings or, for
-/// an answer, of its identifier where the recording is open. Nobody asks for that in others.
+/// Key of a received PDU: for a request its key; for another PDU, in an open recording, the key of
+/// its request identifier. In a recording that is not open nothing looks up those other PDUs.
 #[tactic(auto, unfolding(crate::specs::Register::got_key))]
 fn got_key(form: Form, station: u16, pdu: &PduView<'_>) -> Option<u64>
     ensures { result ≡ got_key form station (pdu_of pdu.now) }
@@ -209,7 +209,7 @@ fn got_key(form: Form, station: u16, pdu: &PduView<'_>) -> Option<u64>
     }
 }
 
-/// The key at one station of the request that has this key at another.
+/// Key of a request at one station, given its key at another.
 #[tactic(auto, unfolding(crate::specs::Register::order_key, crate::specs::Digest::digest_of))]
 fn moved_key(from: u16, to: u16, key: Option<u64>) -> Option<u64>
     ensures { (p : Pdu) → key ≡ order_key from p → result ≡ order_key to p }
@@ -220,7 +220,7 @@ fn moved_key(from: u16, to: u16, key: Option<u64>) -> Option<u64>
     }
 }
 
-/// How the key at a station is told of what was sent at an entry of another, or of its own.
+/// Index key at station `to` of the request that station `from` sent at entry `source`.
 fn keyed_moved(ways: &Ways, from: u16, to: u16, source: usize) -> Keyed
     ensures { (keys : ℕ → Option ℕ) (n : ℕ) (p : Pdu) → AreRegistered keys n ways.now → source < n → keys source ≡ order_key from p → key_told ways.now.keys result ≡ order_key to p }
 {
@@ -230,9 +230,10 @@ fn keyed_moved(ways: &Ways, from: u16, to: u16, source: usize) -> Keyed
     keyed_by(moved_key(from, to, key_kept(ways, source)))
 }
 
-/// How the key is told of what a station receives at an entry, where that is known from the entries
-/// before. What sends the same bytes has the key of the same request at its own station; what takes up
-/// a request is none, and brings no key. An open recording keys answers too, and is read.
+/// Index key of a received datagram, derived from earlier entries. The send of these bytes carries
+/// the request's key at its own station; an answer that takes up a request has no key when
+/// received. `None` in an open recording, where received answers have keys too and the datagram
+/// must be decoded.
 fn keyed_brought<L: ExerciseLog>(
     findings: &Findings<'_, L>,
     ways: &Ways,
@@ -266,8 +267,7 @@ fn keyed_brought<L: ExerciseLog>(
     Some(keyed_moved(ways, log.entry(source).station(), station, source))
 }
 
-/// How the key is told of what a station receives at an entry. What came from an entry before is not
-/// read.
+/// Index key of a received datagram. Decodes it only if no earlier entry determines the key.
 fn keyed_received<L: ExerciseLog>(
     findings: &Findings<'_, L>,
     ways: &Ways,
@@ -291,8 +291,7 @@ fn keyed_received<L: ExerciseLog>(
     }
 }
 
-/// How the key of an entry is told, where these are the ways of the entries before and this is what
-/// stands there.
+/// Index key of `entry`, whose contents are `view`, given the index of all earlier entries.
 #[tactic(auto, unfolding(crate::specs::Register::key_at, crate::specs::Entries::bytes_sent, crate::specs::Entries::bytes_got))]
 pub(crate) fn keyed_at<L: ExerciseLog>(
     findings: &Findings<'_, L>,
@@ -317,7 +316,8 @@ pub(crate) fn keyed_at<L: ExerciseLog>(
     }
 }
 
-/// The second key of an entry, in an open recording.
+/// Second key of an entry, in an open recording: for a sent request its identifier at its station,
+/// for a received request its digest at no station.
 #[tactic(auto, unfolding(crate::specs::Register::second_at))]
 fn second_at<L: ExerciseLog>(log: &L, entry: usize) -> Option<u64>
     ensures { result ≡ second_at (L.recording log.now) entry }
@@ -338,7 +338,7 @@ fn second_at<L: ExerciseLog>(log: &L, entry: usize) -> Option<u64>
     }
 }
 
-/// The second keys of entries.
+/// The second keys of the entries of a log.
 #[derive(Drop)]
 pub(crate) struct SecondKeys<'a, L: ExerciseLog> {
     pub log: &'a L,

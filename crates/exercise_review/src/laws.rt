@@ -1,5 +1,5 @@
-//! Laws of what the logs say of orders and of lives. Each function is a theorem: it has no body, and
-//! its contract is the law.
+//! Laws about orders and lives in a recording. Each function is a theorem: it has no body, and its
+//! contract is the law.
 
 ghost use Rattle.std.specs.Prelude.{◌≡◌, ◌<◌, ◌≤◌, ℕ, length, true, false, Some, None, is_some};
 ghost use Rattle.dis_records.specs.Address.{Pair};
@@ -20,9 +20,9 @@ ghost use Rattle.exercise_review.specs.Answering.{SendsAnswer, SendsSettling, Ge
 ghost use Rattle.exercise_findings.specs.State.{state_before};
 ghost use Rattle.exercise_review.specs.Life.{lives_of, states_at, if_there};
 
-/// The law of one side: where the maker of an order was not recorded, or the party was not, its fate
-/// is none of done, refused, answered and unheard, which ask both logs. In a recording of the first
-/// form and in a closed one each order was made by a recorded station, and nobody outside is a party.
+/// The law of one side: if the maker of an order or the party is not recorded, its fate is none of
+/// done, refused, answered and unheard, which need both logs. In a recording of the first form and
+/// in a closed one each order was made by a recorded station, and nobody outside is a party.
 pub fn one_side_is_not_enough()
     ensures maker { (r : PlainRecording) (o : OrderData) (party : Party) → o.maker ≡ None → asks_both (fate_of r o party) ≡ false }
     ensures party { (r : PlainRecording) (o : OrderData) (a : Outsider) → asks_both (fate_of r o (Outside a)) ≡ false }
@@ -30,24 +30,25 @@ pub fn one_side_is_not_enough()
     ensures inside { (r : PlainRecording) (i : ℕ) (o : OrderData) → is_open r.setting.form ≡ false → order_at r i ≡ Some o → is_some o.maker ≡ true }
 {}
 
-/// The law of lives: at each place of the log of a station, which lies before an entry or at the end,
-/// the stretches of an entity that cover the place tell its state there: one does where it is there,
-/// and none where it is Absent.
+/// The law of lives: at each place of the log of a station, before an entry or at the end, the
+/// stretches of an entity that cover the place are its state there: one stretch with that state if
+/// the entity exists, none if it is Absent.
 pub fn lives_are_states()
     ensures { (r : PlainRecording) (s e n : ℕ) → n ≤ length r.entries → states_at n (lives_of r s e) ≡ if_there (state_before r s e n) }
 {}
 
-/// The law of fates. Where the maker s of an order and its party t are recorded, the fate of the order
-/// there says, of every run that explains the recording: lost, that t did not receive it; unanswered,
-/// that t received it and did not reply; pending, that t replied, and with no answer that settles;
-/// unheard, that t replied with an answer that settles, and that s received none such of t; done,
-/// refused and answered, that s received one of t that settles, which says the word of that fate and
-/// which t had sent before. It is never unknown. Who did not receive an order did not reply to it.
+/// The law of fates. If the maker s of an order and its party t are recorded, the fate of the order
+/// there means, in every run that explains the recording: lost, that t did not receive it;
+/// unanswered, that t received it and did not reply; pending, that t replied, and with no answer
+/// that settles; unheard, that t replied with an answer that settles, and that s received none such
+/// of t; done, refused and answered, that s received one of t that settles, which says the word of
+/// that fate and which t had sent before. It is never unknown. A station that did not receive an
+/// order did not reply to it.
 ///
-/// What answers the order is a reply to it (`replies`, `settles`), and what s receives of that from t
-/// is heard (`hears`), since an identifier of s stands for one order. So, lost and unanswered: t sent
-/// nothing that answers the order; pending: nothing that answers and settles it; unheard: s received
-/// nothing from t that does.
+/// An answer to the order that t sends is a reply to it (`replies`, `settles`), and such an answer
+/// that s receives from t is heard (`hears`), since an identifier of s denotes one order. So, lost
+/// and unanswered: t sent nothing that answers the order; pending: nothing that answers and settles
+/// it; unheard: s received nothing from t that does.
 pub fn fates_hold()
     ensures lost { (r : PlainRecording) (h : History) (o : OrderData) (s t : ℕ) → Explains r h → o.maker ≡ Some s → fate_of r o (Station t) ≡ Lost → Receives r h o t → ⊥ }
     ensures unanswered { (r : PlainRecording) (h : History) (o : OrderData) (s t : ℕ) → Explains r h → o.maker ≡ Some s → fate_of r o (Station t) ≡ Unanswered

@@ -1,24 +1,21 @@
-//! What became of each order of an exercise, and how its entities lived, read from the logs alone: no
-//! certificate and no order between stations is asked for.
+//! Reviews a recording from its logs alone: what became of each order ([`order_at`]) at each of its
+//! parties ([`is_party`], [`is_party_outside`], [`traces_of`], [`fate_of`]), the states of each
+//! entity over time ([`lives_of`]), datagrams that a log received and no log sent ([`missing_at`]),
+//! and counts of all these ([`review_of`] within a limit of rows, [`Reviewed`] row by row without
+//! memory, [`keeps`] for filters, [`receipts_counted`] for how often each sent datagram was
+//! received).
 //!
-//! [`order_at`] is the order that first stands at an entry, [`is_party`] and [`is_party_outside`] say
-//! whom it was for, and [`fate_of`] tells what became of it there by what its maker and its party
-//! logged ([`traces_of`]): done, refused, answered, pending, unheard, unanswered, lost or unknown.
-//! [`lives_of`] is when an entity was there and in which state, and [`missing_at`] the datagram that a
-//! log received and no log sent. [`review_of`] tells all orders at their parties, the lives of all
-//! entities and the counts of both, within a limit of lines, [`Reviewed`] the same one after the other
-//! without memory, and [`keeps`] which of it filters keep; [`receipts_counted`] tells how often each
-//! datagram that was sent was received.
-//! The laws: [`fates_hold`] says what each fate means in every run that explains the recording,
-//! [`one_side_is_not_enough`] which fates no single log can tell, [`lives_are_states`] that the
-//! stretches of a life are the states of the entity at each place, [`changes_are_made`] that a change
-//! that is told was carried out, [`managers_know`] that the maker of an order can know of it what is
-//! told to be heard, and [`conversion_keeps_views`] that a converted recording has the review that it
-//! had.
+//! It never needs a certificate or an order of time between stations, and never writes anything. It
+//! reads entries through a [`Register`], an index of the entries by order and of the receipts of
+//! each datagram: questions about an order at a station read only the entries under its key there,
+//! other questions the whole log.
 //!
-//! A [`Register`] keeps the entries by the orders that they make, bring or take up, and where each
-//! datagram was received. What has to do with an order at a station is looked for among those entries
-//! alone that have its digest there; what else is asked goes over the whole log.
+//! The layer above may use the laws: [`fates_hold`], what each fate means in every run that
+//! explains the recording; [`one_side_is_not_enough`], the fates that no single log determines;
+//! [`lives_are_states`], the stretches of a life are the states of the entity at each place;
+//! [`changes_are_made`], each reported change was carried out; [`managers_know`], the maker of an
+//! order can know the answers that count as heard; [`conversion_keeps_views`], a converted
+//! recording has an equal review.
 #![tactic(auto)]
 
 mod answered;

@@ -1,4 +1,4 @@
-//! How an entity lived: the stretches in which it had one state.
+//! The life of an entity: the stretches in which it had one state.
 
 ghost use Rattle.std.specs.Prelude.{◌≡◌, ◌<◌, ◌++◌, length, true, IfOk, OnOk};
 ghost use Rattle.exercise_model.specs.Station.{is_entity};
@@ -11,19 +11,19 @@ use dis_records::EntityState;
 use exercise_model::{ExerciseLog, is_entity};
 use std::alloc::{AllocError, Global};
 
-/// A stretch of a station's log in which an entity had one state other than Absent, and that no
-/// longer one holds.
+/// A maximal stretch of a station's log in which an entity had one state other than Absent.
 #[derive(Clone, Copy, PartialEq, Eq)]
 pub struct Stretch {
     /// The state, Stopped or Running.
     pub state: EntityState,
-    /// The entry of the change that began it; `None` where it goes on from the start.
+    /// The entry of the change that began it; `None` if it lasts from the start.
     pub from: Option<usize>,
-    /// The entry of the change that ended it; `None` where it goes on to the end.
+    /// The entry of the change that ended it; `None` if it lasts to the end.
     pub until: Option<usize>,
 }
 
-/// A life so far: the stretches that ended, and the state since an entry, or since the start.
+/// A life up to some entry: the ended stretches, and the current state with the entry that began
+/// it, or none for the start.
 #[derive(Drop)]
 struct Life {
     ended: Vec<Stretch>,
@@ -31,8 +31,8 @@ struct Life {
     since: Option<usize>,
 }
 
-/// Ends the stretch that a life is in, at an entry or with the log; there is none where the entity
-/// is Absent.
+/// Ends the current stretch of a life, at an entry or with the log; adds nothing if the entity is
+/// Absent.
 fn end_stretch(life: &mut Life, until: Option<usize>) -> Result<(), AllocError>
     ensures ended { OnOk result (life.new.ended.items ≡ life.old.ended.items ++ stretch_of (life_in life.old) until) }
     ensures state { life.new.state ≡ life.old.state }
@@ -50,7 +50,7 @@ fn end_stretch(life: &mut Life, until: Option<usize>) -> Result<(), AllocError>
     Ok(())
 }
 
-/// A life after an entry, which leaves the entity in a state.
+/// Continues a life past an entry that leaves the entity in a state.
 fn live_on(life: &mut Life, entry: usize, state: EntityState) -> Result<(), AllocError>
     ensures { OnOk result (life_in life.new ≡ lived_on (life_in life.old) entry state) }
 {
@@ -63,7 +63,7 @@ fn live_on(life: &mut Life, entry: usize, state: EntityState) -> Result<(), Allo
     Ok(())
 }
 
-/// A life of an entity after changes of its station.
+/// Continues a life of an entity past the changes of its station.
 fn live_by(life: &mut Life, entity: u16, changes: &[Made]) -> Result<(), AllocError>
     ensures { OnOk result (life_in life.new ≡ lived_by entity (life_in life.old) changes.now) }
 {
@@ -74,7 +74,7 @@ fn live_by(life: &mut Life, entity: u16, changes: &[Made]) -> Result<(), AllocEr
     Ok(())
 }
 
-/// How an entity of a station lived, by the changes of that station.
+/// The life of an entity of a station, given the changes of that station.
 fn lives_by<L: ExerciseLog>(
     alloc: Global,
     findings: &Register<'_, L>,
@@ -98,9 +98,9 @@ fn lives_by<L: ExerciseLog>(
     Ok(ended)
 }
 
-/// How an entity of a station lived: the longest stretches of the station's log in which it has one
-/// state other than Absent, in their order. A number that no entity has is Absent throughout. It
-/// looks once at each entry.
+/// The life of an entity of a station: the maximal stretches of the station's log in which it has
+/// one state other than Absent, in order. A number that no entity has is Absent throughout. Reads
+/// each entry once.
 pub fn lives_of<L: ExerciseLog>(
     alloc: Global,
     findings: &Register<'_, L>,

@@ -1,4 +1,5 @@
-//! How an entity lived, by the course of its station: from one change to the next that may move it.
+//! The life of an entity, by the course of its station: from each change to the next that may
+//! affect it.
 
 ghost use Rattle.std.specs.Prelude.{◌≡◌, ℕ, ◌+◌, ◌<◌, ◌≤◌, [], false, length, map};
 ghost use Rattle.exercise_review.specs.Room.{AddsWithin};
@@ -12,8 +13,8 @@ use crate::stay::{Stay, end_stay, stay_on};
 use dis_records::EntityState;
 use exercise_model::LARGEST_ENTITY;
 
-/// Where the next change of an entity alone stands past a place, where this is the next from that
-/// place on.
+/// Place of the next own change of an entity after `place`, where `own` is the next one from
+/// `place` on.
 fn own_past(course: &Course<'_>, entity: u16, own: usize, place: usize) -> usize
     requires order { AreInOrder course.now }
     requires within { place < length course.now.changes.now }
@@ -27,8 +28,8 @@ fn own_past(course: &Course<'_>, entity: u16, own: usize, place: usize) -> usize
     }
 }
 
-/// How far an entity stays in a state, from a place on, where this is the next change of it alone:
-/// to that one, or to one of all entities before it.
+/// Place up to which an entity has a state, from `place` on: its next own change `own`, or an
+/// earlier change of all entities that changes the state.
 fn stay_to(course: &Course<'_>, entity: u16, state: EntityState, own: usize, place: usize) -> usize
     requires order { AreInOrder course.now }
     requires own { IsNextIn (is_of entity) course.now.changes.now place own }
@@ -39,7 +40,7 @@ fn stay_to(course: &Course<'_>, entity: u16, state: EntityState, own: usize, pla
     if of_all < own { of_all } else { own }
 }
 
-/// The stay that an entity of a station is in before the first change.
+/// The stay of an entity of a station before the first change.
 fn start_stay(course: &Course<'_>, station: u16, entity: u16) -> Stay
     requires { AreInOrder course.now }
     ensures { result ≡ stay_of station entity (stretch_so_far (start_in course.now entity)) }
@@ -53,8 +54,8 @@ fn start_stay(course: &Course<'_>, station: u16, entity: u16) -> Stay
     }
 }
 
-/// Adds the stays of an entity of a station, by the course of that station, where there is room for so
-/// many. It looks at the changes that are its own, and of the others at those that move it.
+/// Adds the stays of an entity of a station, given the course of that station; `OverLimit` beyond
+/// `most`. Reads only its own changes and those of all entities that change its state.
 pub(crate) fn push_life(
     stays: &mut Vec<Stay>,
     most: usize,
@@ -79,8 +80,8 @@ pub(crate) fn push_life(
     end_stay(stays, most, stay, NO_ENTRY)
 }
 
-/// Whether there may be something to tell of an entity: it is there before the first change, or some
-/// change may bring it to life.
+/// Whether the life of an entity may have any stay: it exists before the first change, or some
+/// change may create it.
 pub(crate) fn may_live(course: &Course<'_>, entity: u16) -> bool
     requires { AreInOrder course.now }
     ensures { result ≡ false → lives_in course.now entity ≡ [] }
@@ -94,8 +95,8 @@ pub(crate) fn may_live(course: &Course<'_>, entity: u16) -> bool
     }
 }
 
-/// The greatest number of the entities of which there may be something to tell, by the course of a
-/// station.
+/// Greatest number of an entity whose life may have any stay, given the course of a station; at
+/// most 65,533.
 pub(crate) fn last_living(course: &Course<'_>) -> u16
     requires { AreInOrder course.now }
     ensures within { result ≤ 65533 }

@@ -1,4 +1,4 @@
-//! Datagrams that were received and that their senders' logs do not have.
+//! Datagrams that were received and that the logs of their senders lack.
 
 ghost use Rattle.std.specs.Prelude.{◌≡◌, ◌<◌, length};
 ghost use Rattle.siman_pdus.specs.Reading.{pdu_of};
@@ -15,7 +15,7 @@ use exercise_findings::Missing;
 use exercise_model::{EntryView, ExerciseLog, is_answer, is_asked};
 use siman_pdus::PduView;
 
-/// Where any station receives these bytes.
+/// The test whether any station receives these bytes at an entry.
 #[derive(Drop)]
 struct GetsBytes<'a, L: ExerciseLog> {
     findings: &'a Register<'a, L>,
@@ -34,7 +34,7 @@ impl<L: ExerciseLog> Question for GetsBytes<'_, L> {
     }
 }
 
-/// Where a station receives a request that an answer could take up.
+/// The test whether a station receives, at an entry, a request that an answer could take up.
 #[derive(Drop)]
 struct Brings<'a, L: ExerciseLog> {
     findings: &'a Register<'a, L>,
@@ -55,7 +55,8 @@ impl<L: ExerciseLog> Question for Brings<'_, L> {
     }
 }
 
-/// Where the send of a PDU belongs in the log of a station.
+/// The entry of a station's log after which the missing send of a PDU belongs: for an answer, the
+/// first receipt of a request that it could take up; `None` for other PDUs.
 #[tactic(auto, unfolding(exercise_model::specs::Place::entry_taken_up))]
 fn place_of<L: ExerciseLog>(
     findings: &Register<'_, L>,
@@ -77,7 +78,7 @@ fn place_of<L: ExerciseLog>(
     first_below(&brings, entry_count(findings))
 }
 
-/// The send of a PDU that the log of its sender lacks, where that is a recorded station.
+/// The send of a PDU that is missing in the log of its sender, if that is a recorded station.
 fn missing_pdu<L: ExerciseLog>(findings: &Register<'_, L>, pdu: &PduView<'_>) -> Option<Missing>
     ensures { result ≡ missing_pdu findings.now (pdu_of pdu.now) }
 {
@@ -97,9 +98,9 @@ fn is_first_receipt<L: ExerciseLog>(findings: &Register<'_, L>, entry: usize, by
     first_below(&GetsBytes { findings, bytes }, entry).is_none()
 }
 
-/// The send that is missing by an entry: the entry is the first receipt of a datagram that comes from a
-/// recorded station, and no entry of that station sends the same bytes. `None` for all else and past
-/// the last entry. It takes no memory.
+/// The missing send that an entry reveals: the entry is the first receipt of a datagram from a
+/// recorded station, and no entry of that station sends these bytes. `None` for all other entries
+/// and past the last. Allocates no memory.
 #[tactic(auto, unfolding(exercise_findings::specs::Missing::missing_at))]
 pub fn missing_at<L: ExerciseLog>(findings: &Register<'_, L>, entry: usize) -> Option<Missing>
     ensures { result ≡ missing_at findings.now entry }

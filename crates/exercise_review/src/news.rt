@@ -1,4 +1,4 @@
-//! What the maker of an order heard of the replies of a station, gathered by these replies.
+//! The replies of a station that the maker of an order heard.
 
 ghost use Rattle.std.specs.Prelude.{◌≡◌, false, IfSome, if◌then◌else◌};
 ghost use Rattle.exercise_review.specs.Gathered.{settles_in, first_news, last_news, word_in, IsSpoken};
@@ -14,7 +14,7 @@ use crate::word::{Spoken, Word};
 use exercise_findings::Hint;
 use exercise_model::ExerciseLog;
 
-/// What the maker of an order heard of the replies of a station.
+/// The replies of a station that the maker of an order heard.
 #[derive(Clone, Copy)]
 pub(crate) struct HeardNews {
     /// The first entry at which it heard one that settles.
@@ -23,7 +23,7 @@ pub(crate) struct HeardNews {
     pub last: Spoken,
 }
 
-/// The earlier of two entries, if there are both.
+/// The earlier of an entry and a second one, either of which may be missing.
 fn earlier<L: ExerciseLog>(
     findings: &Register<'_, L>,
     kept: Spoken,
@@ -49,7 +49,7 @@ fn earlier<L: ExerciseLog>(
     }
 }
 
-/// The later of two entries, if there are both.
+/// The later of an entry and a second one, either of which may be missing.
 fn later<L: ExerciseLog>(
     findings: &Register<'_, L>,
     kept: Spoken,
@@ -75,7 +75,7 @@ fn later<L: ExerciseLog>(
     }
 }
 
-/// Where a maker received a reply first and last, which an entry sends.
+/// First and last entry at which the maker received a reply that `entry` sends.
 #[tactic(auto, using(crate::proofs::Replied::first_word, crate::proofs::Replied::last_word))]
 fn receipts_of<L: ExerciseLog>(
     findings: &Register<'_, L>,
@@ -100,8 +100,8 @@ fn receipts_of<L: ExerciseLog>(
     }
 }
 
-/// What a maker, if there is one, heard of the replies behind an entry, and of the reply there, if it
-/// is one.
+/// The replies heard by an optional maker, from an entry on: those after it are `behind`, and
+/// `reply` is the one at the entry, if any.
 pub(crate) fn with_news<L: ExerciseLog>(
     findings: &Register<'_, L>,
     maker: Option<u16>,

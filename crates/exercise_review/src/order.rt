@@ -1,4 +1,4 @@
-//! Orders, each told by the entry at which it first stands.
+//! Orders, each identified by its head: its first entry.
 
 ghost use Rattle.std.specs.Prelude.{◌≡◌, ◌<◌, ◌&&◌, true, false, is_some, option_map, option_and_then, slice_get, Some, None, length, if◌then◌else◌};
 ghost use Rattle.siman_pdus.specs.Answers.{same_id};
@@ -22,19 +22,19 @@ use crate::walk::{counted_entries, first_entry};
 use exercise_model::{EntryView, ExerciseLog, Form};
 use siman_pdus::{PduView, is_request, is_under_identifier, same_order};
 
-/// An order: a request, told by the entry at which it first stands.
+/// An order: a request, identified by its head.
 #[derive(Drop)]
 pub struct Order<'a> {
-    /// The entry at which its maker first sent it or, where it came from outside, the first at which
-    /// somebody received it.
+    /// The entry at which its maker first sent it or, for an order from outside, at which a station
+    /// first received it.
     pub head: usize,
-    /// The recorded station that made it, by its index; `None` where it came from outside.
+    /// The index of the recorded station that made it; `None` for an order from outside.
     pub maker: Option<u16>,
-    /// What it asks.
+    /// The request itself.
     pub request: PduView<'a>,
 }
 
-/// Where a station sends an order.
+/// The test whether a station sends an order at an entry.
 #[derive(Drop)]
 pub(crate) struct Sends<'a, L: ExerciseLog> {
     pub findings: &'a Register<'a, L>,
@@ -54,7 +54,7 @@ impl<L: ExerciseLog> Question for Sends<'_, L> {
     }
 }
 
-/// Where a station receives an order.
+/// The test whether a station receives an order at an entry.
 #[derive(Drop)]
 pub(crate) struct Gets<'a, L: ExerciseLog> {
     pub findings: &'a Register<'a, L>,
@@ -74,7 +74,7 @@ impl<L: ExerciseLog> Question for Gets<'_, L> {
     }
 }
 
-/// Where any station receives an order.
+/// The test whether any station receives an order at an entry.
 #[derive(Drop)]
 struct GetsAnywhere<'a, L: ExerciseLog> {
     findings: &'a Register<'a, L>,
@@ -96,7 +96,7 @@ impl<L: ExerciseLog> Question for GetsAnywhere<'_, L> {
     }
 }
 
-/// Where a station sends a request under the identifier of another.
+/// The test whether a station sends a request under the identifier of another request.
 #[derive(Drop)]
 struct SendsUnderId<'a, L: ExerciseLog> {
     findings: &'a Register<'a, L>,
@@ -116,7 +116,7 @@ impl<L: ExerciseLog> Question for SendsUnderId<'_, L> {
     }
 }
 
-/// The head of what a station sends, where it is a request.
+/// Head of a PDU that a station sends, if it is a request.
 #[tactic(auto, using(crate::proofs::Under::under_steps))]
 fn head_sent<L: ExerciseLog>(
     findings: &Register<'_, L>,
@@ -136,14 +136,14 @@ fn head_sent<L: ExerciseLog>(
     first_entry(findings, order_key(station, pdu), &sends)
 }
 
-/// Whether what somebody receives is a request from outside to a recorded station.
+/// Whether a received PDU is a request from outside to a recorded station.
 fn is_asked_from_outside<L: ExerciseLog>(findings: &Register<'_, L>, pdu: &PduView<'_>) -> bool
     ensures { result ≡ (is_request_body (pdu_of pdu.now).body && (is_outside findings.now (pdu_of pdu.now) && is_for_station findings.now (pdu_of pdu.now))) }
 {
     is_request(pdu) && is_outside(findings, pdu) && is_for_station(findings, pdu)
 }
 
-/// The head of what somebody receives, where it is a request from outside to a recorded station.
+/// Head of a received PDU, if it is a request from outside to a recorded station.
 fn head_got<L: ExerciseLog>(findings: &Register<'_, L>, pdu: &PduView<'_>) -> Option<usize>
     ensures { result ≡ head_got findings.now (pdu_of pdu.now) }
 {
@@ -157,9 +157,9 @@ fn head_got<L: ExerciseLog>(findings: &Register<'_, L>, pdu: &PduView<'_>) -> Op
     first_below(&gets, entry_count(findings))
 }
 
-/// The head of an entry: where it sends a request, the first entry at which its station sends that
-/// order; where it receives one from outside that is for a recorded station, the first at which
-/// somebody receives it. `None` for all else and past the last entry. It takes no memory.
+/// Head of an entry: for a sent request, the first entry at which its station sends that order; for
+/// a received request from outside to a recorded station, the first entry at which any station
+/// receives it. `None` for all other entries and past the last. Allocates no memory.
 #[tactic(auto, unfolding(crate::specs::Order::head_of))]
 pub fn head_of<L: ExerciseLog>(findings: &Register<'_, L>, entry: usize) -> Option<usize>
     ensures { result ≡ head_of findings.now entry }
@@ -177,8 +177,8 @@ pub fn head_of<L: ExerciseLog>(findings: &Register<'_, L>, entry: usize) -> Opti
     }
 }
 
-/// Whether an entry at which a station sends a PDU is the head of that: only the entries of its order
-/// before it are asked.
+/// Whether an entry at which a station sends a PDU is the head of that PDU. Tests only earlier
+/// entries under its key.
 #[tactic(auto, using(crate::proofs::Under::sends_itself))]
 fn is_head_sent<L: ExerciseLog>(
     findings: &Register<'_, L>,
@@ -201,7 +201,7 @@ fn is_head_sent<L: ExerciseLog>(
     findings.is_first(&sends, entry)
 }
 
-/// Whether an entry at which somebody receives something is the head of that.
+/// Whether an entry at which a station receives a PDU is the head of that PDU.
 #[tactic(auto, using(crate::proofs::Under::anywhere_first))]
 fn is_head_got<L: ExerciseLog>(findings: &Register<'_, L>, pdu: &PduView<'_>, entry: usize) -> bool
     requires { entry < length findings.now.entries }
@@ -217,8 +217,8 @@ fn is_head_got<L: ExerciseLog>(findings: &Register<'_, L>, pdu: &PduView<'_>, en
     findings.is_first_by_second(&gets, entry)
 }
 
-/// Whether a station is known to have sent before what it sends at an entry, but for the timestamp: so
-/// it sent it right before under the same key.
+/// Whether the entry before this one under its key is known to send these bytes too, except for the
+/// timestamp.
 #[tactic(auto, using(crate::proofs::Stamped::sent_before))]
 fn is_sent_again<L: ExerciseLog>(
     findings: &Register<'_, L>,
@@ -239,8 +239,8 @@ fn is_sent_again<L: ExerciseLog>(
     }
 }
 
-/// The order that a station makes by what it sends at an entry that has a key, if that is the head of
-/// it. What was sent before is not read.
+/// The order that a station makes at an entry that has a key, if the entry is its head. A repeat is
+/// not decoded.
 #[tactic(auto, unfolding(crate::specs::Entries::sent_by), using(crate::proofs::Keyed::sent_meant))]
 fn order_sent<'a, L: ExerciseLog>(
     findings: &Register<'a, L>,
@@ -268,7 +268,7 @@ fn order_sent<'a, L: ExerciseLog>(
     })
 }
 
-/// The order from outside that somebody receives at an entry, if that is the head of it.
+/// The order from outside that a station receives at an entry, if the entry is its head.
 #[tactic(auto, using(crate::proofs::Heads::nobody_outside))]
 fn order_got<'a, L: ExerciseLog>(
     findings: &Register<'a, L>,
@@ -293,7 +293,7 @@ fn order_got<'a, L: ExerciseLog>(
     })
 }
 
-/// The order of which an entry is the head; `None` where it is no head. It takes no memory.
+/// The order whose head is this entry; `None` if it is no head. Allocates no memory.
 #[tactic(auto, unfolding(crate::specs::Order::order_at, crate::specs::Order::head_of))]
 pub fn order_at<'a, L: ExerciseLog>(findings: &Register<'a, L>, entry: usize) -> Option<Order<'a>>
     ensures { option_map order_of result ≡ order_at findings.now entry }
@@ -305,7 +305,7 @@ pub fn order_at<'a, L: ExerciseLog>(findings: &Register<'a, L>, entry: usize) ->
     }
 }
 
-/// The order of which an entry that has a key is the head, where this is what stands there.
+/// The order whose head is this entry, which has a key and these contents.
 #[tactic(auto, unfolding(crate::specs::Order::order_at, crate::specs::Order::head_of, crate::specs::Entries::bytes_sent))]
 fn order_in<'a, L: ExerciseLog>(
     findings: &Register<'a, L>,
@@ -324,8 +324,8 @@ fn order_in<'a, L: ExerciseLog>(
     }
 }
 
-/// The same as [`order_at`], of an entry that is there: one without a key is not read, nor one that
-/// takes up a request.
+/// As [`order_at`], for an entry within the log. An entry without a key, or one that takes up a
+/// request, is not read.
 #[tactic(auto, using(crate::proofs::Keyed::no_order, crate::proofs::Paired::paired_no_order))]
 pub(crate) fn order_keyed<'a, L: ExerciseLog>(
     findings: &Register<'a, L>,
@@ -341,8 +341,8 @@ pub(crate) fn order_keyed<'a, L: ExerciseLog>(
 }
 
 impl Order<'_> {
-    /// What the entries of its maker are looked up by at which it may be told of it; those of the first
-    /// station where it came from outside.
+    /// Key of the entries at which its maker may receive answers to it; for an order from outside,
+    /// the key at station 0.
     #[tactic(auto, unfolding(crate::specs::Register::told_key))]
     pub(crate) fn told_key(&self) -> Option<u64>
         ensures { result ≡ told_key (order_of self.now) }
@@ -354,7 +354,7 @@ impl Order<'_> {
         id_key(station, &self.request)
     }
 
-    /// How often its maker sent it; 0 where it came from outside.
+    /// How often its maker sent it; 0 for an order from outside.
     #[tactic(auto, unfolding(crate::specs::Order::sends_of), using(crate::proofs::Under::under_steps))]
     pub fn sends<L: ExerciseLog>(&self, findings: &Register<'_, L>) -> usize
         ensures { result ≡ sends_of findings.now (order_of self.now) }

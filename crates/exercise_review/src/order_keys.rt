@@ -1,4 +1,4 @@
-//! The keys of entries by the orders that they have to do with, as a register has them.
+//! The keys by which a register indexes entries: those of the orders that the entries belong to.
 
 ghost use Rattle.exercise_review.specs.Register.{key_at};
 
@@ -6,7 +6,7 @@ use crate::register::Register;
 use crate::ways::Keying;
 use exercise_model::ExerciseLog;
 
-/// The keys of entries by the orders that they have to do with.
+/// The key of each entry by the order that the entry belongs to.
 #[derive(Drop)]
 pub(crate) struct OrderKeys<'b, 'a, L: ExerciseLog> {
     pub register: &'b Register<'a, L>,

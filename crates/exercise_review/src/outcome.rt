@@ -1,4 +1,4 @@
-//! What is told of an order at each of its parties.
+//! The outcome of an order at each of its parties.
 
 ghost use Rattle.std.specs.Prelude.{◌≡◌, Some, map, IfOk};
 ghost use Rattle.siman_pdus.specs.Reading.{pdu_of};
@@ -24,11 +24,11 @@ use crate::word::{Word, telling, word_of};
 use exercise_model::{EntryView, ExerciseLog};
 use std::alloc::{AllocError, Global};
 
-/// What is told of an order at one of its parties, or of an order that has none. Each is `None`
-/// where it is not there, and where it stands in no log. Entries are numbers from 0.
+/// The outcome of an order at one of its parties, or of an order without parties. A field is `None`
+/// if it has no value or no recorded log contains it. Entries are numbers from 0.
 #[derive(Clone, Copy, PartialEq, Eq)]
 pub struct Outcome {
-    /// The party; `None` where the order has none.
+    /// The party; `None` if the order has none.
     pub party: Option<Party>,
     /// How often the maker sent the order.
     pub sends: Option<usize>,
@@ -36,24 +36,24 @@ pub struct Outcome {
     pub receipts: Option<usize>,
     /// The entry at which the party first received it.
     pub got: Option<usize>,
-    /// What the party replied.
+    /// The word of the party's reply.
     pub said: Option<Word>,
     /// The entry of that reply: the first that settles the order, else the last.
     pub answer: Option<usize>,
-    /// What the maker heard from the party.
+    /// The word of the party's answer that the maker heard.
     pub heard: Option<Word>,
-    /// The entry of that: the first that settles the order, else the last.
+    /// The entry at which the maker heard it: the first that settles the order, else the last.
     pub news: Option<usize>,
-    /// How long it took from the head to the news, by the maker's clock; `None` too where that was
-    /// set back.
+    /// Time from the head to `news` by the maker's clock, in units of the stamps; `None` also if
+    /// that clock was set back.
     pub took: Option<u64>,
-    /// The entry of the first reply that changed something at the party.
+    /// The entry of the first reply that made a change at the party.
     pub change: Option<usize>,
-    /// What became of the order there.
+    /// The fate of the order there.
     pub fate: Fate,
 }
 
-/// The stamp of an entry of a log, by the clock of its station.
+/// Stamp of an entry of a log, by the clock of its station; `None` for a state report.
 #[tactic(auto, unfolding(crate::specs::Outcome::stamp_at))]
 pub(crate) fn stamp_in<L: ExerciseLog>(log: &L, entry: usize) -> Option<u64>
     ensures { result ≡ stamp_at (L.recording log.now) entry }
@@ -64,14 +64,14 @@ pub(crate) fn stamp_in<L: ExerciseLog>(log: &L, entry: usize) -> Option<u64>
     }
 }
 
-/// The stamp of an entry of a recording.
+/// Stamp of an entry of a recording.
 fn stamp_at<L: ExerciseLog>(findings: &Register<'_, L>, entry: usize) -> Option<u64>
     ensures { result ≡ stamp_at findings.now entry }
 {
     stamp_in(findings.log(), entry)
 }
 
-/// How long it took from an entry to another by the clock of their station, unless it was set back.
+/// Time between two entries by the clock of their station; `None` if that was set back.
 fn took_between<L: ExerciseLog>(
     findings: &Register<'_, L>,
     first: usize,
@@ -85,7 +85,7 @@ fn took_between<L: ExerciseLog>(
     }
 }
 
-/// How long an order took, from its head to the entry of its news.
+/// Time from the head of an order to the entry `news`.
 fn took<L: ExerciseLog>(
     findings: &Register<'_, L>,
     order: &Order<'_>,
@@ -99,20 +99,20 @@ fn took<L: ExerciseLog>(
     }
 }
 
-/// What is asked of an order at each of its parties alike.
+/// Data about an order that every party's outcome needs.
 #[derive(Clone, Copy)]
 pub(crate) struct Asked<'a> {
-    /// Bytes that say it, if they are at hand.
+    /// Bytes that mean the order, if available.
     pub said: Option<&'a [u8]>,
-    /// The digest of its request.
+    /// Digest of its request.
     pub digest: Option<u64>,
     /// How often it was sent, if its maker is recorded.
     pub sends: Option<usize>,
-    /// What was gathered at its maker, if that was done.
+    /// The data collected at its maker, if that was done.
     pub own: Option<Gathered>,
 }
 
-/// What is asked of an order whose request has this digest at each of its parties alike.
+/// The data about an order, given the digest of its request.
 #[tactic(auto, unfolding(crate::specs::Order::sends_of))]
 fn asked_by<'b, L: ExerciseLog>(
     findings: &Register<'_, L>,
@@ -147,7 +147,7 @@ fn asked_by<'b, L: ExerciseLog>(
     }
 }
 
-/// What is asked of an order at each of its parties alike.
+/// The data about an order that every party's outcome needs.
 pub(crate) fn asked_of<'b, L: ExerciseLog>(
     findings: &Register<'_, L>,
     order: &Order<'_>,
@@ -158,7 +158,7 @@ pub(crate) fn asked_of<'b, L: ExerciseLog>(
     asked_by(findings, order, None, request_digest(&order.request), hints)
 }
 
-/// The digest of the request of an order that a station made, told from the key of its head.
+/// Digest of the request of an order that a station made, computed from the key of its head.
 fn digest_at_head<L: ExerciseLog>(
     findings: &Register<'_, L>,
     order: &Order<'_>,
@@ -174,7 +174,7 @@ fn digest_at_head<L: ExerciseLog>(
     }
 }
 
-/// The bytes by which a station made an order: they say it.
+/// The bytes that a station sent at the head of an order.
 fn said_at_head<'a, L: ExerciseLog>(
     findings: &Register<'a, L>,
     order: &Order<'_>,
@@ -187,8 +187,8 @@ fn said_at_head<'a, L: ExerciseLog>(
     bytes_sent(findings, maker, order.head)
 }
 
-/// The same as [`asked_of`], of an order that stands at its head: where nothing stands under its key
-/// behind that, it was sent once.
+/// As [`asked_of`], for an order found at its head. If no later entry has its key, it was sent
+/// once.
 pub(crate) fn asked_at_head<'a, L: ExerciseLog>(
     findings: &Register<'a, L>,
     order: &Order<'_>,
@@ -213,8 +213,8 @@ pub(crate) fn asked_at_head<'a, L: ExerciseLog>(
     }
 }
 
-/// What was gathered of an order, of which this is asked, at a recorded station: its log is gone
-/// through by the key of the order there, unless that was done.
+/// Everything the logs hold about an order at a recorded station. Reuses the data collected at the
+/// maker, if `asked` has them.
 fn gathered_at<L: ExerciseLog>(
     findings: &Register<'_, L>,
     order: &Order<'_>,
@@ -243,7 +243,7 @@ fn gathered_at<L: ExerciseLog>(
     }
 }
 
-/// What is told of an order at a recorded station.
+/// The outcome of an order at a recorded station.
 #[tactic(auto, unfolding(crate::specs::Word::telling, crate::specs::Fate::fate_of))]
 fn outcome_here<L: ExerciseLog>(
     findings: &Register<'_, L>,
@@ -278,7 +278,7 @@ fn outcome_here<L: ExerciseLog>(
     }
 }
 
-/// What is told of an order, which was sent so often, at an address that nobody recorded.
+/// The outcome of an order, sent `sends` times, at an address of no recorded station.
 #[tactic(auto, using(crate::proofs::Under::under_steps))]
 fn outcome_outside<L: ExerciseLog>(
     findings: &Register<'_, L>,
@@ -310,7 +310,7 @@ fn outcome_outside<L: ExerciseLog>(
     }
 }
 
-/// What is told of an order that has no party.
+/// The outcome of an order without parties.
 pub(crate) fn outcome_nowhere<L: ExerciseLog>(
     findings: &Register<'_, L>,
     order: &Order<'_>,
@@ -335,7 +335,7 @@ pub(crate) fn outcome_nowhere<L: ExerciseLog>(
     }
 }
 
-/// What is told of an order at a party.
+/// The outcome of an order at a party.
 #[tactic(auto, unfolding(crate::specs::Outcome::outcome_at))]
 pub(crate) fn outcome_at<L: ExerciseLog>(
     findings: &Register<'_, L>,
@@ -353,7 +353,7 @@ pub(crate) fn outcome_at<L: ExerciseLog>(
     }
 }
 
-/// What is told of an order at these parties, one after the other.
+/// The outcomes of an order at these parties, in their order.
 fn outcomes_at<L: ExerciseLog>(
     alloc: Global,
     findings: &Register<'_, L>,
@@ -372,8 +372,7 @@ fn outcomes_at<L: ExerciseLog>(
     Ok(outcomes)
 }
 
-/// What became of an order: what is told of it at each of its parties, by rising addresses, or once
-/// where it has none.
+/// The outcomes of an order at each of its parties, by rising address; one outcome if it has none.
 #[tactic(auto, unfolding(crate::specs::Outcome::outcomes_of))]
 pub fn outcomes_of<L: ExerciseLog>(
     alloc: Global,

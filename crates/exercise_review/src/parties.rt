@@ -1,4 +1,4 @@
-//! The parties of an order, one after the other by rising addresses.
+//! The parties of an order, by rising address.
 
 ghost use Rattle.std.specs.Prelude.{◌≡◌, ◌≢◌, ◌<◌, ◌≤◌, ◌+◌, ℕ, nat_lt, IsTrue, true, false, [], length, option_map, IfOk, OnOk, IfSome};
 ghost use Rattle.dis_records.specs.Entity.{pair_of, is_addressed};
@@ -22,7 +22,7 @@ use std::alloc::{AllocError, Global};
 /// All sites or all applications, in its place (IEEE 1278.1-2012, 6.2.28).
 const ALL: u16 = 0xFFFF;
 
-/// The site and the application of an address.
+/// Site and application of an address.
 pub(crate) fn parts_of(address: Address) -> Outsider
     ensures { pair_at result ≡ address }
 {
@@ -32,7 +32,7 @@ pub(crate) fn parts_of(address: Address) -> Outsider
     }
 }
 
-/// The site and the application of an identifier.
+/// Site and application of an identifier.
 pub(crate) fn parts_in(id: EntityId) -> Outsider
     ensures { pair_at result ≡ pair_of id }
 {
@@ -42,14 +42,14 @@ pub(crate) fn parts_in(id: EntityId) -> Outsider
     }
 }
 
-/// The site and the application of a recorded station; 0 and 0 past the last.
+/// Site and application of a recorded station; 0 and 0 past the last.
 pub(crate) fn station_parts<L: ExerciseLog>(findings: &Register<'_, L>, station: u16) -> Outsider
     ensures { pair_at result ≡ (station_at findings.now station).address }
 {
     parts_at(findings.log(), station)
 }
 
-/// The same, of a station of a log.
+/// Site and application of a station of a log; 0 and 0 past the last.
 pub(crate) fn parts_at<L: ExerciseLog>(log: &L, station: u16) -> Outsider
     ensures { pair_at result ≡ (station_at (L.recording log.now) station).address }
 {
@@ -64,7 +64,7 @@ pub(crate) fn parts_at<L: ExerciseLog>(log: &L, station: u16) -> Outsider
     }
 }
 
-/// The site and the application of whoever made an order, by a log.
+/// Site and application of the maker of an order, given a log.
 pub(crate) fn maker_in<L: ExerciseLog>(log: &L, order: &Order<'_>) -> Outsider
     ensures { pair_at result ≡ maker_address (L.recording log.now) (order_of order.now) }
 {
@@ -74,7 +74,7 @@ pub(crate) fn maker_in<L: ExerciseLog>(log: &L, order: &Order<'_>) -> Outsider
     }
 }
 
-/// The site and the application of a party, by a log; 0 and 0 of a station past the last.
+/// Site and application of a party, given a log; 0 and 0 for a station past the last.
 pub(crate) fn address_in<L: ExerciseLog>(log: &L, party: Party) -> Outsider
     ensures { pair_at result ≡ party_address (L.recording log.now) party }
 {
@@ -85,8 +85,8 @@ pub(crate) fn address_in<L: ExerciseLog>(log: &L, party: Party) -> Outsider
 }
 
 impl Order<'_> {
-    /// The site and the application of whoever made it: those of the recorded station, or those that
-    /// it comes from.
+    /// Site and application of its maker: those of the recorded station, or of the origin of the
+    /// request.
     pub fn from<L: ExerciseLog>(&self, findings: &Register<'_, L>) -> Outsider
         ensures { pair_at result ≡ maker_address findings.now (order_of self.now) }
     {
@@ -95,7 +95,7 @@ impl Order<'_> {
 }
 
 impl Party {
-    /// Its site and its application; 0 and 0 of a station past the last.
+    /// Site and application of the party; 0 and 0 for a station past the last.
     pub fn address<L: ExerciseLog>(self, findings: &Register<'_, L>) -> Outsider
         ensures { pair_at result ≡ party_address findings.now self }
     {
@@ -104,7 +104,7 @@ impl Party {
 }
 
 impl Outsider {
-    /// The number that the address has among all, by which they rise.
+    /// Rank of the address: site times 65,536 plus application.
     fn number(self) -> u64
         ensures number { result ≡ number_of (pair_at self) }
         ensures within { result < addresses }
@@ -113,7 +113,7 @@ impl Outsider {
     }
 }
 
-/// The party at an address, if there is one.
+/// The party at an address, if any.
 #[tactic(auto, unfolding(crate::specs::Parties::party_at))]
 fn party_at<L: ExerciseLog>(
     findings: &Register<'_, L>,
@@ -132,7 +132,7 @@ fn party_at<L: ExerciseLog>(
     }
 }
 
-/// The address from which the maker of an order received something at an entry.
+/// Origin of the PDU that the maker of an order received at an entry, if any.
 fn heard_from<L: ExerciseLog>(
     findings: &Register<'_, L>,
     order: &Order<'_>,
@@ -146,8 +146,8 @@ fn heard_from<L: ExerciseLog>(
     }
 }
 
-/// The address at a place among those where a party may be: first those of the recorded stations,
-/// then that of the target, then for each entry that from which the maker received something there.
+/// Candidate address of a party at a place of the search: first the recorded stations, then the
+/// target, then for each entry the origin of the PDU that the maker received there.
 fn candidate<L: ExerciseLog>(
     findings: &Register<'_, L>,
     order: &Order<'_>,
@@ -165,8 +165,8 @@ fn candidate<L: ExerciseLog>(
     }
 }
 
-/// The nearer of two next parties: the one so far, or what stands at an address, where that is a
-/// party and its number is no less than the first.
+/// The lower of two parties: the best so far, or the party at `address`, if any, whose rank is
+/// `first` or higher.
 fn nearer<L: ExerciseLog>(
     findings: &Register<'_, L>,
     order: &Order<'_>,
@@ -191,7 +191,7 @@ fn nearer<L: ExerciseLog>(
     }
 }
 
-/// The next party of an order from a number of addresses on, with its number.
+/// The party of an order with the lowest rank from `first` on, with its rank.
 fn next_party<L: ExerciseLog>(
     findings: &Register<'_, L>,
     order: &Order<'_>,
@@ -209,14 +209,15 @@ fn next_party<L: ExerciseLog>(
     next
 }
 
-/// Whether somebody who was not recorded may be a party of an order.
+/// Whether an unrecorded station may be a party of an order: the recording is open, and a recorded
+/// station made the order.
 fn has_outsiders<L: ExerciseLog>(findings: &Register<'_, L>, order: &Order<'_>) -> bool
     ensures { result ≡ has_outsiders findings.now (order_of order.now) }
 {
     findings.log().form() == Form::Open && order.maker.is_some()
 }
 
-/// The parties of an order, wherever they may be.
+/// All parties of an order, found by a search over the whole log for each.
 #[tactic(auto, unfolding(crate::specs::Parties::parties_of))]
 fn parties_anywhere<L: ExerciseLog>(
     parties: &mut Vec<Party>,
@@ -234,7 +235,7 @@ fn parties_anywhere<L: ExerciseLog>(
     Ok(())
 }
 
-/// Whether a recorded station has an address of a smaller number than this.
+/// Whether a recorded station has an address of a lower rank than `number`.
 fn is_below<L: ExerciseLog>(log: &L, station: usize, number: u64) -> bool
     requires { station < length (L.recording log.now).setting.stations }
     ensures { result ≡ nat_lt (number_of (station_at (L.recording log.now) station).address) number }
@@ -242,7 +243,7 @@ fn is_below<L: ExerciseLog>(log: &L, station: usize, number: u64) -> bool
     parts_of(log.station(station).address()).number() < number
 }
 
-/// How many recorded stations have an address of a smaller number than this.
+/// Number of recorded stations whose address has a lower rank than `number`.
 fn stations_below<L: ExerciseLog>(log: &L, number: u64) -> usize
     ensures within { result ≤ length (L.recording log.now).setting.stations }
     ensures below { (s : ℕ) → s < result → number_of (station_at (L.recording log.now) s).address < number }
@@ -268,8 +269,9 @@ fn names_one(target: EntityId) -> bool
     target.site != ALL && target.application != ALL
 }
 
-/// From which station on, and up to which, all stand that an identifier addresses: any where it names
-/// all sites or all applications, else the one at its address.
+/// A range of recorded stations, its start and its exclusive end, with all that an identifier
+/// addresses: all stations if it names all sites or all applications, else at most the one at its
+/// address.
 fn addressed_among<L: ExerciseLog>(findings: &Register<'_, L>, target: EntityId) -> (usize, usize)
     ensures limits { IsRecording findings.now }
     ensures within { (result.0 ≤ result.1) × (result.1 ≤ length findings.now.setting.stations) }
@@ -284,7 +286,7 @@ fn addressed_among<L: ExerciseLog>(findings: &Register<'_, L>, target: EntityId)
     if at < count { (at, at + 1) } else { (at, at) }
 }
 
-/// The parties of an order of which nobody else can be one: recorded stations, whose addresses rise.
+/// The parties of an order that can have only recorded stations as parties.
 fn station_parties<L: ExerciseLog>(
     parties: &mut Vec<Party>,
     findings: &Register<'_, L>,
@@ -305,8 +307,8 @@ fn station_parties<L: ExerciseLog>(
     Ok(())
 }
 
-/// The parties of an order, where this was gathered at its maker, if it was. They take the place of those
-/// that are lent.
+/// The parties of an order, written over the contents of `parties`. `own` may give the data
+/// collected at the maker.
 pub(crate) fn parties_by<L: ExerciseLog>(
     parties: &mut Vec<Party>,
     findings: &Register<'_, L>,
@@ -324,9 +326,9 @@ pub(crate) fn parties_by<L: ExerciseLog>(
     }
 }
 
-/// The parties of an order, by rising addresses: the recorded stations that it is for, and whoever
-/// else took part and was not recorded. Only where there may be such others each is looked for over
-/// the whole log.
+/// The parties of an order, by rising address: the recorded stations that it is for, and the
+/// unrecorded ones that took part. Searches the whole log for each party only if there may be
+/// unrecorded ones.
 pub fn parties_of<L: ExerciseLog>(
     alloc: Global,
     findings: &Register<'_, L>,

@@ -1,4 +1,4 @@
-//! The parties of an order: whom it is for, and who answered it from outside.
+//! The parties of an order: the stations that it is for, and the unrecorded ones that answered it.
 
 ghost use Rattle.std.specs.Prelude.{◌≡◌, Some, is_some};
 ghost use Rattle.siman_pdus.specs.Answers.{same_id};
@@ -19,23 +19,23 @@ use dis_records::{EntityId, is_address_part};
 use exercise_model::{ExerciseLog, Form};
 use siman_pdus::{PduView, answers};
 
-/// A site and an application, each 0..=0xFFFF: those of an address that nobody recorded.
+/// A site and an application, each 0..=0xFFFF.
 #[derive(Clone, Copy, PartialEq, Eq)]
 pub struct Outsider {
     pub site: u16,
     pub application: u16,
 }
 
-/// Whom an order is for, or who answered it.
+/// A station that an order is for, or one that answered it.
 #[derive(Clone, Copy, PartialEq, Eq)]
 pub enum Party {
     /// A recorded station, by its index.
     Station(u16),
-    /// An address that nobody recorded.
+    /// An address of no recorded station.
     Outside(Outsider),
 }
 
-/// The first entry at which a station received an order.
+/// First entry at which a station received an order.
 #[tactic(auto, unfolding(crate::specs::Party::first_copy), using(crate::proofs::Under::under_steps))]
 pub(crate) fn first_copy<L: ExerciseLog>(
     findings: &Register<'_, L>,
@@ -52,7 +52,7 @@ pub(crate) fn first_copy<L: ExerciseLog>(
     first_entry(findings, order_key(station, &order.request), &gets)
 }
 
-/// Whether a recorded station received an order, where this was gathered at its maker, if it was.
+/// Whether a recorded station received an order. `own` may give the data collected at the maker.
 #[tactic(auto, unfolding(crate::specs::Party::first_copy))]
 fn has_copy<L: ExerciseLog>(
     findings: &Register<'_, L>,
@@ -69,7 +69,8 @@ fn has_copy<L: ExerciseLog>(
     }
 }
 
-/// Whether a recorded station is a party of an order, where this was gathered at its maker, if it was.
+/// Whether a recorded station is a party of an order. `own` may give the data collected at the
+/// maker.
 #[tactic(auto, unfolding(crate::specs::Party::is_party))]
 pub(crate) fn is_party_by<L: ExerciseLog>(
     findings: &Register<'_, L>,
@@ -88,8 +89,8 @@ pub(crate) fn is_party_by<L: ExerciseLog>(
         && (!is_maker(order, station) || has_copy(findings, order, own, station))
 }
 
-/// Whether a recorded station is a party of an order: the order addresses it; its own maker is one
-/// only where it received the order. It takes no memory.
+/// Whether a recorded station is a party of an order: the order addresses it; the maker itself only
+/// if it received the order. Allocates no memory.
 pub fn is_party<L: ExerciseLog>(findings: &Register<'_, L>, order: &Order<'_>, station: u16) -> bool
     ensures { result ≡ is_party findings.now (order_of order.now) station }
 {
@@ -106,7 +107,7 @@ pub(crate) fn is_maker(order: &Order<'_>, station: u16) -> bool
     }
 }
 
-/// Whether a PDU answers an order, from an address outside.
+/// Whether a PDU answers an order and has this address outside as its origin.
 fn tells_from<L: ExerciseLog>(
     findings: &Register<'_, L>,
     order: &Order<'_>,
@@ -121,7 +122,8 @@ fn tells_from<L: ExerciseLog>(
         && pdu.origin.application == from.application
 }
 
-/// Where the maker of an order was told of it from an address outside.
+/// The test whether the maker of an order receives, at an entry after its head, an answer to it
+/// from an address outside. Only the maker's first order under an identifier passes.
 #[derive(Drop)]
 pub(crate) struct ToldFrom<'a, L: ExerciseLog> {
     pub findings: &'a Register<'a, L>,
@@ -147,7 +149,7 @@ impl<L: ExerciseLog> Question for ToldFrom<'_, L> {
     }
 }
 
-/// Whether an identifier names this site and this application alone.
+/// Whether an identifier names exactly this site and this application.
 fn names(id: EntityId, address: Outsider) -> bool
     ensures { result ≡ names id (pair_at address) }
 {
@@ -157,7 +159,7 @@ fn names(id: EntityId, address: Outsider) -> bool
         && id.application == address.application
 }
 
-/// Which recorded stations have an address.
+/// The test whether a recorded station has an address.
 #[derive(Drop)]
 pub(crate) struct At<'a, L: ExerciseLog> {
     pub findings: &'a Register<'a, L>,
@@ -187,9 +189,9 @@ fn is_recorded_at<L: ExerciseLog>(findings: &Register<'_, L>, address: Outsider)
     first_below(&At { findings, address }, stations).is_some()
 }
 
-/// Whether an address is a party of an order that a recorded station made, though nobody recorded
-/// it: the recording is open, and the order names the address, or was told from there. It takes no
-/// memory.
+/// Whether an address of no recorded station is a party of an order that a recorded station made:
+/// the recording is open, and the order names the address, or the maker received an answer from it.
+/// Allocates no memory.
 #[tactic(auto, unfolding(crate::specs::Party::is_party_outside), using(crate::proofs::Under::under_steps))]
 pub fn is_party_outside<L: ExerciseLog>(
     findings: &Register<'_, L>,

@@ -1,10 +1,10 @@
-//! Questions about numbers, of entries or of stations, that are answered with yes or no.
+//! Tests on numbers of entries or of stations.
 
 ghost use Rattle.std.specs.Prelude.{◌≡◌, ◌<◌, ◌≤◌, IfSome};
 ghost use Rattle.exercise_model.specs.Place.{first_below};
 ghost use Rattle.exercise_review.specs.Counted.{last_below, count_below};
 
-/// A question about a number. What it means is one test; no call takes memory.
+/// A test on a number. Its meaning is `test`; no call allocates memory.
 pub(crate) trait Question {
     ghost use Rattle.std.specs.Prelude.{◌≡◌, ℕ, Bool};
 
@@ -16,7 +16,7 @@ pub(crate) trait Question {
         ensures { result ≡ test self.now number };
 }
 
-/// The first number below a bound that passes.
+/// First number below a bound that passes.
 #[tactic(auto, using(crate::proofs::Numbers::number_steps))]
 pub(crate) fn first_below<Q: Question>(question: &Q, end: usize) -> Option<usize>
     ensures first { result ≡ first_below (Q.test question.now) end }
@@ -30,7 +30,7 @@ pub(crate) fn first_below<Q: Question>(question: &Q, end: usize) -> Option<usize
     None
 }
 
-/// The last number below a bound that passes.
+/// Last number below a bound that passes.
 #[tactic(auto, using(crate::proofs::Numbers::number_steps))]
 pub(crate) fn last_below<Q: Question>(question: &Q, end: usize) -> Option<usize>
     ensures last { result ≡ last_below (Q.test question.now) end }
@@ -45,7 +45,7 @@ pub(crate) fn last_below<Q: Question>(question: &Q, end: usize) -> Option<usize>
     last
 }
 
-/// How many numbers below a bound pass.
+/// Number of numbers below a bound that pass.
 #[tactic(auto, using(crate::proofs::Numbers::number_steps))]
 pub(crate) fn count_below<Q: Question>(question: &Q, end: usize) -> usize
     ensures count { result ≡ count_below (Q.test question.now) end }

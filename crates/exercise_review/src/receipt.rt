@@ -1,4 +1,5 @@
-//! Where each station received each datagram first and last, kept in a table under its bytes.
+//! Index of receipts by station and bytes: the first and the last receipt of each datagram at each
+//! station.
 
 ghost use Rattle.std.specs.Prelude.{◌≡◌, ◌<◌, ◌+◌, ◌==◌, ◌&&◌, length, None, OnOk, IfSome, is_some, slice_get, bytes_eq, Some, if◌then◌else◌};
 ghost use Rattle.std.specs.Cmp.Rules.{comparing, hashing};
@@ -15,7 +16,7 @@ use indexmap::IndexMap;
 use std::alloc::{AllocError, Global};
 use std::hash::{BuildHasherDefault, DefaultHasher, Hash, Hasher};
 
-/// A station and the bytes of a datagram where they lie, as a key.
+/// A station and the bytes of a datagram, borrowed, as a key.
 #[derive(Clone, Copy)]
 pub(crate) struct Receipt<'a> {
     pub station: u16,
@@ -47,25 +48,25 @@ impl<'a> Hash for Receipt<'a> {
     }
 }
 
-/// The first and the last entry at which a station received a datagram, as numbers of 32 bits.
+/// First and last entry at which a station received a datagram, as numbers of 32 bits.
 #[derive(Clone, Copy)]
 pub(crate) struct Receipts {
     pub first: u32,
     pub last: u32,
 }
 
-/// The receipts of each datagram at each station. Strangers choose the bytes, so the hasher is one for
-/// which nobody writes down keys that fall together.
+/// Index of the receipts of each datagram at each station. Strangers choose the bytes, so the
+/// hasher is one for which nobody can construct many collisions.
 pub(crate) type Heard<'a> = IndexMap<Receipt<'a>, Receipts, BuildHasherDefault<DefaultHasher>>;
 
-/// No receipts. It takes no memory.
+/// Empty index. Allocates no memory.
 pub(crate) fn no_receipts<'a>(alloc: Global) -> Heard<'a>
     ensures { (k : Receipt) → get same_receipt result k ≡ None }
 {
     Heard::with_hasher(alloc, BuildHasherDefault::default())
 }
 
-/// Keeps one more receipt.
+/// Adds one receipt.
 fn keep_receipt<'a>(
     heard: &mut Heard<'a>,
     receipt: Receipt<'a>,
@@ -82,8 +83,9 @@ fn keep_receipt<'a>(
     Ok(())
 }
 
-/// Keeps the next entry, at which this stands, where it receives something. In a recording that is not
-/// open what is received and has a key is a request, for which nobody looks.
+/// Adds the next entry, whose contents are `view`, if it receives a datagram. In a recording that
+/// is not open, a received datagram with a key is a request; it is left out, since nothing looks it
+/// up.
 pub(crate) fn note_receipt<'a, L: ExerciseLog>(
     heard: &mut Heard<'a>,
     log: &'a L,
@@ -111,7 +113,7 @@ pub(crate) fn note_receipt<'a, L: ExerciseLog>(
     }
 }
 
-/// The receipts of a datagram, if these stand at a place of the table.
+/// The receipts of a datagram, if they are at this place of the table.
 fn receipts_at(heard: &Heard<'_>, place: usize, receipt: Receipt<'_>) -> Option<Receipts>
     ensures { IfSome result (λ x. get same_receipt heard.now receipt.entry ≡ Some x) }
 {
@@ -121,8 +123,8 @@ fn receipts_at(heard: &Heard<'_>, place: usize, receipt: Receipt<'_>) -> Option<
     }
 }
 
-/// The receipts of a datagram at a station, if it was received there, looked for where a hint leads
-/// first: mostly one looks for what was heard in the order in which it was.
+/// The receipts of a datagram at a station, if it was received there. Tries the place of a hint
+/// first, since most look-ups follow the order of the receipts.
 pub(crate) fn receipts_near(
     heard: &Heard<'_>,
     receipt: Receipt<'_>,

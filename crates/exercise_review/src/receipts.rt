@@ -1,4 +1,4 @@
-//! How often what a station sent was received.
+//! Counts of receipts of each sent datagram.
 
 ghost use Rattle.std.specs.Prelude.{◌≡◌, ◌<◌, ℕ, length, slice_index_or, IfOk};
 ghost use Rattle.exercise_findings.specs.Source.{source_of};
@@ -9,7 +9,7 @@ use crate::register::Register;
 use exercise_model::ExerciseLog;
 use std::alloc::{AllocError, Global};
 
-/// Which entry is the source of each.
+/// The source of each receipt.
 #[derive(Drop)]
 struct Sources<'a, L: ExerciseLog> {
     findings: &'a Register<'a, L>,
@@ -26,8 +26,8 @@ impl<L: ExerciseLog> Placing for Sources<'_, L> {
     }
 }
 
-/// How many entries have each entry as their source: how often what it sent was received. The counts
-/// take memory.
+/// For each entry, the number of entries that have it as their source: how often its datagram was
+/// received. Allocates memory for the counts.
 #[tactic(auto, unfolding(crate::specs::Receipts::receipts_of))]
 pub fn receipts_counted<L: ExerciseLog>(
     alloc: Global,

@@ -1,4 +1,4 @@
-//! Where a request is looked for first that may have been sent or received right before.
+//! The most recent requests, against which a new one is compared first.
 
 ghost use Rattle.std.specs.Prelude.{◌≡◌, None};
 ghost use Rattle.exercise_model.specs.Held.{shown};
@@ -6,8 +6,8 @@ ghost use Rattle.exercise_review.specs.Recent.{after};
 
 use exercise_model::EntryView;
 
-/// The last entries that sent a request, and that received one. Nothing rests on them: who looks there
-/// compares what is there.
+/// The last entries that sent and received a request. A hint only: whoever uses it compares the
+/// bytes.
 #[derive(Clone, Copy)]
 pub(crate) struct Recent {
     pub sent: Option<usize>,
@@ -25,7 +25,7 @@ impl Recent {
         }
     }
 
-    /// The same after an entry at which this stands.
+    /// These entries, updated by an entry with these contents.
     pub(crate) fn after(self, view: &EntryView<'_>, entry: usize) -> Recent
         ensures { result ≡ after self (shown view.now) entry }
     {

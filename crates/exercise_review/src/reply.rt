@@ -1,4 +1,4 @@
-//! What a party replied to an order, and what its maker heard of that.
+//! The replies of a party to an order, and their receipts by its maker.
 
 ghost use Rattle.std.specs.Prelude.{◌≡◌, true, is_some, IfSome};
 ghost use Rattle.exercise_review.specs.Order.{order_of};
@@ -31,7 +31,8 @@ pub(crate) struct Reply<'a> {
     pub copy: usize,
 }
 
-/// Where a station replies to an order.
+/// The test whether a station replies to an order at an entry: it sends an answer to the order that
+/// takes up a copy of it.
 #[derive(Drop)]
 pub(crate) struct Replies<'a, L: ExerciseLog> {
     pub findings: &'a Register<'a, L>,
@@ -40,7 +41,7 @@ pub(crate) struct Replies<'a, L: ExerciseLog> {
 }
 
 impl<L: ExerciseLog> Replies<'_, L> {
-    /// What they are looked up by.
+    /// Key under which the replies are indexed.
     pub(crate) fn key(&self) -> Option<u64>
         ensures { result ≡ order_key self.now.station (order_of self.now.order.now).request }
     {
@@ -57,8 +58,8 @@ impl<L: ExerciseLog> Replies<'_, L> {
         }
     }
 
-    /// Whether bytes say the order. They are not read where those at hand say it, and they are these but
-    /// for the timestamp.
+    /// Whether bytes mean the order. Bytes equal to `said` except for the timestamp are not
+    /// decoded.
     pub(crate) fn says(&self, bytes: &[u8], said: Option<&[u8]>) -> bool
         requires { IsSaid self.now.findings.now (order_of self.now.order.now).request said }
         ensures { result ≡ says self.now.findings.now (order_of self.now.order.now).request bytes.now }
@@ -84,8 +85,8 @@ impl<L: ExerciseLog> Replies<'_, L> {
         }
     }
 
-    /// The request that an entry takes up, if that is a copy of the order. One that is known to be a
-    /// copy is not read again.
+    /// Entry of the request that an entry takes up, if that is a copy of the order. The copy
+    /// `known` is not read again.
     pub(crate) fn copy_taken(
         &self,
         entry: usize,
@@ -122,7 +123,7 @@ impl<L: ExerciseLog> Question for Replies<'_, L> {
     }
 }
 
-/// Where a reply of a station to an order changes something there.
+/// The test whether a station replies to an order at an entry and makes a change there.
 #[derive(Drop)]
 struct ChangingReplies<'a, L: ExerciseLog> {
     replies: &'a Replies<'a, L>,
@@ -137,8 +138,8 @@ impl<L: ExerciseLog> Question for ChangingReplies<'_, L> {
     }
 }
 
-/// The change that an order made at a station: the first of its replies that changes something
-/// there. It takes no memory.
+/// Entry of the change that an order made at a station: the first reply that makes a change there.
+/// Allocates no memory.
 #[tactic(auto, unfolding(crate::specs::Reply::change_of_order), using(crate::proofs::Under::under_steps))]
 pub fn change_of_order<L: ExerciseLog>(
     findings: &Register<'_, L>,
@@ -156,7 +157,7 @@ pub fn change_of_order<L: ExerciseLog>(
     first_entry(findings, key, &ChangingReplies { replies: &replies })
 }
 
-/// Where a station replies to an order in these bytes.
+/// The test whether a station replies to an order at an entry with these bytes.
 #[derive(Drop)]
 struct RepliesIn<'a, L: ExerciseLog> {
     replies: &'a Replies<'a, L>,
@@ -178,7 +179,7 @@ impl<L: ExerciseLog> Question for RepliesIn<'_, L> {
     }
 }
 
-/// Where the maker of an order receives the bytes of a reply of a station.
+/// The test whether the maker of an order receives, at an entry, the bytes of a reply of a station.
 #[derive(Drop)]
 pub(crate) struct News<'a, L: ExerciseLog> {
     pub replies: &'a Replies<'a, L>,

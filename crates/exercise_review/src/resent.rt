@@ -1,14 +1,14 @@
-//! Datagrams that are sent again, with another timestamp.
+//! Datagrams that are sent again with another timestamp.
 
 ghost use Rattle.std.specs.Prelude.{◌≡◌, true};
 ghost use Rattle.siman_pdus.specs.declared.pdu.Pdu.{Pdu};
 ghost use Rattle.exercise_model.specs.Recording.{PlainRecording};
 ghost use Rattle.exercise_review.specs.Stamped.{IsResent, IsSaid, says};
 
-/// The bytes of a header to the end of its timestamp. The first four stand before it.
+/// Length in bytes of a header up to and including its timestamp, which is the last four of them.
 const STAMPED: usize = 8;
 
-/// Whether bytes are known to be others, but for the timestamp of a header.
+/// Whether two datagrams are known to be equal except for the timestamp in the header.
 #[tactic(auto, using(crate::proofs::Stamped::resent))]
 pub(crate) fn is_resent(bytes: &[u8], other: &[u8]) -> bool
     ensures { result ≡ true → IsResent other.now bytes.now }
@@ -25,7 +25,8 @@ pub(crate) fn is_resent(bytes: &[u8], other: &[u8]) -> bool
     bytes[STAMPED..] == other[STAMPED..]
 }
 
-/// Whether bytes are known to say an order: they are those at hand that say it, but for the timestamp.
+/// Whether bytes are known to mean an order, since they equal bytes that mean it except for the
+/// timestamp.
 #[tactic(auto, using(crate::proofs::Stamped::asks_again))]
 pub(crate) fn says_again(said: Option<&[u8]>, bytes: &[u8]) -> bool
     ensures { result ≡ true → (r : PlainRecording) (p : Pdu) → IsSaid r p said.entry → says r p bytes.now ≡ true }

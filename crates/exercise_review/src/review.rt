@@ -1,4 +1,4 @@
-//! What is told of a whole recording.
+//! The review of a whole recording.
 
 ghost use Rattle.std.specs.Prelude.{◌≡◌, length, IfOk};
 ghost use Rattle.exercise_model.specs.Account.{values_below};
@@ -16,29 +16,29 @@ use exercise_findings::Findings;
 use exercise_model::ExerciseLog;
 use std::alloc::{AllocError, Global};
 
-/// How many lines a review has at most.
+/// Most rows that a review can have.
 pub const MOST_LINES: usize = 4_194_304;
 
-/// What is told of a recording: who was told what, what became of each order, and how each entity
-/// lived.
+/// The review of a recording: its orders at their parties with their fates, and the lives of its
+/// entities.
 #[derive(Drop)]
 pub struct Review {
-    /// How many orders there are.
+    /// Number of orders.
     pub orders: usize,
-    /// How many datagrams are "other".
+    /// Number of datagrams that are "other".
     pub others: u32,
-    /// How many orders at their parties have each fate.
+    /// Number of orders at their parties with each fate.
     pub fates: FateCounts,
-    /// What is counted of each station, by rising addresses.
+    /// The counts of each station, by rising address.
     pub stations: Vec<StationCounts>,
-    /// Each order at each of its parties, by its head and then by the address of the party; once
-    /// where it has none.
+    /// Each order at each of its parties, by head and then by address of the party; once if it has
+    /// none.
     pub told: Vec<OrderAt>,
-    /// The stretches of the lives of all entities, by station, entity and time.
+    /// The spans of the lives of all entities, by station, entity and time.
     pub spans: Vec<Span>,
 }
 
-/// What is counted of each station, by rising addresses.
+/// The counts of each station, by rising address.
 fn stations_in<L: ExerciseLog>(
     alloc: Global,
     reviewed: &Reviewed<'_, L>,
@@ -50,7 +50,7 @@ fn stations_in<L: ExerciseLog>(
     Ok(stations)
 }
 
-/// Each order at each of its parties, one after the other.
+/// All orders at all their parties, in order.
 fn told_in<L: ExerciseLog>(
     alloc: Global,
     reviewed: &Reviewed<'_, L>,
@@ -64,7 +64,7 @@ fn told_in<L: ExerciseLog>(
     Ok(told)
 }
 
-/// The stretches of all lives, one after the other.
+/// The spans of all lives, in order.
 fn spans_in<L: ExerciseLog>(
     alloc: Global,
     reviewed: &Reviewed<'_, L>,
@@ -78,8 +78,7 @@ fn spans_in<L: ExerciseLog>(
     Ok(spans)
 }
 
-/// What is told of a recording of which this was found. `OverLimit` says that it would take more
-/// than 4,194,304 lines.
+/// The review of a recording, given its findings. `OverLimit` if it has more than 4,194,304 rows.
 pub fn review_of<L: ExerciseLog>(
     alloc: Global,
     findings: Findings<'_, L>,

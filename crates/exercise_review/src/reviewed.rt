@@ -1,4 +1,4 @@
-//! A recording with its review, of which one line after the other is told without memory.
+//! A recording with its review, whose rows are computed one by one without memory.
 
 ghost use Rattle.std.specs.Prelude.{◌≡◌, ◌<◌, ◌≤◌, Some, Ok, Err, length, map, slice_get, IfOk, IfErr};
 ghost use Rattle.exercise_model.specs.Account.{others_of, values_below};
@@ -25,24 +25,23 @@ use exercise_model::ExerciseLog;
 use std::alloc::{AllocError, Global};
 use std::marker::Model;
 
-/// What is kept of a recording for its review.
+/// The tables of a reviewed recording.
 #[derive(Drop)]
 struct KeptReview {
-    /// How many orders there are.
+    /// Number of orders.
     orders: usize,
-    /// How many orders at their parties have each fate.
+    /// Number of orders at their parties with each fate.
     fates: FateCounts,
-    /// What is counted of each station, by rising addresses.
+    /// The counts of each station, by rising address.
     stations: Vec<StationCounts>,
-    /// The orders at their parties.
+    /// The compact rows of the orders at their parties.
     rows: Vec<Row>,
-    /// The stretches of the lives of all entities.
+    /// The compact spans of the lives of all entities.
     stays: Vec<Stay>,
 }
 
-/// A recording with its review: who was told what, what became of each order, and how each entity
-/// lived. Contracts see the recording; what is kept of it is nobody else's business. No call but the
-/// one that makes it takes memory.
+/// A recording with its review: its orders at their parties with their fates, and the lives of its
+/// entities. Contracts see only the recording; the tables are private. Only `of` allocates memory.
 #[derive(Drop)]
 pub struct Reviewed<'a, L: ExerciseLog> {
     findings: Findings<'a, L>,
@@ -57,8 +56,8 @@ impl<'a, L: ExerciseLog> Model for Reviewed<'a, L> {
     ghost invariant = { λ x. KeepsReview x.findings x.kept };
 }
 
-/// What is told of the orders of a recording of which this was found, which is given back: what a
-/// register keeps besides is needed no longer.
+/// The rows of the orders of a recording, and its findings. The other tables of the register are
+/// dropped.
 fn told_in<'a, L: ExerciseLog>(
     alloc: Global,
     findings: Findings<'a, L>,
@@ -73,8 +72,9 @@ fn told_in<'a, L: ExerciseLog>(
     Ok((told, register.into_findings()))
 }
 
-/// What is told of the orders and the stretches of all lives, where they do not take too many lines. Where
-/// the lives alone do, that is seen before orders are looked up, and before any stretch is kept.
+/// The rows of the orders, the spans of all lives, and the findings; a fault if they exceed the
+/// limit of rows. If the lives alone exceed it, that is found before any order is looked up or any
+/// span stored.
 fn listed<'a, L: ExerciseLog>(
     alloc: Global,
     findings: Findings<'a, L>,
@@ -93,7 +93,7 @@ fn listed<'a, L: ExerciseLog>(
     Ok((told, stays, findings))
 }
 
-/// What is counted of each station, and how many orders at their parties have each fate.
+/// The counts of each station, and the number of orders at their parties with each fate.
 fn counted<L: ExerciseLog>(
     alloc: Global,
     findings: &Findings<'_, L>,
@@ -110,8 +110,8 @@ fn counted<L: ExerciseLog>(
 }
 
 impl<'a, L: ExerciseLog> Reviewed<'a, L> {
-    /// The review of a recording of which this was found. What is kept takes memory. `OverLimit` says
-    /// that it would take more than 4,194,304 lines.
+    /// The review of a recording, given its findings. Allocates memory for the tables. `OverLimit`
+    /// if it has more than 4,194,304 rows.
     pub fn of(alloc: Global, findings: Findings<'a, L>) -> Result<Reviewed<'a, L>, ReviewFault>
         ensures reviewed { IfOk result (λ reviewed. reviewed ≡ findings.entry) }
         ensures within { IfOk result (λ _. line_count findings.entry ≤ MOST_LINES) }
@@ -137,43 +137,43 @@ impl<'a, L: ExerciseLog> Reviewed<'a, L> {
         self.findings.log()
     }
 
-    /// How many orders there are.
+    /// Number of orders.
     pub fn order_count(&self) -> usize
         ensures { result ≡ length (orders_of self.now) }
     {
         self.kept.orders
     }
 
-    /// How many datagrams are "other".
+    /// Number of datagrams that are "other".
     pub fn others(&self) -> u32
         ensures { result ≡ others_of self.now }
     {
         self.findings.others()
     }
 
-    /// How many orders at their parties have each fate.
+    /// Number of orders at their parties with each fate.
     pub fn fates(&self) -> FateCounts
         ensures { result ≡ fates_of (orders_told self.now) }
     {
         self.kept.fates
     }
 
-    /// What is counted of each station, by rising addresses.
+    /// The counts of each station, by rising address.
     pub fn stations(&self) -> &[StationCounts]
         ensures { result.now ≡ values_below (station_counts self.now) (length self.now.setting.stations) }
     {
         self.kept.stations.as_slice()
     }
 
-    /// How many orders at their parties there are.
+    /// Number of orders at their parties.
     pub fn told_count(&self) -> usize
         ensures { result ≡ length (orders_told self.now) }
     {
         self.kept.rows.len()
     }
 
-    /// An order at one of its parties: they stand by its head and then by the address of the party;
-    /// once where it has none.
+    /// An order at one of its parties. They are sorted by head and then by address of the party; an
+    /// order without parties occurs once.
     pub fn told(&self, place: usize) -> OrderAt
         requires { place < length (orders_told self.now) }
         ensures { slice_get (orders_told self.now) place ≡ Some result }
@@ -181,14 +181,14 @@ impl<'a, L: ExerciseLog> Reviewed<'a, L> {
         told_by(&self.findings, self.kept.rows[place])
     }
 
-    /// How many stretches of lives there are.
+    /// Number of spans of lives.
     pub fn span_count(&self) -> usize
         ensures { result ≡ length (all_spans self.now) }
     {
         self.kept.stays.len()
     }
 
-    /// A stretch of the life of an entity: they stand by station, entity and time.
+    /// A span of the life of an entity. They are sorted by station, entity and time.
     pub fn span(&self, place: usize) -> Span
         requires { place < length (all_spans self.now) }
         ensures { slice_get (all_spans self.now) place ≡ Some result }

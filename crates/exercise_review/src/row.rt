@@ -1,4 +1,4 @@
-//! The orders of a recording at their parties, as they are kept.
+//! Compact rows of the orders of a recording at their parties.
 
 ghost use Rattle.std.specs.Prelude.{◌≡◌, ◌<◌, true, is_some, Some, length, option_map, option_and_then, unwrap_or, IfSome};
 ghost use Rattle.std.specs.Option.{option_or};
@@ -23,35 +23,36 @@ use exercise_findings::Findings;
 use exercise_model::{EntryView, ExerciseLog, meaning_again};
 use siman_pdus::{Message, request_id};
 
-/// An order at one of its parties, in as little room as it takes: what can be read from the log again
-/// is not kept. Its entries are numbers from 0, of which 0xFFFFFFFF stands for none.
+/// An order at one of its parties, in little memory: fields that can be read from the log again are
+/// left out. Entries are numbers from 0; 0xFFFFFFFF means none.
 #[derive(Clone, Copy)]
 pub(crate) struct Row {
-    /// The entry at which the order first stands.
+    /// The head of the order.
     pub head: u32,
-    /// The party; `None` where the order has none.
+    /// The party; `None` if the order has none.
     pub party: Option<Party>,
-    /// How often the maker sent the order; any number where it came from outside.
+    /// How often the maker sent the order; any number if the maker is not recorded.
     pub sends: u32,
-    /// How often the party received it; any number where that stands in no log.
+    /// How often the party received it; any number if the party is not recorded.
     pub receipts: u32,
     /// The entry at which the party first received it.
     pub got: u32,
     /// The entry of the party's reply.
     pub answer: u32,
-    /// The entry at which the maker heard from the party.
+    /// The entry at which the maker heard the party's reply.
     pub news: u32,
-    /// The entry of the first reply that changed something at the party.
+    /// The entry of the first reply that made a change at the party.
     pub change: u32,
-    /// The number of the word of the party's reply, if it has a name; else 0, and the word is read again.
+    /// Number of the word of the party's reply; 0 if it has no name, and then it is read from the
+    /// log again.
     pub said: u8,
-    /// The same of the word that the maker heard.
+    /// Number of the word that the maker heard, as `said`.
     pub heard: u8,
-    /// What became of the order there.
+    /// The fate of the order there.
     pub fate: Fate,
 }
 
-/// The number by which an entry is kept, if there is one.
+/// An optional entry as a number of 32 bits.
 fn entry_kept(entry: Option<usize>) -> u32
     requires { IfSome entry (λ i. i < 0xFFFFFFFF) }
     ensures { entry_of result ≡ entry }
@@ -62,7 +63,7 @@ fn entry_kept(entry: Option<usize>) -> u32
     }
 }
 
-/// The number by which it is kept how often something was done, if that is known.
+/// An optional count as a number of 32 bits; 0 if it is unknown.
 fn count_kept(count: Option<usize>) -> u32
     requires { IfSome count (λ n. n < 0x100000000) }
     ensures { result ≡ unwrap_or count 0 }
@@ -73,7 +74,7 @@ fn count_kept(count: Option<usize>) -> u32
     }
 }
 
-/// The number by which a word that has a name is kept; 0 of others, and of none.
+/// Number of a word that has a name; 0 for others, and for none.
 fn word_number(word: Option<Word>) -> u8
     ensures { option_or (word_numbered result) word ≡ word }
 {
@@ -91,7 +92,7 @@ fn word_number(word: Option<Word>) -> u8
     }
 }
 
-/// The word that is kept by a number, if that stands for one.
+/// The word with this number, if any.
 fn word_numbered(number: u8) -> Option<Word>
     ensures { result ≡ word_numbered number }
 {
@@ -109,7 +110,7 @@ fn word_numbered(number: u8) -> Option<Word>
     }
 }
 
-/// What is kept of an order at one of its parties.
+/// Compact row of an order at one of its parties.
 #[tactic(auto, unfolding(crate::specs::Row::row_told))]
 pub(crate) fn row_of<L: ExerciseLog>(
     findings: &Register<'_, L>,
@@ -156,7 +157,7 @@ fn order_again<L: ExerciseLog>(log: &L, head: usize) -> Order<'_>
     }
 }
 
-/// How often an order was sent, by the number that is kept, where its maker is recorded.
+/// How often an order was sent, from the number in its row; `None` if its maker is not recorded.
 fn sends_kept(maker: Option<u16>, sends: u32) -> Option<usize>
     ensures { result ≡ sends_kept maker sends }
 {
@@ -166,7 +167,8 @@ fn sends_kept(maker: Option<u16>, sends: u32) -> Option<usize>
     }
 }
 
-/// How often a party received an order, by the number that is kept, where the party is recorded.
+/// How often a party received an order, from the number in its row; `None` if the party is not
+/// recorded.
 fn receipts_kept(party: Option<Party>, receipts: u32) -> Option<usize>
     ensures { result ≡ receipts_kept party receipts }
 {
@@ -176,7 +178,7 @@ fn receipts_kept(party: Option<Party>, receipts: u32) -> Option<usize>
     }
 }
 
-/// The word of this number, or that of an entry, if there is one, where the number stands for none.
+/// The word with this number, or else the word of an optional entry.
 fn word_kept<L: ExerciseLog>(log: &L, number: u8, entry: Option<usize>) -> Option<Word>
     ensures { result ≡ word_kept (L.recording log.now) number entry }
 {
@@ -187,7 +189,8 @@ fn word_kept<L: ExerciseLog>(log: &L, number: u8, entry: Option<usize>) -> Optio
     }
 }
 
-/// How long an order took, from its head to the entry of its news.
+/// Time from the head of an order to the entry `news`, by the maker's clock; `None` if that was set
+/// back.
 fn took_again<L: ExerciseLog>(log: &L, order: &Order<'_>, news: Option<usize>) -> Option<u64>
     ensures { result ≡ took (L.recording log.now) (order_of order.now) news }
 {
@@ -197,7 +200,7 @@ fn took_again<L: ExerciseLog>(log: &L, order: &Order<'_>, news: Option<usize>) -
     }
 }
 
-/// What is told of an order at one of its parties, by what is kept of it.
+/// Outcome of an order at one of its parties, read from its row.
 fn outcome_kept<L: ExerciseLog>(log: &L, order: &Order<'_>, row: Row) -> Outcome
     ensures { result ≡ outcome_kept (L.recording log.now) (order_of order.now) row }
 {
@@ -217,7 +220,7 @@ fn outcome_kept<L: ExerciseLog>(log: &L, order: &Order<'_>, row: Row) -> Outcome
     }
 }
 
-/// The address of a party, if there is one.
+/// Address of an optional party.
 fn party_address<L: ExerciseLog>(log: &L, party: Option<Party>) -> Option<Outsider>
     ensures { result ≡ option_map (λ p. outsider_at (party_address (L.recording log.now) p)) party }
 {
@@ -227,7 +230,7 @@ fn party_address<L: ExerciseLog>(log: &L, party: Option<Party>) -> Option<Outsid
     }
 }
 
-/// An order at a party, as it is told.
+/// An order at a party, with its outcome.
 fn order_told<L: ExerciseLog>(log: &L, order: &Order<'_>, outcome: Outcome) -> OrderAt
     ensures { result ≡ order_told (L.recording log.now) (order_of order.now) outcome }
 {
@@ -242,7 +245,7 @@ fn order_told<L: ExerciseLog>(log: &L, order: &Order<'_>, outcome: Outcome) -> O
     }
 }
 
-/// An order at one of its parties, as it is told, by what is kept of it. It takes no memory.
+/// An order at one of its parties, read from its row. Allocates no memory.
 #[tactic(auto, unfolding(crate::specs::Row::row_told))]
 pub(crate) fn told_by<L: ExerciseLog>(findings: &Findings<'_, L>, row: Row) -> OrderAt
     requires { is_some (row_told findings.now row) ≡ true }

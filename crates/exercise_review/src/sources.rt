@@ -1,5 +1,6 @@
-//! Where what an entry sends was received first and last, where that is no request: columns by the
-//! number of that entry, which mostly is at hand for what was received.
+//! Index of receipts by source: for each entry that sends no request, the first and the last
+//! receipt, in columns by the number of the sending entry, which findings usually have at hand for
+//! a receipt.
 
 ghost use Rattle.std.specs.Prelude.{◌≡◌, ◌<◌, ◌+◌, ℕ, List, None, Some, true, length, slice_get, is_some, is_none, option_map, OnOk};
 ghost use Rattle.exercise_model.specs.Account.{pair_of};
@@ -21,15 +22,16 @@ use exercise_findings::{Findings, number_at, put_number};
 use exercise_model::{EntryView, ExerciseLog, Form, meaning_view};
 use std::alloc::{AllocError, Global};
 
-/// For each entry the first and the last at which what it sends was received, where that brings no
-/// request. A column takes no room before something is kept in it.
+/// For each sending entry, the first and the last receipt of its datagram, unless that is a
+/// request. A column takes no memory before its first value. `whole` is false if receipts may be
+/// missing.
 pub(crate) struct SourceColumns {
     first: Vec<u32>,
     last: Vec<u32>,
     whole: bool,
 }
 
-// Not derived: who drops it makes one call, and does not take its columns apart by himself.
+// Written by hand, so that a drop is one call and the caller does not drop each column by itself.
 impl Drop for SourceColumns {
     fn drop(self) {
         let SourceColumns {
@@ -40,7 +42,7 @@ impl Drop for SourceColumns {
     }
 }
 
-/// Nothing is kept so far. In an open recording the columns never tell all. It takes no memory.
+/// Empty columns; never complete in an open recording. Allocates no memory.
 pub(crate) fn no_sources<L: ExerciseLog>(alloc: Global, log: &L) -> SourceColumns
     ensures { AreSources (L.recording log.now) 0 result }
 {
@@ -51,8 +53,8 @@ pub(crate) fn no_sources<L: ExerciseLog>(alloc: Global, log: &L) -> SourceColumn
     }
 }
 
-/// Keeps that what a station receives at the next entry comes from another. The columns do not tell
-/// all where what one entry sends comes to two stations.
+/// Stores that a station received, at the next entry, the datagram of the entry `source`. The
+/// columns become incomplete if two stations received it.
 fn note_from<L: ExerciseLog>(
     sources: &mut SourceColumns,
     log: &L,
@@ -84,8 +86,8 @@ fn note_from<L: ExerciseLog>(
     }
 }
 
-/// Keeps what a station receives at the next entry, where that brings no request. The columns do not
-/// tell all where its source is not at hand, if it means something.
+/// Stores the receipt of a datagram, which is no request, at the next entry. The columns become
+/// incomplete if its source is not at hand and it has a meaning.
 fn note_received<L: ExerciseLog>(
     sources: &mut SourceColumns,
     findings: &Findings<'_, L>,
@@ -109,7 +111,7 @@ fn note_received<L: ExerciseLog>(
     Ok(())
 }
 
-/// Keeps the next entry, at which this stands, where it receives something that brings no request.
+/// Stores the next entry, whose contents are `view`, if it receives a datagram that is no request.
 pub(crate) fn note_source<L: ExerciseLog>(
     sources: &mut SourceColumns,
     findings: &Findings<'_, L>,
@@ -138,8 +140,8 @@ pub(crate) fn note_source<L: ExerciseLog>(
     }
 }
 
-/// Whether each entry that takes up a request was received, in a recording whose entries have these
-/// ways. What takes up a request has a key.
+/// Whether each entry that takes up a request was received, given the index of the entries. Only
+/// entries with a key can take up a request.
 fn all_heard<L: ExerciseLog>(
     findings: &Findings<'_, L>,
     orders: &Ways,
@@ -157,8 +159,8 @@ fn all_heard<L: ExerciseLog>(
     true
 }
 
-/// Whether the columns of all entries, which have these ways, tell of each that takes up a request
-/// where it was received.
+/// Whether the columns are known to be complete, given the index of the entries: they have the
+/// first and the last receipt of each entry that takes up a request.
 pub(crate) fn are_whole<L: ExerciseLog>(
     findings: &Findings<'_, L>,
     orders: &Ways,
@@ -171,7 +173,7 @@ pub(crate) fn are_whole<L: ExerciseLog>(
     sources.whole && all_heard(findings, orders, sources)
 }
 
-/// The first and the last entry at which a station received what an entry sends that takes up a
+/// First and last entry at which a station received the datagram of an entry that takes up a
 /// request, if it did.
 pub(crate) fn receipts_from<L: ExerciseLog>(
     sources: &SourceColumns,

@@ -1,4 +1,4 @@
-//! The stretches of the lives of a recording's entities, as they are told.
+//! The spans of the lives of a recording's entities.
 
 ghost use Rattle.std.specs.Prelude.{◌≡◌, ◌<◌, length, map, option_map, option_and_then, IfOk};
 ghost use Rattle.dis_records.specs.Entity.{pair_of};
@@ -26,7 +26,7 @@ use exercise_model::ExerciseLog;
 use siman_pdus::request_id;
 use std::alloc::{AllocError, Global};
 
-/// A stretch of an entity's life, in which it had one state other than Absent. Entries are numbers
+/// A span of an entity's life, in which it had one state other than Absent. Entries are numbers
 /// from 0; stamps are those of the clock of the entity's station.
 #[derive(Clone, Copy, PartialEq, Eq)]
 pub struct Span {
@@ -34,22 +34,22 @@ pub struct Span {
     pub entity: EntityId,
     /// The state, Stopped or Running.
     pub state: EntityState,
-    /// The entry of the change that began it; `None` where it goes on from the start.
+    /// The entry of the change that began it; `None` if it lasts from the start.
     pub from: Option<usize>,
-    /// The entry of the change that ended it; `None` where it goes on to the end.
+    /// The entry of the change that ended it; `None` if it lasts to the end.
     pub to: Option<usize>,
     /// The stamp of the entry that began it.
     pub since: Option<u64>,
     /// The stamp of the entry that ended it.
     pub until: Option<u64>,
-    /// Who asked for the change that began it.
+    /// The sender of the request for the change that began it.
     pub by: Option<Outsider>,
     /// The identifier of that request.
     pub request: Option<u32>,
 }
 
-/// Who asked for what an entry does, if there is such an entry and it takes up a request, and under which
-/// identifier. The answer goes to whoever asked, under that identifier, so the request is not read.
+/// The sender and the identifier of the request that an optional entry takes up. The answer has
+/// that sender as its target and that identifier, so the request is not read.
 fn asked_behind<L: ExerciseLog>(
     findings: &Findings<'_, L>,
     entry: Option<usize>,
@@ -69,7 +69,7 @@ fn asked_behind<L: ExerciseLog>(
     }
 }
 
-/// The stamp of an entry, if there is such an entry.
+/// Stamp of an optional entry.
 fn stamp_if<L: ExerciseLog>(log: &L, entry: Option<usize>) -> Option<u64>
     ensures { result ≡ option_and_then (stamp_at (L.recording log.now)) entry }
 {
@@ -79,7 +79,7 @@ fn stamp_if<L: ExerciseLog>(log: &L, entry: Option<usize>) -> Option<u64>
     }
 }
 
-/// An entity of a station, with the address of that; 0 and 0 past the last station.
+/// Identifier of an entity of a station; site and application are 0 past the last station.
 fn entity_at<L: ExerciseLog>(log: &L, station: u16, entity: u16) -> EntityId
     ensures { result ≡ entity_at (station_at (L.recording log.now) station).address entity }
 {
@@ -91,7 +91,7 @@ fn entity_at<L: ExerciseLog>(log: &L, station: u16, entity: u16) -> EntityId
     }
 }
 
-/// A stretch of an entity's life, as it is told. It takes no memory.
+/// A span of an entity's life, read from its compact form. Allocates no memory.
 pub(crate) fn span_at<L: ExerciseLog>(findings: &Findings<'_, L>, stay: Stay) -> Span
     ensures { result ≡ span_at findings.now stay }
 {
@@ -110,7 +110,7 @@ pub(crate) fn span_at<L: ExerciseLog>(findings: &Findings<'_, L>, stay: Stay) ->
     }
 }
 
-/// These stretches, as they are told.
+/// The spans with these compact forms.
 fn told<L: ExerciseLog>(
     alloc: Global,
     findings: &Findings<'_, L>,
@@ -125,8 +125,8 @@ fn told<L: ExerciseLog>(
     Ok(spans)
 }
 
-/// The stretches of the lives of a station's entities, by entity and in their order; `OverLimit`
-/// where there are more than so many.
+/// The spans of the lives of a station's entities, by entity and time; `OverLimit` if there are
+/// more than `most`.
 pub fn spans_of<L: ExerciseLog>(
     alloc: Global,
     findings: &Register<'_, L>,

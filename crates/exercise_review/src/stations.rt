@@ -1,4 +1,4 @@
-//! The recorded stations: who sends, and who is meant.
+//! The recorded stations that send a PDU, or that it addresses.
 
 ghost use Rattle.std.specs.Prelude.{◌≡◌, ◌<◌, is_some, length, IfSome};
 ghost use Rattle.siman_pdus.specs.Reading.{pdu_of};
@@ -12,7 +12,7 @@ use dis_records::addressed;
 use exercise_model::{ExerciseLog, Form, is_from};
 use siman_pdus::PduView;
 
-/// The recorded station that a PDU comes from.
+/// The recorded station that is the origin of a PDU.
 pub(crate) fn sender_of<L: ExerciseLog>(
     findings: &Register<'_, L>,
     pdu: &PduView<'_>,
@@ -30,7 +30,8 @@ pub(crate) fn sender_of<L: ExerciseLog>(
     None
 }
 
-/// Whether a PDU comes from a station that took part and that nobody recorded.
+/// Whether the origin of a PDU is outside: the recording is open, and no recorded station is the
+/// origin.
 #[tactic(auto, unfolding(crate::specs::Order::is_outside))]
 pub(crate) fn is_outside<L: ExerciseLog>(findings: &Register<'_, L>, pdu: &PduView<'_>) -> bool
     ensures { result ≡ is_outside findings.now (pdu_of pdu.now) }
@@ -38,7 +39,7 @@ pub(crate) fn is_outside<L: ExerciseLog>(findings: &Register<'_, L>, pdu: &PduVi
     findings.log().form() == Form::Open && sender_of(findings, pdu).is_none()
 }
 
-/// Which recorded stations a PDU addresses.
+/// The test whether a PDU addresses a recorded station.
 #[derive(Drop)]
 pub(crate) struct Meant<'a, L: ExerciseLog> {
     pub findings: &'a Register<'a, L>,

@@ -1,4 +1,4 @@
-//! The stretches of the lives of a recording's entities, as they are kept.
+//! The compact form of the spans of lives.
 
 ghost use Rattle.std.specs.Prelude.{◌≡◌, ◌≤◌, length, OnOk};
 ghost use Rattle.exercise_review.specs.Room.{AddsWithin};
@@ -7,8 +7,8 @@ ghost use Rattle.exercise_review.specs.Stay.{ended_at, ended_by, stays_on};
 use crate::fault::ReviewFault;
 use dis_records::EntityState;
 
-/// A stretch of an entity's life, in which it had one state other than Absent, in as little room as it
-/// takes. Its entries are numbers from 0, of which 0xFFFFFFFF stands for none.
+/// A span of an entity's life, in which it had one state other than Absent, in little memory.
+/// Entries are numbers from 0; 0xFFFFFFFF means none.
 #[derive(Clone, Copy)]
 pub(crate) struct Stay {
     /// The station, a number from 0.
@@ -17,14 +17,14 @@ pub(crate) struct Stay {
     pub entity: u16,
     /// Its state.
     pub state: EntityState,
-    /// The entry of the change that began it; none where it goes on from the start.
+    /// The entry of the change that began it; none if it lasts from the start.
     pub from: u32,
-    /// The entry of the change that ended it; none where it goes on to the end.
+    /// The entry of the change that ended it; none if it lasts to the end.
     pub until: u32,
 }
 
-/// Adds the stay that an entity is in, which ends at an entry or with the log, where there is room for
-/// it; there is none where the entity is Absent.
+/// Adds the current stay of an entity, which ends at an entry or with the log; nothing if the
+/// entity is Absent. `OverLimit` beyond `most`.
 pub(crate) fn end_stay(
     stays: &mut Vec<Stay>,
     most: usize,
@@ -45,8 +45,8 @@ pub(crate) fn end_stay(
     Ok(())
 }
 
-/// Goes on past an entry, which leaves the entity in a state: the stay that it is in ends there, where
-/// that is another.
+/// Continues past an entry that leaves the entity in a state; ends the current stay there if the
+/// state differs. `OverLimit` beyond `most`.
 pub(crate) fn stay_on(
     stays: &mut Vec<Stay>,
     most: usize,

@@ -1,5 +1,4 @@
-//! The stretches of the lives of a recording's entities, one after the other, as they are kept: by
-//! station, by entity and in their order.
+//! The compact spans of the lives of a recording's entities, by station, entity and time.
 
 ghost use Rattle.std.specs.Prelude.{◌≡◌, ◌<◌, ◌≤◌, Err, IfErr, length, map};
 ghost use Rattle.std.specs.List.{list_any};
@@ -18,7 +17,8 @@ use exercise_findings::Findings;
 use exercise_model::{Change, ExerciseLog};
 use std::alloc::Global;
 
-/// Adds the stays of an entity, by the course of its station, if there may be any.
+/// Adds the stays of an entity, given the course of its station; `OverLimit` beyond `most`. An
+/// entity that never lives is skipped.
 fn push_entity(
     stays: &mut Vec<Stay>,
     most: usize,
@@ -37,8 +37,8 @@ fn push_entity(
     }
 }
 
-/// Adds the stays of a station's entities, by the changes of that station, where there is room for so
-/// many.
+/// Adds the stays of a station's entities, given the changes of that station; `OverLimit` beyond
+/// `most`.
 fn push_station<L: ExerciseLog>(
     alloc: Global,
     stays: &mut Vec<Stay>,
@@ -59,8 +59,8 @@ fn push_station<L: ExerciseLog>(
     Ok(())
 }
 
-/// Adds the stays of all stations' entities, by the changes of each station, where there is room for so
-/// many.
+/// Adds the stays of all stations' entities, given the changes of each station; `OverLimit` beyond
+/// `most`.
 #[tactic(auto, unfolding(crate::specs::Stay::all_stays))]
 fn push_stays<L: ExerciseLog>(
     alloc: Global,
@@ -86,8 +86,8 @@ fn push_stays<L: ExerciseLog>(
     Ok(())
 }
 
-/// How many stays there are with those of an entity, by the course of its station, where there may be so
-/// many. They are made in a list that is cleared for each entity.
+/// Adds the number of stays of an entity to a count, given the course of its station; `OverLimit`
+/// beyond `most`. `made` is a buffer, cleared for each entity.
 fn count_entity(
     made: &mut Vec<Stay>,
     count: usize,
@@ -105,8 +105,8 @@ fn count_entity(
     Ok(count + made.len())
 }
 
-/// How many stays there are with those of a station's entities, by the changes of that station, where
-/// there may be so many.
+/// Adds the number of stays of a station's entities to a count, given the changes of that station;
+/// `OverLimit` beyond `most`.
 fn count_station<L: ExerciseLog>(
     alloc: Global,
     count: usize,
@@ -129,8 +129,8 @@ fn count_station<L: ExerciseLog>(
     Ok(count)
 }
 
-/// How many stretches the lives of all stations' entities have, by the changes of each station;
-/// `OverLimit` where there are more than so many. Those of one entity at a time are made, and none is kept.
+/// Number of spans in the lives of all stations' entities, given the changes of each station;
+/// `OverLimit` if there are more than `most`. Stores the spans of only one entity at a time.
 fn spans_counted<L: ExerciseLog>(
     alloc: Global,
     findings: &Findings<'_, L>,
@@ -165,23 +165,23 @@ fn is_of_all(change: Change) -> bool
     }
 }
 
-/// Whether one of these changes is one of all entities.
+/// Whether any of these changes is one of all entities.
 fn has_change_of_all(changes: &[Made]) -> bool
     ensures { result ≡ list_any is_made_of_all changes.now }
 {
     changes.iter().any(|made| is_of_all(made.change))
 }
 
-/// Whether a change of one of the stations is one of all entities.
+/// Whether any change of any station is one of all entities.
 fn is_some_change_of_all(changes: &[Vec<Made>]) -> bool
     ensures { result ≡ list_any has_change_of_all changes.now }
 {
     changes.iter().any(|made| has_change_of_all(made))
 }
 
-/// Refuses a recording of which the stretches of the lives alone are more than so many, by the changes
-/// of each station. They are counted where a change is one of all entities: any other moves one entity at
-/// most, and so there are few.
+/// Returns `OverLimit` if the lives alone have more than `most` spans, given the changes of each
+/// station. Counts them only if some change is one of all entities: any other change affects at
+/// most one entity, so without such a change there are few spans.
 pub(crate) fn refuse_many<L: ExerciseLog>(
     alloc: Global,
     findings: &Findings<'_, L>,
@@ -197,8 +197,8 @@ pub(crate) fn refuse_many<L: ExerciseLog>(
     Ok(())
 }
 
-/// The stretches of the lives of a station's entities, by entity and in their order; `OverLimit`
-/// where there are more than so many.
+/// The compact spans of the lives of a station's entities, by entity and time; `OverLimit` if there
+/// are more than `most`.
 pub(crate) fn stays_of<L: ExerciseLog>(
     alloc: Global,
     findings: &Findings<'_, L>,
@@ -215,8 +215,8 @@ pub(crate) fn stays_of<L: ExerciseLog>(
     Ok(stays)
 }
 
-/// The stretches of the lives of all stations' entities, by the changes of each station: by station, by
-/// entity and in their order; `OverLimit` where there are more than so many.
+/// The compact spans of the lives of all stations' entities, given the changes of each station, by
+/// station, entity and time; `OverLimit` if there are more than `most`.
 pub(crate) fn stays_within<L: ExerciseLog>(
     alloc: Global,
     findings: &Findings<'_, L>,

@@ -1,4 +1,4 @@
-//! How many orders have each fate, and what is counted of each station.
+//! Counts of the fates of orders, and counts of each station.
 
 ghost use Rattle.std.specs.Prelude.{◌≡◌, ◌<◌, ◌≤◌, ◌+◌, ◌*◌, List, length, map, IfOk, slice_index_or, [], ℕ};
 ghost use Rattle.exercise_model.specs.Account.{values_below};
@@ -20,10 +20,10 @@ use dis_records::EntityState;
 use exercise_model::ExerciseLog;
 use std::alloc::{AllocError, Global};
 
-/// How many fates there are.
+/// The number of fates.
 const FATES: usize = 9;
 
-/// How many orders at their parties have each fate.
+/// Number of orders at their parties with each fate.
 #[derive(Clone, Copy, PartialEq, Eq)]
 pub struct FateCounts {
     pub done: usize,
@@ -38,25 +38,25 @@ pub struct FateCounts {
     pub nobody: usize,
 }
 
-/// What is counted of a recorded station.
+/// Counts of a recorded station.
 #[derive(Clone, Copy, PartialEq, Eq)]
 pub struct StationCounts {
     /// Its address.
     pub at: Outsider,
-    /// The entries of its log.
+    /// Number of entries in its log.
     pub records: usize,
-    /// The orders that it made.
+    /// Number of orders that it made.
     pub made: usize,
-    /// The fates of the orders that it was party to.
+    /// Fates of the orders that it was party to.
     pub fates: FateCounts,
-    /// Its entities that are not Absent at the end.
+    /// Number of its entities that are not Absent at the end.
     pub entities: usize,
-    /// How many of them are Running.
+    /// Number of its entities that are Running at the end.
     pub running: usize,
 }
 
 impl Fate {
-    /// Its place among the fates, as they are counted.
+    /// Its number, from 0, by which it is counted.
     pub(crate) fn number(self) -> u8
         ensures { result ≡ fate_number self }
     {
@@ -74,7 +74,7 @@ impl Fate {
     }
 }
 
-/// Which fate each order at a party has.
+/// The fate of each order at a party, by its number.
 #[derive(Drop)]
 struct FateNumbers<'a> {
     rows: &'a [Row],
@@ -92,7 +92,7 @@ impl Placing for FateNumbers<'_> {
     }
 }
 
-/// How many of these orders at their parties have each fate.
+/// Number of these orders at their parties with each fate.
 #[tactic(auto, using(crate::proofs::Places::all_fates))]
 pub(crate) fn fates_of(alloc: Global, rows: &[Row]) -> Result<FateCounts, AllocError>
     ensures { (r : PlainRecording) (told : List OrderAt) → AreRows r rows.now told → IfOk result (λ counts. counts ≡ fates_of told) }
@@ -101,7 +101,7 @@ pub(crate) fn fates_of(alloc: Global, rows: &[Row]) -> Result<FateCounts, AllocE
     Ok(fates_from(&counts, 0))
 }
 
-/// Where an order at a party is counted, if that is a recorded station: each has a place for each fate.
+/// Counter of an order at a recorded party: each station has one for each fate.
 fn row_place(row: &Row) -> Option<usize>
     ensures { result ≡ row_place row.now }
 {
@@ -113,7 +113,7 @@ fn row_place(row: &Row) -> Option<usize>
     }
 }
 
-/// Where orders at their parties are counted.
+/// The counter of each order at a party.
 #[derive(Drop)]
 struct FatePlaces<'a> {
     rows: &'a [Row],
@@ -128,7 +128,7 @@ impl Placing for FatePlaces<'_> {
     }
 }
 
-/// Which station made each order.
+/// The station that made each order.
 #[derive(Drop)]
 struct MakerPlaces<'a> {
     makers: &'a [Option<u16>],
@@ -146,7 +146,7 @@ impl Placing for MakerPlaces<'_> {
     }
 }
 
-/// How many of these orders each of so many stations made.
+/// Number of these orders that each station made.
 #[tactic(auto, using(crate::proofs::Places::orders_counted))]
 fn made_by_station(
     alloc: Global,
@@ -159,7 +159,8 @@ fn made_by_station(
     counts_of(alloc, &MakerPlaces { makers }, makers.len(), stations)
 }
 
-/// How many of these orders at their parties have each fate at each of so many stations.
+/// Number of these orders at their parties with each fate at each station, nine counters for a
+/// station.
 #[tactic(auto, using(crate::proofs::Places::fates_counted, crate::proofs::Places::place_within))]
 fn fates_by_station(alloc: Global, rows: &[Row], stations: usize) -> Result<Vec<usize>, AllocError>
     requires { stations ≤ 65536 }
@@ -169,7 +170,7 @@ fn fates_by_station(alloc: Global, rows: &[Row], stations: usize) -> Result<Vec<
     counts_of(alloc, &FatePlaces { rows }, rows.len(), stations * FATES)
 }
 
-/// The counts of all fates, which stand one after the other from a place on.
+/// The nine counts of all fates, from an index on.
 fn fates_from(counts: &[usize], first: usize) -> FateCounts
     requires { first + 9 ≤ length counts.now }
     ensures { result ≡ counts_by (λ f. slice_index_or counts.now (first + fate_number f) 0) }
@@ -187,7 +188,7 @@ fn fates_from(counts: &[usize], first: usize) -> FateCounts
     }
 }
 
-/// Which entities run.
+/// The test whether an entity is Running.
 #[derive(Drop)]
 struct AreRunning<'a> {
     present: &'a [(u16, EntityState)],
@@ -205,7 +206,7 @@ impl Question for AreRunning<'_> {
     }
 }
 
-/// How many of these entities run.
+/// Number of these entities that are Running.
 #[tactic(auto, unfolding(crate::specs::Tally::many))]
 fn running_of(present: &[(u16, EntityState)]) -> usize
     ensures { result ≡ many is_running present.now }
@@ -213,7 +214,7 @@ fn running_of(present: &[(u16, EntityState)]) -> usize
     count_below(&AreRunning { present }, present.len())
 }
 
-/// What is counted of the orders and of these at their parties.
+/// Counts of the orders by maker, and of the orders at their parties by station and fate.
 #[derive(Drop)]
 struct Counts {
     made: Vec<usize>,
@@ -236,7 +237,7 @@ fn counts_by_station<L: ExerciseLog>(
     Ok(Counts { made, fates })
 }
 
-/// The entities that are there at the end at a station, of those of all stations.
+/// The entities of a station that exist at the end, from those of all stations.
 fn present_at(states: &[Vec<(u16, EntityState)>], station: usize) -> &[(u16, EntityState)]
     ensures { result.now ≡ slice_index_or (map (λ v. v.items) states.now) station [] }
 {
@@ -246,7 +247,7 @@ fn present_at(states: &[Vec<(u16, EntityState)>], station: usize) -> &[(u16, Ent
     }
 }
 
-/// What is counted of a station, by what was told and by these counts.
+/// Counts of a station, given the review of the entries and the counts of the orders.
 #[tactic(auto, using(crate::proofs::Places::fates_are, crate::proofs::Places::records_told), unfolding(crate::specs::Tally::station_counts))]
 fn station_counts<L: ExerciseLog>(
     log: &L,
@@ -273,7 +274,7 @@ fn station_counts<L: ExerciseLog>(
     }
 }
 
-/// What is counted of each station, by rising addresses.
+/// Counts of each station, by rising address.
 #[tactic(auto, using(exercise_model::proofs::Offered::account_steps))]
 pub(crate) fn stations_counted<L: ExerciseLog>(
     alloc: Global,

@@ -1,4 +1,4 @@
-//! The orders of a recording at their parties, as they are told.
+//! The orders of a recording at their parties.
 
 ghost use Rattle.std.specs.Prelude.{◌≡◌, ◌≤◌, ◌<◌, ◌+◌, ◌∷◌, [], Some, length, map, IfOk, OnOk};
 ghost use Rattle.exercise_review.specs.Asked.{IsAsked};
@@ -21,26 +21,26 @@ use dis_records::{EntityId, Kind};
 use exercise_model::ExerciseLog;
 use std::alloc::{AllocError, Global};
 
-/// An order at one of its parties, as it is told.
+/// An order at one of its parties, with its outcome there.
 #[derive(Clone, Copy, PartialEq, Eq)]
 pub struct OrderAt {
-    /// The entry at which the order first stands, from 0.
+    /// The head of the order: its first entry, from 0.
     pub head: usize,
-    /// Who made it.
+    /// The address of its maker.
     pub from: Outsider,
     /// Its request identifier.
     pub request: Option<u32>,
     /// Its kind.
     pub kind: Kind,
-    /// Whom it asks.
+    /// Its target.
     pub to: EntityId,
-    /// The address of the party; `None` where the order has none.
+    /// The address of the party; `None` if the order has none.
     pub at: Option<Outsider>,
-    /// What became of it there.
+    /// Its outcome there.
     pub outcome: Outcome,
 }
 
-/// Adds what is kept of an order at one of its parties, where there is room for that.
+/// Adds the row of an order at one of its parties; `OverLimit` if there are `most` rows already.
 fn push_told<L: ExerciseLog>(
     rows: &mut Vec<Row>,
     most: usize,
@@ -60,7 +60,8 @@ fn push_told<L: ExerciseLog>(
     Ok(())
 }
 
-/// Adds an order, of which this is asked, at each of these parties, where there is room for so many.
+/// Adds the rows of an order at these parties, given the data about it; `OverLimit` beyond `most`
+/// rows.
 fn push_parties<L: ExerciseLog>(
     rows: &mut Vec<Row>,
     most: usize,
@@ -82,7 +83,8 @@ fn push_parties<L: ExerciseLog>(
     Ok(())
 }
 
-/// Adds an order at each of its parties, where there is room for so many. A list of parties is lent.
+/// Adds the rows of an order at each of its parties; `OverLimit` beyond `most` rows. `parties` is a
+/// buffer.
 #[tactic(auto, unfolding(crate::specs::Outcome::outcomes_of))]
 fn push_order<L: ExerciseLog>(
     parties: &mut Vec<Party>,
@@ -105,18 +107,19 @@ fn push_order<L: ExerciseLog>(
     push_parties(rows, most, findings, order, asked, parties, hints)
 }
 
-/// What is told of the entries so far.
+/// The review of the entries read so far.
 #[derive(Drop)]
 pub(crate) struct Told {
-    /// How many entries the log of each station has.
+    /// Number of entries in the log of each station.
     pub records: Vec<usize>,
-    /// Who made each order.
+    /// The maker of each order; `None` if it is not recorded.
     pub makers: Vec<Option<u16>>,
-    /// What is kept of the orders at their parties.
+    /// The rows of the orders at their parties.
     pub rows: Vec<Row>,
 }
 
-/// Adds what is told of the next entry, where there is room for that. A list of parties is lent.
+/// Adds the order whose head is the next entry, if any; `OverLimit` beyond `most` rows. `parties`
+/// is a buffer.
 fn push_entry<L: ExerciseLog>(
     parties: &mut Vec<Party>,
     told: &mut Told,
@@ -140,7 +143,7 @@ fn push_entry<L: ExerciseLog>(
     }
 }
 
-/// How many entries the log of each station has.
+/// Number of entries in the log of each station.
 fn records_of<L: ExerciseLog>(
     alloc: Global,
     findings: &Register<'_, L>,
@@ -152,8 +155,8 @@ fn records_of<L: ExerciseLog>(
     Ok(records)
 }
 
-/// What is kept of the orders of a recording at all of their parties; `OverLimit` where there are more than so many.
-/// No order stands where no entry can have a key.
+/// The rows of all orders of a recording at all their parties; `OverLimit` if there are more than
+/// `most`. Stops at the end of the entries that can have a key, since only those can be heads.
 pub(crate) fn told_within<L: ExerciseLog>(
     alloc: Global,
     findings: &Register<'_, L>,

@@ -1,4 +1,5 @@
-//! Entries under a key that pass a question: those of the whole log, where all that pass have the key.
+//! Search over the entries under a key for those that pass a question; complete if all that pass
+//! have the key.
 
 ghost use Rattle.std.specs.Prelude.{◌≡◌, ◌<◌, ◌≤◌, length, IfSome};
 ghost use Rattle.exercise_model.specs.Place.{first_below};
@@ -9,7 +10,7 @@ use crate::question::{self, Question};
 use crate::register::Register;
 use exercise_model::ExerciseLog;
 
-/// The first entry under a key that passes.
+/// First entry under a key that passes.
 fn first_under<L: ExerciseLog, Q: Question>(
     register: &Register<'_, L>,
     key: u64,
@@ -30,7 +31,7 @@ fn first_under<L: ExerciseLog, Q: Question>(
     first
 }
 
-/// The last entry under a key that passes.
+/// Last entry under a key that passes.
 fn last_under<L: ExerciseLog, Q: Question>(
     register: &Register<'_, L>,
     key: u64,
@@ -50,14 +51,14 @@ fn last_under<L: ExerciseLog, Q: Question>(
     None
 }
 
-/// How many entries pass, and the first of them.
+/// Number of entries that pass, and the first of them.
 #[derive(Clone, Copy)]
 pub(crate) struct Counted {
     pub count: usize,
     pub first: Option<usize>,
 }
 
-/// How many entries under a key pass, and the first of them.
+/// Number of entries under a key that pass, and the first of them.
 fn counted_under<L: ExerciseLog, Q: Question>(
     register: &Register<'_, L>,
     key: u64,
@@ -84,8 +85,8 @@ fn counted_under<L: ExerciseLog, Q: Question>(
     }
 }
 
-/// How many entries pass, and the first of them, where all that pass have this key; without a key all
-/// are asked.
+/// Number of entries that pass, and the first of them, where all that pass have this key. Without a
+/// key, all entries are tested.
 pub(crate) fn counted_entries<L: ExerciseLog, Q: Question>(
     register: &Register<'_, L>,
     key: Option<u64>,
@@ -107,7 +108,8 @@ pub(crate) fn counted_entries<L: ExerciseLog, Q: Question>(
     }
 }
 
-/// The first entry that passes, where all that pass have this key; without a key all are asked.
+/// First entry that passes, where all that pass have this key. Without a key, all entries are
+/// tested.
 pub(crate) fn first_entry<L: ExerciseLog, Q: Question>(
     register: &Register<'_, L>,
     key: Option<u64>,
@@ -123,7 +125,8 @@ pub(crate) fn first_entry<L: ExerciseLog, Q: Question>(
     }
 }
 
-/// The last entry that passes, where all that pass have this key; without a key all are asked.
+/// Last entry that passes, where all that pass have this key. Without a key, all entries are
+/// tested.
 pub(crate) fn last_entry<L: ExerciseLog, Q: Question>(
     register: &Register<'_, L>,
     key: Option<u64>,

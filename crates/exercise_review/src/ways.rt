@@ -1,4 +1,4 @@
-//! Entries by their keys: from the last under each key a way leads back to the first.
+//! Index of entries by key: for each key, a linked list of its entries, newest first.
 
 ghost use Rattle.std.specs.Prelude.{◌≡◌, ◌<◌, ◌≤◌, ℕ, ◌+◌, true, Option, None, Some, is_some, IfOk, OnOk, IfSome, length, slice_get, slice_index_or, unwrap_or};
 ghost use Rattle.siman_pdus.specs.Answers.{same_id};
@@ -14,24 +14,24 @@ use indexmap::IndexSet;
 use std::alloc::{AllocError, Global};
 use std::hash::{BuildHasherDefault, FoldHasher};
 
-/// The keys of entries, in the order in which they first came. Strangers choose what entries say; but all
-/// keys are digests, of a hasher for which nobody writes down many that fall together, and so a quick one
-/// spreads them.
+/// The distinct keys, in the order of their first entries. The keys are digests by a hasher for
+/// which nobody can construct many collisions, so a fast hasher is enough here although strangers
+/// choose the contents of entries.
 pub(crate) type Keys = IndexSet<u64, BuildHasherDefault<FoldHasher>>;
 
-/// The keys of entries, the last entry under each, and for each entry where its key stands and which
-/// entry is the one before it under that.
+/// Index of entries by key. Entries and places (of keys in `keys`) are numbers of 32 bits;
+/// `NO_ENTRY` means none.
 pub(crate) struct Ways {
     pub keys: Keys,
-    /// Of each key the number of the last entry under it.
+    /// For each key, its last entry.
     pub last: Vec<u32>,
-    /// Of each entry the number of the place of its key.
+    /// For each entry, the place of its key in `keys`.
     pub places: Vec<u32>,
-    /// Of each entry the number of the one before it under its key.
+    /// For each entry, the previous entry with an equal key.
     pub before: Vec<u32>,
 }
 
-// Not derived: who drops it makes one call, and does not take its table apart by himself.
+// Written by hand, so that a drop is one call and the caller does not drop each table by itself.
 impl Drop for Ways {
     fn drop(self) {
         let Ways {
@@ -43,7 +43,7 @@ impl Drop for Ways {
     }
 }
 
-/// How the key of an entry is told, if it has one: by the place at which it stands already, or as it is.
+/// The key of an entry, if any: as the place of a known key, or as the key itself.
 #[derive(Clone, Copy)]
 pub(crate) enum Keyed {
     Nothing,
@@ -51,19 +51,19 @@ pub(crate) enum Keyed {
     Key(u64),
 }
 
-/// The keys of entries. What it means is one function; no call takes memory.
+/// A function from entries to keys. Its meaning is `keys`; no call allocates memory.
 pub(crate) trait Keying {
     ghost use Rattle.std.specs.Prelude.{◌≡◌, ℕ, Option};
 
-    /// The key of each entry.
+    /// Key of each entry, if it has one.
     ghost keys: { Self → ℕ → Option ℕ };
 
-    /// The key of an entry.
+    /// Key of an entry, if it has one.
     fn key(&self, entry: usize) -> Option<u64>
         ensures { result ≡ keys self.now entry };
 }
 
-/// No entries. It takes no memory.
+/// Empty index. Allocates no memory.
 pub(crate) fn no_ways(alloc: Global) -> Ways
     ensures none { length result.keys.keys ≡ 0 }
     ensures kept { (keys : ℕ → Option ℕ) → AreRegistered keys 0 result }
@@ -76,7 +76,7 @@ pub(crate) fn no_ways(alloc: Global) -> Ways
     }
 }
 
-/// Where a key stands; from now on, if it did not before.
+/// Place of a key, which is added if it is new.
 fn place_of_key(ways: &mut Ways, key: u64) -> Result<usize, AllocError>
     ensures at { IfOk result (λ place. slice_get ways.new.keys.keys place ≡ Some key) }
     ensures few { OnOk result (length ways.new.keys.keys ≤ length ways.old.keys.keys + 1) }
@@ -90,7 +90,7 @@ fn place_of_key(ways: &mut Ways, key: u64) -> Result<usize, AllocError>
     Ok(place)
 }
 
-/// Keeps the next of so many entries, whose key stands at a place.
+/// Adds the next of `count` entries under the key at a place.
 fn note_at(ways: &mut Ways, count: usize, entry: usize, place: usize) -> Result<(), AllocError>
     requires within { entry < count }
     requires few { entry < 4294967295 }
@@ -104,7 +104,8 @@ fn note_at(ways: &mut Ways, count: usize, entry: usize, place: usize) -> Result<
     put_number(&mut ways.before, NO_ENTRY, count, entry, earlier)
 }
 
-/// Keeps the next of so many entries, whose number is below the one that stands for none.
+/// Adds the next of `count` entries under its key, if it has one. The entry's number must be less
+/// than `NO_ENTRY`.
 pub(crate) fn note_keyed(
     ways: &mut Ways,
     count: usize,
@@ -132,7 +133,7 @@ pub(crate) fn note_keyed(
     }
 }
 
-/// How a key is told as it is, if there is one.
+/// An optional key, given as itself.
 pub(crate) fn keyed_by(key: Option<u64>) -> Keyed
     ensures { (keys : Keys) → key_told keys result ≡ key }
 {
@@ -142,7 +143,7 @@ pub(crate) fn keyed_by(key: Option<u64>) -> Keyed
     }
 }
 
-/// The entries below an end by their keys. What is kept takes memory.
+/// Index of the entries below `end`. Allocates memory for the tables.
 pub(crate) fn ways_of<K: Keying>(alloc: Global, keying: &K, end: usize) -> Result<Ways, AllocError>
     requires { end ≤ 4294967295 }
     ensures { IfOk result (AreRegistered (K.keys keying.now) end) }
@@ -154,7 +155,7 @@ pub(crate) fn ways_of<K: Keying>(alloc: Global, keying: &K, end: usize) -> Resul
     Ok(ways)
 }
 
-/// Where the key of an entry stands, if it has one.
+/// Place of the key of an entry, if it has one.
 fn place_at(ways: &Ways, entry: usize) -> Option<usize>
     ensures { result ≡ entry_of (slice_index_or ways.now.places.items entry no_entry) }
 {
@@ -171,7 +172,7 @@ pub(crate) fn key_in(ways: &Ways, place: usize) -> Option<u64>
     }
 }
 
-/// The key of an entry.
+/// Key of an indexed entry, if it has one.
 pub(crate) fn key_kept(ways: &Ways, entry: usize) -> Option<u64>
     ensures { (keys : ℕ → Option ℕ) (n : ℕ) → AreRegistered keys n ways.now → entry < n → result ≡ keys entry }
 {
@@ -181,8 +182,8 @@ pub(crate) fn key_kept(ways: &Ways, entry: usize) -> Option<u64>
     }
 }
 
-/// Where those of so many entries end that can have a key: none from there on has one. The column of
-/// places goes no further.
+/// An upper bound, at most `count`: no entry from there on has a key. It is the length of the
+/// column of places.
 pub(crate) fn keyed_end(ways: &Ways, count: usize) -> usize
     ensures within { result ≤ count }
     ensures rest { (keys : ℕ → Option ℕ) → AreRegistered keys count ways.now → (i : ℕ) → result ≤ i → i < count → keys i ≡ None }
@@ -190,7 +191,7 @@ pub(crate) fn keyed_end(ways: &Ways, count: usize) -> usize
     ways.places.len().min(count)
 }
 
-/// Whether an entry has a key. It is not looked at.
+/// Whether an entry has a key. Does not read the entry itself.
 #[tactic(auto, using(crate::proofs::Registered::is_keyed))]
 pub(crate) fn is_keyed(ways: &Ways, entry: usize) -> bool
     ensures { (keys : ℕ → Option ℕ) (n : ℕ) → AreRegistered keys n ways.now → entry < n → result ≡ is_some (keys entry) }
@@ -198,7 +199,7 @@ pub(crate) fn is_keyed(ways: &Ways, entry: usize) -> bool
     place_at(ways, entry).is_some()
 }
 
-/// How the key of an entry is told, by the place at which it stands.
+/// Key of an indexed entry, given as its place.
 pub(crate) fn keyed_as(ways: &Ways, entry: usize) -> Keyed
     ensures { (keys : ℕ → Option ℕ) (n : ℕ) → AreRegistered keys n ways.now → entry < n → key_told ways.now.keys result ≡ keys entry }
 {
@@ -210,14 +211,14 @@ pub(crate) fn keyed_as(ways: &Ways, entry: usize) -> Keyed
     }
 }
 
-/// The last entry under the key at a place.
+/// Last entry under the key at a place.
 pub(crate) fn last_in(ways: &Ways, place: usize) -> Option<usize>
     ensures { result ≡ entry_of (slice_index_or ways.now.last.items place no_entry) }
 {
     entry_of(number_at(&ways.last, NO_ENTRY, place))
 }
 
-/// Where a key stands, which is looked for.
+/// Place of a key, looked up in the table.
 pub(crate) fn place_sought(ways: &Ways, key: u64) -> Option<usize>
     ensures at { IfSome result (λ place. slice_get ways.now.keys.keys place ≡ Some key) }
     ensures none { result ≡ None → (keys : ℕ → Option ℕ) (n : ℕ) → AreRegistered keys n ways.now → last_below (holds keys key) n ≡ None }
@@ -228,7 +229,7 @@ pub(crate) fn place_sought(ways: &Ways, key: u64) -> Option<usize>
     }
 }
 
-/// Whether an entry is the last under its key.
+/// Whether an entry is known to be the last under its key.
 pub(crate) fn is_last(ways: &Ways, entry: usize) -> bool
     ensures { (keys : ℕ → Option ℕ) (n k : ℕ) → AreRegistered keys n ways.now → entry < n → result ≡ true → holds keys k entry ≡ true → last_below (holds keys k) n ≡ Some entry }
 {
@@ -241,15 +242,15 @@ pub(crate) fn is_last(ways: &Ways, entry: usize) -> bool
     }
 }
 
-/// The entry before one under their key.
+/// Previous entry under the key of an entry.
 pub(crate) fn entry_before(ways: &Ways, entry: usize) -> Option<usize>
     ensures { (keys : ℕ → Option ℕ) (n k : ℕ) → AreRegistered keys n ways.now → entry < n → holds keys k entry ≡ true → result ≡ last_below (holds keys k) entry }
 {
     entry_of(number_at(&ways.before, NO_ENTRY, entry))
 }
 
-/// Whether an entry that passes is the first, where it has a key and all that pass have that: only
-/// those between it and the one before it that passes are asked.
+/// Whether a passing entry is the first that passes, where it has a key and all that pass have that
+/// key. Follows the list back to the nearest earlier entry that passes.
 pub(crate) fn is_first_under<K: Keying, Q: Question>(
     ways: &Ways,
     keying: &K,
@@ -274,7 +275,8 @@ pub(crate) fn is_first_under<K: Keying, Q: Question>(
     true
 }
 
-/// Whether an entry is the first that passes, where all that pass have its key if it passes.
+/// Whether an entry is the first that passes, where, if it passes and has a key, all that pass have
+/// that key.
 #[tactic(auto, using(crate::proofs::FirstOnes::fails_itself, crate::proofs::FirstOnes::none_before))]
 pub(crate) fn is_first<K: Keying, Q: Question>(
     ways: &Ways,
@@ -297,7 +299,7 @@ pub(crate) fn is_first<K: Keying, Q: Question>(
     }
 }
 
-/// Whether an entry is the first that passes: all before it are asked.
+/// Whether an entry is the first that passes. Tests all entries before it.
 #[tactic(auto, using(crate::proofs::FirstOnes::fails_itself, crate::proofs::FirstOnes::none_or_not, crate::proofs::FirstOnes::none_before))]
 pub(crate) fn is_first_of_all<Q: Question>(question: &Q, end: usize, entry: usize) -> bool
     requires { entry < end }

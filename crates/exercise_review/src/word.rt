@@ -1,4 +1,4 @@
-//! The words of answers, and which of several counts.
+//! The words of answers, and which of several answers counts.
 
 ghost use Rattle.std.specs.Prelude.{◌≡◌, ◌<◌, length, option_map, option_and_then, IfSome, None};
 ghost use Rattle.std.specs.Option.{option_or};
@@ -16,8 +16,8 @@ use exercise_model::ExerciseLog;
 use siman_pdus::BodyView;
 use std::fmt;
 
-/// What an answer says: the response flag of an Acknowledge, the request status of an Action
-/// Response, or that it is a Data.
+/// The word of an answer: the response flag of an Acknowledge, the request status of an Action
+/// Response, or Data.
 #[derive(Clone, Copy, PartialEq, Eq)]
 pub enum Word {
     /// Response flag 0, or request status 0.
@@ -71,8 +71,8 @@ impl Word {
         }
     }
 
-    /// The word of an answer with this body; `None` for all but an Acknowledge, an Action Response
-    /// and a Data.
+    /// Word of an answer with this body; `None` for all kinds but Acknowledge, Action Response and
+    /// Data.
     pub fn of(body: &BodyView<'_>) -> Option<Word>
         ensures { result ≡ word_of (body_of body.now) }
     {
@@ -85,7 +85,7 @@ impl Word {
     }
 }
 
-/// As `able` or `partially-complete`; a number without a name in decimal.
+/// Written as `able` or `partially-complete`; a number without a name in decimal.
 impl fmt::Display for Word {
     ghost use Rattle.std.specs.Prelude.{Some};
     ghost use Rattle.exercise_review.specs.Word.{word_text};
@@ -120,7 +120,7 @@ pub(crate) fn settles(body: &BodyView<'_>) -> bool
     }
 }
 
-/// The word of what an entry of a log sends or receives.
+/// Word of the PDU that an entry of a log sends or receives.
 #[tactic(auto, unfolding(crate::specs::Word::word_at))]
 pub(crate) fn word_in<L: ExerciseLog>(log: &L, entry: usize) -> Option<Word>
     ensures { result ≡ word_at (L.recording log.now) entry }
@@ -131,7 +131,7 @@ pub(crate) fn word_in<L: ExerciseLog>(log: &L, entry: usize) -> Option<Word>
     }
 }
 
-/// The word of what an entry sends or receives; `None` where that is no answer, and past the last
+/// Word of the PDU that an entry sends or receives; `None` if it is no answer, and past the last
 /// entry.
 pub fn word_at<L: ExerciseLog>(findings: &Register<'_, L>, entry: usize) -> Option<Word>
     ensures { result ≡ word_at findings.now entry }
@@ -139,7 +139,7 @@ pub fn word_at<L: ExerciseLog>(findings: &Register<'_, L>, entry: usize) -> Opti
     word_in(findings.log(), entry)
 }
 
-/// The word of an entry, if there is one.
+/// Word of an optional entry.
 pub(crate) fn word_of<L: ExerciseLog>(
     findings: &Register<'_, L>,
     entry: Option<usize>,
@@ -152,7 +152,7 @@ pub(crate) fn word_of<L: ExerciseLog>(
     }
 }
 
-/// Whether what an entry sends or receives settles the order that it answers.
+/// Whether an entry sends or receives an answer that settles its order.
 #[tactic(auto, unfolding(crate::specs::Word::settles_at))]
 pub(crate) fn settles_at<L: ExerciseLog>(findings: &Register<'_, L>, entry: usize) -> bool
     ensures { result ≡ settles_at findings.now entry }
@@ -163,7 +163,7 @@ pub(crate) fn settles_at<L: ExerciseLog>(findings: &Register<'_, L>, entry: usiz
     }
 }
 
-/// An entry whose word may count, if there is one, and its word.
+/// An optional entry whose word may count, and its word.
 #[derive(Clone, Copy)]
 pub(crate) struct Spoken {
     pub entry: Option<usize>,
@@ -182,7 +182,7 @@ impl Spoken {
         }
     }
 
-    /// An entry, if there is one, and its word.
+    /// An optional entry, with its word.
     pub(crate) fn at<L: ExerciseLog>(findings: &Register<'_, L>, entry: Option<usize>) -> Spoken
         ensures entry { result.entry ≡ entry }
         ensures word { IsSpoken findings.now result }
@@ -193,7 +193,7 @@ impl Spoken {
         }
     }
 
-    /// This one, or another where there is none.
+    /// This one, or `other` if this has no entry.
     pub(crate) fn or(self, other: Spoken) -> Spoken
         ensures entry { result.entry ≡ option_or self.entry other.entry }
         ensures word { (r : PlainRecording) → IsSpoken r self → IsSpoken r other → IsSpoken r result }
@@ -205,7 +205,7 @@ impl Spoken {
     }
 }
 
-/// Where entries pass and settle.
+/// The test whether an entry passes and settles.
 #[derive(Drop)]
 struct Settling<'a, L: ExerciseLog, Q: Question> {
     findings: &'a Register<'a, L>,
@@ -220,7 +220,7 @@ impl<L: ExerciseLog, Q: Question> Question for Settling<'_, L, Q> {
     }
 }
 
-/// The first entry that passes and settles, where all that pass have this key.
+/// First entry that passes and settles, where all that pass have this key.
 #[tactic(auto, unfolding(crate::specs::Word::first_settling), using(crate::proofs::Under::settling_under))]
 pub(crate) fn first_settling<L: ExerciseLog, Q: Question>(
     findings: &Register<'_, L>,
@@ -233,7 +233,7 @@ pub(crate) fn first_settling<L: ExerciseLog, Q: Question>(
     first_entry(findings, key, &Settling { findings, question })
 }
 
-/// The entry whose word counts among those that pass, where all of them have this key: the first that
+/// Entry whose word counts among those that pass, where all that pass have this key: the first that
 /// settles, else the last.
 #[tactic(auto, unfolding(crate::specs::Word::telling))]
 pub(crate) fn telling<L: ExerciseLog, Q: Question>(

@@ -1,4 +1,4 @@
-//! What a station sent under one key before an entry, and what its answers change.
+//! Acknowledgements of a station under one key, and the changes that its answers make.
 
 use crate::entries::sent_by;
 use crate::exchange::request_taken_up;
@@ -35,8 +35,8 @@ pub(crate) fn was_acknowledged<L: ExerciseLog>(
     false
 }
 
-/// What a PDU that a station sends at an entry changes: it is the first Able under its key, and
-/// answers the request that it takes up.
+/// The change that a PDU makes if a station sends it at an entry: it is the first Able under its
+/// key, and answers the request that it takes up.
 pub(crate) fn change_by<L: ExerciseLog>(
     log: &L,
     station: usize,
@@ -51,7 +51,7 @@ pub(crate) fn change_by<L: ExerciseLog>(
     Change::carried_out(pdu, &request)
 }
 
-/// What an entry of a station changes.
+/// The change that an entry of a station makes.
 pub(crate) fn change_made<L: ExerciseLog>(log: &L, station: usize, entry: usize) -> Option<Change> {
     let pdu = sent_by(log, station, entry)?;
     change_by(log, station, entry, &pdu)

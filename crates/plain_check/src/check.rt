@@ -1,11 +1,11 @@
-//! The checker.
+//! The checker of certificates.
 
 use crate::entries::{entry_at, is_own, station_of};
 use crate::judge::judge;
 use exercise_check::{Certificate, CheckFault, NO_LINK, Step};
 use exercise_model::{Cause, ExerciseLog};
 
-/// How many of a station's entries these steps name.
+/// Number of these steps that name an entry of a station.
 pub(crate) fn taken<L: ExerciseLog>(log: &L, steps: &[Step], station: usize) -> usize {
     let mut count = 0usize;
     for step in steps {
@@ -16,7 +16,7 @@ pub(crate) fn taken<L: ExerciseLog>(log: &L, steps: &[Step], station: usize) -> 
     count
 }
 
-/// How many of a station's entries stand before one.
+/// Number of a station's entries before an entry.
 pub(crate) fn entries_before<L: ExerciseLog>(log: &L, station: usize, before: usize) -> usize {
     let mut count = 0usize;
     for entry in 0..before {
@@ -27,7 +27,7 @@ pub(crate) fn entries_before<L: ExerciseLog>(log: &L, station: usize, before: us
     count
 }
 
-/// The first cause against a step after others.
+/// The first cause against a step, given the steps before it.
 fn step_cause<L: ExerciseLog>(log: &L, before: &[Step], step: Step) -> Option<Cause> {
     let place = step.place as usize;
     let Some(entry) = entry_at(log, place) else {
@@ -49,8 +49,8 @@ fn step_cause<L: ExerciseLog>(log: &L, before: &[Step], step: Step) -> Option<Ca
     }
 }
 
-/// Checks a certificate against the logs of an exercise: a yes, or the first bad step and the first
-/// cause that holds there. It takes no memory, and never answers Memory.
+/// Checks a certificate against the logs of an exercise. Returns the first bad step with the first
+/// cause that holds there. Allocates no memory, and never returns `Memory`.
 pub fn plain_check<L: ExerciseLog>(log: &L, certificate: &Certificate) -> Result<(), CheckFault> {
     let steps = certificate.steps.as_slice();
     if steps.len() != log.entry_count() {

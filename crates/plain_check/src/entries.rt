@@ -1,10 +1,10 @@
-//! The entries of a recording, and what they send and receive.
+//! Reads the entries of a recording and the PDUs that they send and receive.
 
 use dis_records::Address;
 use exercise_model::{EntryView, ExerciseLog, meaning_view};
 use siman_pdus::PduView;
 
-/// The entry of a number, if there is one.
+/// The entry with this number; `None` past the last.
 pub(crate) fn entry_at<L: ExerciseLog>(log: &L, entry: usize) -> Option<EntryView<'_>> {
     if entry < log.entry_count() {
         Some(log.entry(entry))
@@ -13,7 +13,7 @@ pub(crate) fn entry_at<L: ExerciseLog>(log: &L, entry: usize) -> Option<EntryVie
     }
 }
 
-/// The address of a station, if there is one of this number.
+/// Address of a station; `None` past the last.
 pub(crate) fn address_of<L: ExerciseLog>(log: &L, station: usize) -> Option<Address> {
     if station < log.station_count() {
         Some(log.station(station).address())
@@ -31,7 +31,7 @@ pub(crate) fn station_of(entry: &EntryView<'_>) -> usize {
     }
 }
 
-/// Whether an entry is one of a station.
+/// Whether an entry belongs to a station.
 pub(crate) fn is_own<L: ExerciseLog>(log: &L, station: usize, entry: usize) -> bool {
     match entry_at(log, entry) {
         Some(found) => station_of(&found) == station,
@@ -39,7 +39,7 @@ pub(crate) fn is_own<L: ExerciseLog>(log: &L, station: usize, entry: usize) -> b
     }
 }
 
-/// What an entry of a station sends, if it sends something that is not "other".
+/// The PDU that an entry of a station sends, unless the datagram is "other".
 pub(crate) fn sent_by<L: ExerciseLog>(
     log: &L,
     station: usize,
@@ -55,7 +55,7 @@ pub(crate) fn sent_by<L: ExerciseLog>(
     }
 }
 
-/// What an entry of a station receives, if it receives something that is not "other".
+/// The PDU that an entry of a station receives, unless the datagram is "other".
 pub(crate) fn received_by<L: ExerciseLog>(
     log: &L,
     station: usize,
@@ -79,7 +79,7 @@ pub(crate) fn bytes_at<L: ExerciseLog>(log: &L, entry: usize) -> Option<&[u8]> {
     }
 }
 
-/// What an entry sends or receives, if that is not "other".
+/// The PDU that an entry sends or receives, unless the datagram is "other".
 pub(crate) fn meant_at<L: ExerciseLog>(log: &L, entry: usize) -> Option<PduView<'_>> {
     meaning_view(log.exercise(), bytes_at(log, entry)?)
 }

@@ -1,11 +1,11 @@
-//! Which request an answer takes up.
+//! The request that an answer takes up.
 
 use crate::entries::{address_of, received_by};
 use exercise_model::{ExerciseLog, is_asked};
 use siman_pdus::PduView;
 
-/// The request that an answer of a station takes up, with its entry: the first that the station
-/// received before an entry.
+/// The request that an answer of a station takes up, with its entry: the first matching request
+/// that the station received before an entry.
 pub(crate) fn request_taken_up<'a, L: ExerciseLog>(
     log: &'a L,
     station: usize,

@@ -1,4 +1,4 @@
-//! Why the event of an entry may not happen next, and with which entry its step links.
+//! Judges whether the event of an entry can happen next, and with which entry its step links.
 
 use crate::change::{change_by, was_acknowledged};
 use crate::entries::{address_of, entry_at, sent_by};
@@ -12,10 +12,10 @@ use exercise_model::{
 };
 use siman_pdus::{ABLE, PduView, UNABLE, answers, is_request, is_under_identifier, same_order};
 
-/// The entry that a step links with, if it links with one, or the first cause against it.
+/// The entry that a step links with, if any, or the first cause against it.
 pub(crate) type Judgement = Result<Option<usize>, Cause>;
 
-/// Whether a PDU is a request under the request identifier of another one, and not the same order.
+/// Whether a PDU is a request under the request identifier of another request, and another order.
 fn is_other_order(request: &PduView<'_>, other: &PduView<'_>) -> bool {
     is_request(other) && is_under_identifier(request, other) && !same_order(request, other)
 }
@@ -56,7 +56,7 @@ fn is_changed_answer<L: ExerciseLog>(
     }
 }
 
-/// Whether a change can't be made at an entry of a station.
+/// Whether a change is impossible at an entry of a station.
 fn is_hopeless<L: ExerciseLog>(log: &L, station: usize, before: usize, change: Change) -> bool {
     match change.scope {
         Scope::One(entity) => {
@@ -113,7 +113,7 @@ fn judge_sent<L: ExerciseLog>(
     }
 }
 
-/// The first recorded station that a PDU comes from.
+/// The first recorded station that is the origin of a PDU.
 pub(crate) fn sender_of<L: ExerciseLog>(log: &L, pdu: &PduView<'_>) -> Option<usize> {
     for station in 0..log.station_count() {
         if is_from(log.station(station).address(), pdu) {

@@ -1,12 +1,16 @@
-//! The checker, the search and the review as the definitions say them: at each question the steps and
-//! the entries are looked through anew, and nothing is kept. They are the yardstick of the tests:
-//! [`plain_check`] is to answer as `exercise_check::check`, [`plain_audit`] as
-//! `exercise_audit::audit`, and the reports as `Checked`; [`plain_review`] as
+//! Plain versions of the checker, the search and the review, written as the definitions say: each
+//! question searches the steps and the entries from the start. The tests compare the fast versions
+//! with these: [`plain_check`] with `exercise_check::check`, [`plain_audit`] with
+//! `exercise_audit::audit`, the reports with `Checked`, [`plain_review`] with
 //! `exercise_review::review_of`, and [`plain_head`], [`plain_source`], [`plain_receipts`],
-//! [`plain_missing`] and [`plain_lives`] as what that crate and `exercise_findings` say of single
-//! entries and entities. No theorem rests on them. Each function is proved to be safe and to end, and
-//! takes every number; past the last entry or station there is nothing. The time grows with a power of
-//! the entries, the third and more, so they are for small recordings.
+//! [`plain_missing`] and [`plain_lives`] with what that crate and `exercise_findings` compute for
+//! single entries and entities.
+//!
+//! They never store results between questions, and their time is at least cubic in the number of
+//! entries, so they are for small recordings.
+//!
+//! No theorem depends on them; the layer above may use only that each function is proved to be safe
+//! and to end for every number, where past the last entry or station there is nothing.
 #![tactic(auto)]
 
 mod change;

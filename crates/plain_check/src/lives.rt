@@ -1,4 +1,4 @@
-//! How the entities of a recording lived.
+//! The lives of the entities of a recording.
 
 use crate::entries::meant_at;
 use crate::outcomes::stamp_of;
@@ -11,7 +11,7 @@ use exercise_review::{Span, Stretch};
 use siman_pdus::request_id;
 use std::alloc::{AllocError, Global};
 
-/// Adds a stretch, unless it is one in which the entity is Absent.
+/// Adds a stretch, unless its state is Absent.
 fn push_stretch(
     stretches: &mut Vec<Stretch>,
     state: EntityState,
@@ -24,8 +24,8 @@ fn push_stretch(
     Ok(())
 }
 
-/// The stretches of an entity's life, in a state at the start and by the changes of its station: each
-/// ends where the state becomes another one.
+/// The stretches of an entity's life, given its state at the start and the changes of its station.
+/// Each ends at the change to another state.
 fn stretches_by(
     alloc: Global,
     entity: u16,
@@ -46,7 +46,7 @@ fn stretches_by(
     Ok(stretches)
 }
 
-/// How an entity of a station lived.
+/// The life of an entity of a station.
 pub fn plain_lives<L: ExerciseLog>(
     alloc: Global,
     log: &L,
@@ -61,7 +61,7 @@ pub fn plain_lives<L: ExerciseLog>(
     stretches_by(alloc, entity, state, &changes)
 }
 
-/// A stretch of an entity's life, as it is told.
+/// A span of an entity's life, from its stretch.
 fn span_of<L: ExerciseLog>(log: &L, entity: EntityId, stretch: Stretch) -> Span {
     let behind = match stretch.from {
         Some(entry) => plain_pair(log, entry),
@@ -87,7 +87,7 @@ fn span_of<L: ExerciseLog>(log: &L, entity: EntityId, stretch: Stretch) -> Span 
     }
 }
 
-/// Adds the stretches of an entity's life, as they are told.
+/// Adds the spans of an entity's life.
 fn push_spans<L: ExerciseLog>(
     log: &L,
     spans: &mut Vec<Span>,
@@ -100,7 +100,7 @@ fn push_spans<L: ExerciseLog>(
     Ok(())
 }
 
-/// Adds the stretches of the lives of a station's entities in `1..=most`.
+/// Adds the spans of the lives of a station's entities in `1..=most`.
 pub(crate) fn push_lives<L: ExerciseLog>(
     alloc: Global,
     log: &L,

@@ -1,4 +1,4 @@
-//! Where what was received comes from, how often what was sent was received, and what no log sends.
+//! Sources of received datagrams, receipts of sent ones, and sends that no log has.
 
 use crate::entries::entry_at;
 use crate::exchange::request_taken_up;
@@ -20,7 +20,7 @@ fn first_send<L: ExerciseLog>(log: &L, sender: usize, datagram: &[u8]) -> Option
     None
 }
 
-/// What an entry receives.
+/// The bytes that an entry receives.
 fn bytes_got<L: ExerciseLog>(log: &L, entry: usize) -> Option<&[u8]> {
     match entry_at(log, entry)? {
         EntryView::Received { bytes, .. } => Some(bytes),
@@ -28,15 +28,15 @@ fn bytes_got<L: ExerciseLog>(log: &L, entry: usize) -> Option<&[u8]> {
     }
 }
 
-/// For a datagram that was received from a recorded station, the first entry of that station that
-/// sends the same bytes.
+/// For a datagram received from a recorded station, the first entry of that station that sends
+/// these bytes.
 pub fn plain_source<L: ExerciseLog>(log: &L, entry: usize) -> Option<usize> {
     let bytes = bytes_got(log, entry)?;
     let sender = sender_of(log, &meaning_view(log.exercise(), bytes)?)?;
     first_send(log, sender, bytes)
 }
 
-/// How many entries have an entry as their source.
+/// Number of entries that have an entry as their source.
 pub fn plain_receipts<L: ExerciseLog>(log: &L, entry: usize) -> usize {
     let mut count = 0usize;
     for other in 0..log.entry_count() {
@@ -47,7 +47,7 @@ pub fn plain_receipts<L: ExerciseLog>(log: &L, entry: usize) -> usize {
     count
 }
 
-/// Whether an entry before one receives these bytes.
+/// Whether any entry before this one receives these bytes.
 fn is_received_before<L: ExerciseLog>(log: &L, before: usize, datagram: &[u8]) -> bool {
     for entry in 0..before {
         if bytes_got(log, entry) == Some(datagram) {
@@ -57,8 +57,8 @@ fn is_received_before<L: ExerciseLog>(log: &L, before: usize, datagram: &[u8]) -
     false
 }
 
-/// The send that is missing by an entry: the entry is the first that receives a datagram of a recorded
-/// station, which that station does not send.
+/// The missing send that an entry reveals: the entry is the first to receive a datagram of a
+/// recorded station that this station does not send.
 pub fn plain_missing<L: ExerciseLog>(log: &L, entry: usize) -> Option<Missing> {
     let bytes = bytes_got(log, entry)?;
     let pdu = meaning_view(log.exercise(), bytes)?;

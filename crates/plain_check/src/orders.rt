@@ -1,4 +1,4 @@
-//! Orders, each told by the entry at which it first stands.
+//! Orders, each identified by its head: its first entry.
 
 use crate::entries::{address_of, entry_at, meant_at, received_by, sent_by};
 use crate::judge::sender_of;
@@ -7,7 +7,8 @@ use exercise_model::{EntryView, ExerciseLog, Form};
 use exercise_review::Order;
 use siman_pdus::{PduView, is_request, is_under_identifier, same_order};
 
-/// Whether a PDU comes from a station that took part and that nobody recorded.
+/// Whether the origin of a PDU is outside: the recording is open, and no recorded station is the
+/// origin.
 pub(crate) fn is_outside<L: ExerciseLog>(log: &L, pdu: &PduView<'_>) -> bool {
     log.form() == Form::Open && sender_of(log, pdu).is_none()
 }
@@ -109,8 +110,8 @@ pub(crate) fn copies_of<L: ExerciseLog>(
     (count, first)
 }
 
-/// The order that an entry sends from its station, or that it receives from outside for a recorded
-/// station, with its head: the first entry that sends it there, or the first that receives it.
+/// The order that an entry sends from its station, or receives from outside for a recorded station.
+/// Its head is the first entry that sends it there, or the first that receives it.
 fn order_with<L: ExerciseLog>(log: &L, entry: usize) -> Option<Order<'_>> {
     let request = meant_at(log, entry)?;
     if !is_request(&request) {
@@ -135,7 +136,7 @@ fn order_with<L: ExerciseLog>(log: &L, entry: usize) -> Option<Order<'_>> {
     })
 }
 
-/// The entry at which the order of an entry first stands, if it has one.
+/// Head of the order of an entry, if it has one.
 pub fn plain_head<L: ExerciseLog>(log: &L, entry: usize) -> Option<usize> {
     match order_with(log, entry) {
         Some(order) => Some(order.head),
@@ -143,7 +144,7 @@ pub fn plain_head<L: ExerciseLog>(log: &L, entry: usize) -> Option<usize> {
     }
 }
 
-/// The order that first stands at an entry, if one does.
+/// The order whose head is this entry, if any.
 pub(crate) fn order_at<L: ExerciseLog>(log: &L, entry: usize) -> Option<Order<'_>> {
     match order_with(log, entry) {
         Some(order) if order.head == entry => Some(order),

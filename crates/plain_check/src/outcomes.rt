@@ -1,4 +1,4 @@
-//! What became of an order at each of its parties.
+//! The outcome of an order at each of its parties.
 
 use crate::change::change_made;
 use crate::entries::entry_at;
@@ -10,7 +10,7 @@ use exercise_review::{Fate, Order, OrderAt, Outcome, Outsider, Party, Word};
 use siman_pdus::{Message, request_id};
 use std::alloc::{AllocError, Global};
 
-/// The stamp of an entry, if there is one.
+/// Stamp of an optional entry.
 pub(crate) fn stamp_of<L: ExerciseLog>(log: &L, entry: Option<usize>) -> Option<u64> {
     match entry_at(log, entry?)? {
         EntryView::Sent { stamp, .. } | EntryView::Received { stamp, .. } => Some(stamp),
@@ -18,7 +18,7 @@ pub(crate) fn stamp_of<L: ExerciseLog>(log: &L, entry: Option<usize>) -> Option<
     }
 }
 
-/// How long it took from an entry to another by the clock of their station, unless that was set back.
+/// Time between two entries by the clock of their station; `None` if that was set back.
 fn took<L: ExerciseLog>(log: &L, first: usize, last: Option<usize>) -> Option<u64> {
     let (from, until) = (stamp_of(log, Some(first))?, stamp_of(log, last)?);
     if from <= until {
@@ -28,8 +28,8 @@ fn took<L: ExerciseLog>(log: &L, first: usize, last: Option<usize>) -> Option<u6
     }
 }
 
-/// The fate of an order, which was received at a party or not, of which this was replied there, and
-/// heard of that by its maker.
+/// Fate of an order at a party, given whether the party received it, its replies, and their
+/// receipts at the maker.
 fn fate_of<L: ExerciseLog>(
     log: &L,
     order: &Order<'_>,
@@ -51,7 +51,7 @@ fn fate_of<L: ExerciseLog>(
     }
 }
 
-/// The first of these entries of a station that changes something.
+/// The first of these entries of a station that makes a change.
 fn first_changing<L: ExerciseLog>(log: &L, station: u16, entries: &[usize]) -> Option<usize> {
     for entry in entries {
         if change_made(log, usize::from(station), *entry).is_some() {
@@ -61,7 +61,7 @@ fn first_changing<L: ExerciseLog>(log: &L, station: u16, entries: &[usize]) -> O
     None
 }
 
-/// What is told of an order that has no party.
+/// The outcome of an order without parties.
 fn outcome_nowhere<L: ExerciseLog>(log: &L, order: &Order<'_>) -> Outcome {
     Outcome {
         party: None,
@@ -81,7 +81,8 @@ fn outcome_nowhere<L: ExerciseLog>(log: &L, order: &Order<'_>) -> Outcome {
     }
 }
 
-/// What is told of an order at a recorded station, which replied this, of which its maker heard that.
+/// The outcome of an order at a recorded station, given its replies and their receipts at the
+/// maker.
 fn outcome_by<L: ExerciseLog>(
     log: &L,
     order: &Order<'_>,
@@ -104,7 +105,7 @@ fn outcome_by<L: ExerciseLog>(
     outcome
 }
 
-/// The same, with what it replied and what was heard of that.
+/// The outcome of an order at a recorded station.
 fn outcome_here<L: ExerciseLog>(
     alloc: Global,
     log: &L,
@@ -118,7 +119,7 @@ fn outcome_here<L: ExerciseLog>(
     }
 }
 
-/// What is told of an order at an address that nobody recorded.
+/// The outcome of an order at an address of no recorded station.
 fn outcome_outside<L: ExerciseLog>(
     alloc: Global,
     log: &L,
@@ -135,7 +136,7 @@ fn outcome_outside<L: ExerciseLog>(
     Ok(outcome)
 }
 
-/// An order at a party, or at none, as it is told.
+/// An order with its outcome at a party, or without a party.
 fn order_told<L: ExerciseLog>(
     alloc: Global,
     log: &L,
@@ -164,7 +165,7 @@ fn order_told<L: ExerciseLog>(
     })
 }
 
-/// Adds an order at each of these parties, or once where there is none.
+/// Adds an order at each of these parties, or once if there are none.
 fn push_at<L: ExerciseLog>(
     alloc: Global,
     log: &L,
@@ -181,7 +182,7 @@ fn push_at<L: ExerciseLog>(
     Ok(())
 }
 
-/// Adds an order at each of its parties, or once where it has none.
+/// Adds an order at each of its parties, or once if it has none.
 pub(crate) fn push_order<L: ExerciseLog>(
     alloc: Global,
     log: &L,

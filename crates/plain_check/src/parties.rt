@@ -1,4 +1,4 @@
-//! The parties of an order: whom it is for, and who answered it from outside.
+//! The parties of an order: the stations that it is for, and the unrecorded ones that answered it.
 
 use crate::entries::{address_of, received_by};
 use crate::orders::{copies_of, is_first_under_id, is_meant, is_outside};
@@ -8,7 +8,7 @@ use exercise_review::{Order, Outsider, Party};
 use siman_pdus::answers;
 use std::alloc::{AllocError, Global};
 
-/// The site and the application of an identifier.
+/// Site and application of an identifier.
 pub(crate) fn outsider_at(id: EntityId) -> Outsider {
     Outsider {
         site: id.site,
@@ -16,7 +16,7 @@ pub(crate) fn outsider_at(id: EntityId) -> Outsider {
     }
 }
 
-/// The site and the application of a recorded station; 0 and 0 past the last.
+/// Site and application of a recorded station; 0 and 0 past the last.
 pub(crate) fn station_address<L: ExerciseLog>(log: &L, station: u16) -> Outsider {
     match address_of(log, usize::from(station)) {
         Some(address) => Outsider {
@@ -30,7 +30,7 @@ pub(crate) fn station_address<L: ExerciseLog>(log: &L, station: u16) -> Outsider
     }
 }
 
-/// The site and the application of a party.
+/// Site and application of a party.
 pub(crate) fn party_address<L: ExerciseLog>(log: &L, party: Party) -> Outsider {
     match party {
         Party::Station(station) => station_address(log, station),
@@ -39,7 +39,7 @@ pub(crate) fn party_address<L: ExerciseLog>(log: &L, party: Party) -> Outsider {
 }
 
 /// Whether a recorded station is a party of an order: it is addressed, and if it made the order it
-/// received it too.
+/// also received it.
 fn is_party<L: ExerciseLog>(log: &L, order: &Order<'_>, station: u16) -> bool {
     if !is_meant(log, &order.request, usize::from(station)) {
         return false;
@@ -48,8 +48,8 @@ fn is_party<L: ExerciseLog>(log: &L, order: &Order<'_>, station: u16) -> bool {
     order.maker != Some(station) || copies > 0
 }
 
-/// From where outside the maker of an order is told of it at an entry: it receives an answer to it there,
-/// after it sent the order, the first under its identifier.
+/// The address outside from which the maker of an order receives an answer to it at an entry after
+/// its head. `None` unless the order is the first of its maker under its identifier.
 fn told_at<L: ExerciseLog>(log: &L, order: &Order<'_>, entry: usize) -> Option<Outsider> {
     let maker = order.maker?;
     let pdu = received_by(log, usize::from(maker), entry)?;
@@ -64,7 +64,7 @@ fn told_at<L: ExerciseLog>(log: &L, order: &Order<'_>, entry: usize) -> Option<O
     }
 }
 
-/// The entries at which the maker of an order is told of it from an address outside.
+/// The entries at which the maker of an order receives an answer to it from an address outside.
 pub(crate) fn told_from<L: ExerciseLog>(
     alloc: Global,
     log: &L,
@@ -90,7 +90,7 @@ fn is_recorded_at<L: ExerciseLog>(log: &L, address: Address) -> bool {
     false
 }
 
-/// Adds a party, if it is not there yet, before the first with a higher address.
+/// Adds a party before the first with a higher address, unless its address is in the list.
 fn push_party<L: ExerciseLog>(
     log: &L,
     parties: &mut Vec<Party>,
@@ -113,7 +113,7 @@ fn push_party<L: ExerciseLog>(
     Ok(())
 }
 
-/// Adds the addresses outside that an order names, or from which its maker was told of it.
+/// Adds the address outside that an order names, and those from which its maker received an answer.
 fn push_outsiders<L: ExerciseLog>(
     log: &L,
     order: &Order<'_>,
@@ -134,7 +134,7 @@ fn push_outsiders<L: ExerciseLog>(
     Ok(())
 }
 
-/// The parties of an order, by rising addresses.
+/// The parties of an order, by rising address.
 pub(crate) fn parties_of<L: ExerciseLog>(
     alloc: Global,
     log: &L,

@@ -1,4 +1,5 @@
-//! What a party replied to an order, what its maker heard of that, and which of several answers counts.
+//! The replies of a party to an order, their receipts by its maker, and which of several answers
+//! counts.
 
 use crate::entries::{bytes_at, meant_at, received_by, sent_by};
 use crate::report::plain_pair;
@@ -7,7 +8,7 @@ use exercise_review::{Order, Word};
 use siman_pdus::{BodyView, answers, same_order};
 use std::alloc::{AllocError, Global};
 
-/// Whether a station sends at an entry an answer to an order, which takes up a copy of it.
+/// Whether a station sends, at an entry, an answer to an order that takes up a copy of it.
 fn is_reply<L: ExerciseLog>(log: &L, order: &Order<'_>, station: usize, entry: usize) -> bool {
     let (Some(answer), Some(pair)) = (sent_by(log, station, entry), plain_pair(log, entry)) else {
         return false;
@@ -66,7 +67,7 @@ pub(crate) fn news_of<L: ExerciseLog>(
     Ok(news)
 }
 
-/// The word of what an entry sends or receives, if there is one.
+/// Word of the PDU that an optional entry sends or receives.
 pub(crate) fn word_of<L: ExerciseLog>(log: &L, entry: Option<usize>) -> Option<Word> {
     let pdu = meant_at(log, entry?)?;
     match pdu.body {
@@ -89,7 +90,7 @@ pub(crate) fn word_of<L: ExerciseLog>(log: &L, entry: Option<usize>) -> Option<W
     }
 }
 
-/// Whether what an entry sends or receives settles the order that it answers.
+/// Whether an entry sends or receives an answer that settles its order.
 fn settles<L: ExerciseLog>(log: &L, entry: usize) -> bool {
     match meant_at(log, entry) {
         Some(pdu) => match pdu.body {
@@ -112,7 +113,7 @@ pub(crate) fn first_settling<L: ExerciseLog>(log: &L, entries: &[usize]) -> Opti
     None
 }
 
-/// Which of these entries counts: the first that settles, else the last.
+/// The entry that counts among these: the first that settles, else the last.
 pub(crate) fn telling<L: ExerciseLog>(log: &L, entries: &[usize]) -> Option<usize> {
     match first_settling(log, entries) {
         Some(entry) => Some(entry),

@@ -1,4 +1,4 @@
-//! What a recording says, read from each station's log alone.
+//! Reports on a recording, computed from each station's log alone.
 
 use crate::change::{acknowledges, change_made};
 use crate::entries::entry_at;
@@ -12,7 +12,7 @@ use exercise_model::{
 use siman_pdus::ABLE;
 use std::alloc::{AllocError, Global};
 
-/// For an answer that was sent, the entry of the request that it takes up.
+/// For a sent answer, the entry of the request that it takes up.
 pub fn plain_pair<L: ExerciseLog>(log: &L, entry: usize) -> Option<usize> {
     let EntryView::Sent { station, bytes, .. } = entry_at(log, entry)? else {
         return None;
@@ -35,7 +35,7 @@ fn first_able<L: ExerciseLog>(log: &L, key: &AcknowledgeKey, station: usize) -> 
     None
 }
 
-/// For an Able that was received, the entry of the first Able that its sender sent under its key.
+/// For a received Able, the entry of the first Able that its sender sent under its key.
 pub fn plain_cause<L: ExerciseLog>(log: &L, entry: usize) -> Option<usize> {
     let EntryView::Received { bytes, .. } = entry_at(log, entry)? else {
         return None;
@@ -58,7 +58,7 @@ fn is_other<L: ExerciseLog>(log: &L, entry: usize) -> bool {
     }
 }
 
-/// How many datagrams are "other".
+/// Number of datagrams that are "other".
 pub fn plain_others<L: ExerciseLog>(log: &L) -> u32 {
     let mut others = 0u32;
     for entry in 0..log.entry_count() {
@@ -69,7 +69,7 @@ pub fn plain_others<L: ExerciseLog>(log: &L) -> u32 {
     others
 }
 
-/// The changes of a station's log with their entries, in their order.
+/// The changes of a station with their entries, in order.
 pub(crate) fn changes<L: ExerciseLog>(
     alloc: Global,
     log: &L,
@@ -84,7 +84,8 @@ pub(crate) fn changes<L: ExerciseLog>(
     Ok(changes)
 }
 
-/// The entities of a station in `1..=most` that are not Absent after its log, by rising numbers.
+/// The entities of a station in `1..=most` that are not Absent after its log, with their states, by
+/// rising number.
 pub fn plain_states<L: ExerciseLog>(
     alloc: Global,
     log: &L,

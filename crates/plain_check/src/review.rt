@@ -1,4 +1,4 @@
-//! What is told of a whole recording.
+//! The review of a whole recording.
 
 use crate::check::entries_before;
 use crate::lives::push_lives;
@@ -11,7 +11,7 @@ use exercise_model::ExerciseLog;
 use exercise_review::{Fate, FateCounts, OrderAt, Party, Review, Span, StationCounts};
 use std::alloc::{AllocError, Global};
 
-/// How many of these orders at their parties have a fate, of all or of those at one station.
+/// Number of these orders at their parties with a fate, in all or at one station.
 fn fated(told: &[OrderAt], station: Option<u16>, fate: Fate) -> usize {
     let mut count = 0usize;
     for at in told {
@@ -26,7 +26,7 @@ fn fated(told: &[OrderAt], station: Option<u16>, fate: Fate) -> usize {
     count
 }
 
-/// How many of these orders at their parties have each fate, of all or of those at one station.
+/// Number of these orders at their parties with each fate, in all or at one station.
 fn fates_of(told: &[OrderAt], station: Option<u16>) -> FateCounts {
     FateCounts {
         done: fated(told, station, Fate::Done),
@@ -41,7 +41,7 @@ fn fates_of(told: &[OrderAt], station: Option<u16>) -> FateCounts {
     }
 }
 
-/// How many orders a station made, or all made.
+/// Number of orders that a station made, or of all orders.
 fn made_by<L: ExerciseLog>(log: &L, station: Option<u16>) -> usize {
     let mut count = 0usize;
     for entry in 0..log.entry_count() {
@@ -55,7 +55,7 @@ fn made_by<L: ExerciseLog>(log: &L, station: Option<u16>) -> usize {
     count
 }
 
-/// How many of these entities are Running.
+/// Number of these entities that are Running.
 fn running(states: &[(u16, EntityState)]) -> usize {
     let mut count = 0usize;
     for (_, state) in states {
@@ -66,7 +66,7 @@ fn running(states: &[(u16, EntityState)]) -> usize {
     count
 }
 
-/// What is counted of a station, no entity of which is above `most`.
+/// Counts of a station whose entity numbers are at most `most`.
 fn station_counts<L: ExerciseLog>(
     alloc: Global,
     log: &L,
@@ -85,7 +85,7 @@ fn station_counts<L: ExerciseLog>(
     })
 }
 
-/// What is told of each order at its parties.
+/// Each order of a recording at its parties.
 fn told_of<L: ExerciseLog>(alloc: Global, log: &L) -> Result<Vec<OrderAt>, AllocError> {
     let mut told = Vec::new(alloc);
     for entry in 0..log.entry_count() {
@@ -96,7 +96,7 @@ fn told_of<L: ExerciseLog>(alloc: Global, log: &L) -> Result<Vec<OrderAt>, Alloc
     Ok(told)
 }
 
-/// What is counted of each station.
+/// Counts of each station.
 fn stations_of<L: ExerciseLog>(
     alloc: Global,
     log: &L,
@@ -112,7 +112,7 @@ fn stations_of<L: ExerciseLog>(
     Ok(stations)
 }
 
-/// How the entities of each station lived.
+/// The spans of the lives of each station's entities.
 fn spans_of<L: ExerciseLog>(alloc: Global, log: &L, most: u16) -> Result<Vec<Span>, AllocError> {
     let mut spans = Vec::new(alloc);
     for station in 0..log.station_count() {
@@ -123,8 +123,7 @@ fn spans_of<L: ExerciseLog>(alloc: Global, log: &L, most: u16) -> Result<Vec<Spa
     Ok(spans)
 }
 
-/// What is told of a recording, in which no entity is above `most`. It never says that it takes too
-/// many lines.
+/// The review of a recording whose entity numbers are at most `most`. Has no limit of rows.
 pub fn plain_review<L: ExerciseLog>(
     alloc: Global,
     log: &L,

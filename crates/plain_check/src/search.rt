@@ -1,4 +1,4 @@
-//! The search.
+//! The search for a sequence that explains a recording.
 
 use crate::check::taken;
 use crate::entries::{entry_at, is_own};
@@ -45,7 +45,7 @@ fn next_step<L: ExerciseLog>(
     Some((place, step))
 }
 
-/// Lets each station take one step, if it can.
+/// Adds one step for each station whose next entry can happen.
 fn sweep<L: ExerciseLog>(log: &L, steps: &mut Vec<Step>) -> Result<(), AllocError> {
     for station in 0..log.station_count() {
         if let Some((_, Ok(step))) = next_step(log, steps, station) {
@@ -55,7 +55,7 @@ fn sweep<L: ExerciseLog>(log: &L, steps: &mut Vec<Step>) -> Result<(), AllocErro
     Ok(())
 }
 
-/// What stands in the way of each station that has entries left.
+/// The next entry and the first cause against it, for each station whose next entry cannot happen.
 fn blocks<L: ExerciseLog>(
     alloc: Global,
     log: &L,
@@ -74,7 +74,7 @@ fn blocks<L: ExerciseLog>(
     Ok(blocks)
 }
 
-/// The steps that the stations can take, one each in turn, until none can go on.
+/// The steps that the stations can take, one each in turn, until no station can continue.
 pub fn plain_steps<L: ExerciseLog>(alloc: Global, log: &L) -> Result<Vec<Step>, AllocError> {
     let mut steps = Vec::new(alloc);
     // Each sweep adds a step at least, or no later one does.
@@ -84,8 +84,8 @@ pub fn plain_steps<L: ExerciseLog>(alloc: Global, log: &L) -> Result<Vec<Step>, 
     Ok(steps)
 }
 
-/// Looks for an order that explains a recording. It finds one exactly where there is one; which it
-/// finds is not said.
+/// Searches for a sequence that explains a recording. Finds one exactly if one exists; which one is
+/// not specified.
 pub fn plain_audit<L: ExerciseLog>(alloc: Global, log: &L) -> Result<Audit, AllocError> {
     let steps = plain_steps(alloc, log)?;
     if steps.len() == log.entry_count() {

@@ -13,7 +13,7 @@ pub(crate) fn opening_state<L: ExerciseLog>(log: &L, station: usize, entity: u16
     }
 }
 
-/// The state of an entity of a station before an entry, Absent where no entity has this number.
+/// The state of an entity of a station before an entry; Absent if no entity can have this number.
 pub(crate) fn state_before<L: ExerciseLog>(
     log: &L,
     station: usize,

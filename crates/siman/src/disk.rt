@@ -1,4 +1,4 @@
-//! What the operating system has: its files, and its sockets.
+//! The operating system's files and sockets, as the `Outside` of the commands.
 
 use crate::part::{Part, begin_part};
 use crate::sockets::{line_at, lines_of};
@@ -10,29 +10,29 @@ use std::io::{ErrorKind, Read, Seek, SeekFrom, Stdin, Write};
 use std::os::unix::fs::MetadataExt;
 use std::{fs, io};
 
-/// The device and the number of a file: the same for each of its names.
+/// Device and inode number of a file: one value for all of its names.
 pub(crate) type Identity = (u64, u64);
 
 pub(crate) fn identity(known: &Metadata) -> Identity {
     (known.dev(), known.ino())
 }
 
-/// Whether a file is one of these.
+/// Whether `opened` contains the identity of a file.
 pub(crate) fn is_among(opened: &[Identity], known: &Metadata) -> bool {
     opened.contains(&identity(known))
 }
 
-/// A file that was made.
+/// A file that is made and written.
 #[derive(Drop)]
 pub(crate) struct MadeFile {
     file: File,
-    /// Where it stands until it takes its name; nothing where it is written as it stands there.
+    /// The temporary path and final name; `None` for a file that is written in place.
     part: Option<Part>,
-    /// What the system said of the write that failed last.
+    /// The error of the write that failed last.
     failed: Option<ErrorKind>,
 }
 
-/// A device, a pipe, a socket or a file that was created, which is written as it stands.
+/// A file that is written in place: a device, a pipe, a socket, or a file created for it.
 fn in_place(file: File) -> MadeFile {
     MadeFile {
         file,
@@ -42,7 +42,7 @@ fn in_place(file: File) -> MadeFile {
 }
 
 impl MadeFile {
-    /// Keeps what the system said of a write, where that failed.
+    /// Records the error of a failed write.
     fn keep<T>(&mut self, written: &io::Result<T>) {
         if let Err(error) = written {
             self.failed = Some(error.kind());
@@ -69,12 +69,12 @@ impl Write for MadeFile {
     }
 }
 
-/// The word for standard input, and the path of that.
+/// The word for standard input, and the path at which its metadata is read.
 const INPUT: &str = "-";
 
 const INPUT_PATH: &str = "/dev/stdin";
 
-/// A file that is read: one that was opened by its name, or standard input.
+/// An open input: a file opened by its name, or standard input.
 #[derive(Drop)]
 pub(crate) enum Source {
     Named(File),
@@ -90,7 +90,7 @@ impl Read for Source {
     }
 }
 
-/// The disk, which files were opened, and what is known of that.
+/// The disk, the files opened so far, and the knowledge by which faults are explained.
 #[derive(Drop)]
 pub(crate) struct Disk<'a> {
     rt: &'a HostRuntime,
@@ -98,7 +98,7 @@ pub(crate) struct Disk<'a> {
     known: Known,
 }
 
-/// The disk, of which no file was opened.
+/// The disk, with no file opened yet.
 pub(crate) fn disk_of(rt: &HostRuntime) -> Disk<'_> {
     Disk {
         rt,
@@ -107,10 +107,11 @@ pub(crate) fn disk_of(rt: &HostRuntime) -> Disk<'_> {
     }
 }
 
-/// How many bytes of a file are looked at to tell its kind.
+/// Number of bytes of a file that are read to recognize its kind.
 const FIRST_BYTES: usize = 16;
 
-/// What a file looks like that is open at its begin, where it is left.
+/// Recognizes the kind of an open file by its first bytes, and rewinds it to its start. A failed
+/// read gives `FileKind::Unknown`, a failed seek an error.
 fn kind_of(file: &mut File) -> io::Result<FileKind> {
     let mut first = [0u8; FIRST_BYTES];
     let kind = match file.read(&mut first) {
@@ -122,12 +123,12 @@ fn kind_of(file: &mut File) -> io::Result<FileKind> {
 }
 
 impl Disk<'_> {
-    /// Opens what stands under a name to write it, and leaves it as it is.
+    /// Opens an existing file for writing, without changing it.
     fn standing(&self, name: &str) -> io::Result<File> {
         OpenOptions::new().write(true).open(self.rt, name)
     }
 
-    /// What is known of the file that is read.
+    /// Metadata of an input.
     fn metadata(&self, source: &Source) -> io::Result<Metadata> {
         match source {
             Source::Named(file) => file.metadata(),
@@ -135,7 +136,7 @@ impl Disk<'_> {
         }
     }
 
-    /// The file of a name, or standard input, to be read.
+    /// Opens a file for reading by its name, or takes standard input for `-`.
     fn source(&self, name: &str) -> io::Result<Source> {
         if name == INPUT {
             return Ok(Source::Input(self.rt.stdin()));
@@ -143,8 +144,8 @@ impl Disk<'_> {
         Ok(Source::Named(File::open(self.rt, name)?))
     }
 
-    /// Begins a file beside a name, which is to take that name from the file that stands there, if
-    /// one does: any, or an empty one alone. An input is not to be replaced.
+    /// Begins a file beside the name that it is to take on saving, from any existing file (`force`)
+    /// or from an empty one alone. `AlreadyExists` if the existing file is an input.
     fn beside(&self, name: &str, stands: Option<&Metadata>, force: bool) -> io::Result<MadeFile> {
         if let Some(known) = stands
             && is_among(&self.opened, known)
@@ -159,7 +160,7 @@ impl Disk<'_> {
         })
     }
 
-    /// Keeps what the system said of a call, where that failed.
+    /// Records the error of a failed call, and passes the result on.
     fn keep<T>(&mut self, call: SystemCall, done: io::Result<T>) -> io::Result<T> {
         if let Err(error) = &done {
             self.fail(call, error.kind());
@@ -167,19 +168,20 @@ impl Disk<'_> {
         done
     }
 
-    /// Keeps that a call failed.
+    /// Records that a call failed.
     fn fail(&mut self, call: SystemCall, kind: ErrorKind) {
         self.known.failed = Some(SystemFault { call, kind });
     }
 
-    /// Keeps what the system said of the writes of a file that was made, where one failed.
+    /// Records the last write error of a made file, if a write failed.
     fn keep_writes(&mut self, file: &MadeFile) {
         if let Some(kind) = file.failed {
             self.fail(SystemCall::Write, kind);
         }
     }
 
-    /// Opens the file of a name, or standard input, to be read from its begin.
+    /// Opens a file by its name, or standard input, to be read from its start. `IsADirectory` for a
+    /// directory; the identity of the input is added to `opened`.
     fn open_named(&mut self, name: &str) -> io::Result<Source> {
         let mut source = self.source(name)?;
         let known = self.metadata(&source)?;
@@ -191,7 +193,8 @@ impl Disk<'_> {
         Ok(source)
     }
 
-    /// Keeps what a regular file looks like that was opened by its name: the first, or the second.
+    /// Records the kind of the first and of the second input. Only a regular file that was opened
+    /// by its name has a kind; others are `FileKind::Unknown`.
     fn look_at(&mut self, source: &mut Source, known: &Metadata) -> io::Result<()> {
         let kind = match source {
             Source::Named(file) if known.is_file() => kind_of(file)?,
@@ -205,7 +208,8 @@ impl Disk<'_> {
         Ok(())
     }
 
-    /// Makes the file that is to stand under a name.
+    /// Makes the file for a name: beside it for a regular file or a missing one, in place for a
+    /// device, a pipe or a socket.
     fn make_named(&mut self, name: &str, force: bool) -> io::Result<MadeFile> {
         match self.standing(name) {
             Ok(file) => {
@@ -221,7 +225,8 @@ impl Disk<'_> {
         }
     }
 
-    /// Creates a file under a name where none stands.
+    /// Creates a file under a free name; a device, a pipe or a socket there is written in place.
+    /// `AlreadyExists` if the name is that of a regular file.
     fn create_named(&mut self, name: &str) -> io::Result<MadeFile> {
         match self.standing(name) {
             Ok(file) => {
@@ -237,7 +242,7 @@ impl Disk<'_> {
         }
     }
 
-    /// Has a file that was made take its name.
+    /// Lets a made file take its name, in one step; does nothing for a file written in place.
     fn save_made(&self, file: MadeFile) -> io::Result<()> {
         let MadeFile { file, part, .. } = file;
         match part {

@@ -1,5 +1,10 @@
-//! The program: the words of its command line, the files of the operating system and the standard
-//! streams, handed to `siman_console`.
+//! The program `siman`: passes the words of its command line, the files and sockets of the
+//! operating system and the standard streams to `siman_console`, and exits with the status that it
+//! returns.
+//!
+//! It knows no command and no format, and writes to the standard streams only through
+//! `siman_console`. No layer is above it and it has no contracts: its `Disk` is the `Outside` that
+//! the contracts of `siman_console` are over.
 #![tactic(auto)]
 
 mod disk;
@@ -18,13 +23,13 @@ fn words(rt: &HostRuntime, alloc: Global) -> io::Result<Vec<String>> {
     Ok(env::args(rt)?.collect(alloc)?)
 }
 
-/// Takes a descriptor that can be neither read nor written. So a standard stream that is closed
-/// stays one that fails, and no file that the program opens or makes stands in its place.
+/// Opens a descriptor that can be neither read nor written. So a standard stream that is closed
+/// stays one that fails, and no file that the program opens or makes takes its number.
 fn held(rt: &HostRuntime) -> io::Result<File> {
     File::open(rt, "/")
 }
 
-/// Whether no command is named, and a script would be read from a terminal.
+/// Whether the command line names no command, and a script would be read from a terminal.
 fn is_at_terminal(rt: &HostRuntime, words: &io::Result<Vec<String>>) -> bool {
     match words {
         Ok(words) => words.len() < 2 && rt.stdin().is_terminal(),

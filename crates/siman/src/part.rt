@@ -1,4 +1,4 @@
-//! Files that are written beside the name that they take, which they do in one step.
+//! Files that are written beside their final name, which they take in one step.
 
 use crate::disk::{Identity, identity, is_among};
 use std::fs::{File, Metadata, OpenOptions, Permissions, TryLockError};
@@ -6,31 +6,33 @@ use std::io::ErrorKind;
 use std::os::unix::fs::{MetadataExt, OpenOptionsExt, chown};
 use std::{fs, io};
 
-/// How many symbolic links are followed at most from a name.
+/// The most symbolic links that are followed from a name.
 const MOST_LINKS: usize = 40;
 
-/// The mode of a file where none stood before; the user's mask takes bits from it.
+/// The mode of a file that replaces none; the user's mask takes bits from it.
 const USUAL_MODE: u32 = 0o666;
 
-/// What the user may do with a file that is being written.
+/// Mode bits that the user has on a file while it is written to replace another: read and write.
 const OWN_MODE: u32 = 0o600;
 
-/// Where a file stands that is being written, and what becomes of it.
+/// A file that is being written: its temporary path, its final name, and the file that it replaces.
 #[derive(Drop)]
 pub(crate) struct Part {
-    /// Where it stands: the name that it takes, and `.part`.
+    /// The temporary path: `name` and `.part`.
     path: String,
-    /// The name that it takes.
+    /// The final name.
     name: String,
-    /// The mode of the file that stood under that name.
+    /// The permissions of the file that it replaces, if there was a file.
     mode: Option<Permissions>,
-    /// The file that stood under that name, if one did.
+    /// The identity of the file that it replaces, if there was a file.
     stood: Option<Identity>,
-    /// Whether it takes that name from any file, and not from the empty one alone that stood there.
+    /// Whether any file under the final name is replaced, or only the empty file that was found
+    /// there.
     force: bool,
 }
 
-/// What a link in a folder leads to: a path from the root, or one from that folder.
+/// The path that a symbolic link leads to: an absolute target as it is, a relative one from the
+/// folder of the link.
 fn path_from(rt: &HostRuntime, link: &str, leads: &str) -> io::Result<String> {
     match link.rsplit_once('/') {
         Some((folder, _)) if !leads.starts_with('/') => {
@@ -40,7 +42,8 @@ fn path_from(rt: &HostRuntime, link: &str, leads: &str) -> io::Result<String> {
     }
 }
 
-/// The path at the end of the symbolic links that a name leads over. Nothing needs to stand there.
+/// The path at the end of the symbolic links that start at a name. Nothing needs to exist there.
+/// `NotFound` after 40 links.
 fn end_of_links(rt: &HostRuntime, name: &str) -> io::Result<String> {
     let mut path = String::from_str(rt.alloc(), name)?;
     for _ in 0..MOST_LINKS {
@@ -57,14 +60,15 @@ fn end_of_links(rt: &HostRuntime, name: &str) -> io::Result<String> {
     Err(io::Error::from(ErrorKind::NotFound))
 }
 
-/// Whether an open file stands under a path.
+/// Whether the open file is the one at a path; links are not followed.
 fn stands_at(rt: &HostRuntime, file: &File, path: &str) -> io::Result<bool> {
     let known = fs::symlink_metadata(rt, path)?;
     Ok(identity(&known) == identity(&file.metadata()?))
 }
 
-/// The file that another call left under the path of a part. It is none that a call writes, since
-/// that one holds its lock, and none of those that were opened.
+/// Removes the file that an interrupted call left at a temporary path. `AlreadyExists` if it is no
+/// regular file or one of the inputs; an error too if another call has it locked and so still
+/// writes it.
 fn remove_left(rt: &HostRuntime, path: &str, opened: &[Identity]) -> io::Result<()> {
     let known = match fs::symlink_metadata(rt, path) {
         Ok(known) => known,
@@ -82,8 +86,7 @@ fn remove_left(rt: &HostRuntime, path: &str, opened: &[Identity]) -> io::Result<
     fs::remove_file(rt, path)
 }
 
-/// Locks the file of a part that was created. While it is locked no other call takes it for one that
-/// was left.
+/// Locks the new file of a part. While it is locked, no other call removes it as left behind.
 fn lock(rt: &HostRuntime, file: &File, path: &str) -> io::Result<()> {
     match file.try_lock() {
         Ok(()) if stands_at(rt, file, path)? => Ok(()),
@@ -95,7 +98,7 @@ fn lock(rt: &HostRuntime, file: &File, path: &str) -> io::Result<()> {
     }
 }
 
-/// Creates the file of a part, where none stands, and locks it.
+/// Creates and locks the file of a part; fails if its path exists.
 fn create_locked(rt: &HostRuntime, path: &str, mode: u32) -> io::Result<File> {
     let mut options = OpenOptions::new();
     options.write(true);
@@ -106,12 +109,13 @@ fn create_locked(rt: &HostRuntime, path: &str, mode: u32) -> io::Result<File> {
     Ok(file)
 }
 
-/// Whether a file stands under a path itself, and over no link.
+/// Whether a file is at a path itself, not behind a link.
 fn is_at(rt: &HostRuntime, known: &Metadata, path: &str) -> io::Result<bool> {
     Ok(identity(&fs::symlink_metadata(rt, path)?) == identity(known))
 }
 
-/// The path of the file that a name stands for, which is this one, or nothing.
+/// The path at the end of a name's links. `NotFound` if the name is empty or the path does not lead
+/// to the existing file.
 fn path_of(rt: &HostRuntime, name: &str, stands: Option<&Metadata>) -> io::Result<String> {
     if name.is_empty() {
         return Err(io::Error::from(ErrorKind::NotFound));
@@ -123,7 +127,8 @@ fn path_of(rt: &HostRuntime, name: &str, stands: Option<&Metadata>) -> io::Resul
     }
 }
 
-/// The mode of the file of a part: that of the file that stands, and the user may write it.
+/// Mode bits of a part's file: those of the file that it replaces, and the user may read and write
+/// it.
 fn mode_of(stands: Option<&Metadata>) -> u32 {
     match stands {
         Some(known) => known.mode() & 0o777 | OWN_MODE,
@@ -131,7 +136,7 @@ fn mode_of(stands: Option<&Metadata>) -> u32 {
     }
 }
 
-/// What the user may do with a file that stands, if one does.
+/// Permissions of the existing file, if there is one.
 fn permissions_of(stands: Option<&Metadata>) -> Option<Permissions> {
     match stands {
         Some(known) => Some(known.permissions()),
@@ -139,7 +144,7 @@ fn permissions_of(stands: Option<&Metadata>) -> Option<Permissions> {
     }
 }
 
-/// Which file stands, if one does.
+/// Identity of the existing file, if there is one.
 fn identity_of(stands: Option<&Metadata>) -> Option<Identity> {
     match stands {
         Some(known) => Some(identity(known)),
@@ -147,8 +152,8 @@ fn identity_of(stands: Option<&Metadata>) -> Option<Identity> {
     }
 }
 
-/// Makes the file of a part, in the place of one that was left. It has the owner of the file that
-/// stands, where the user may give it.
+/// Creates the file of a part, after it removed one left behind. It takes the owner of the file
+/// that it replaces, if the user may set it.
 fn make_part(
     rt: &HostRuntime,
     path: &str,
@@ -163,8 +168,8 @@ fn make_part(
     Ok(file)
 }
 
-/// Begins the file that is to take a name, in the place of the one that stands there, if one does:
-/// any, or an empty one alone.
+/// Begins the file that is to take a name, from any existing file (`force`) or from an empty one
+/// alone.
 pub(crate) fn begin_part(
     rt: &HostRuntime,
     name: &str,
@@ -185,7 +190,8 @@ pub(crate) fn begin_part(
     Ok((file, part))
 }
 
-/// Has a change of names in the folder of a path outlast the machine, where the user may read it.
+/// Syncs the folder of a path, so that a change of names there survives a power loss, if the user
+/// may read the folder.
 fn sync_folder(rt: &HostRuntime, path: &str) {
     let folder = match path.rsplit_once('/') {
         Some(("", _)) => "/",
@@ -198,7 +204,7 @@ fn sync_folder(rt: &HostRuntime, path: &str) {
 }
 
 impl Part {
-    /// Gives the file the mode of the one that stands under its name.
+    /// Sets the permissions of the replaced file, if there was one, and syncs the file.
     fn take_mode(&self, file: &File) -> io::Result<()> {
         if let Some(mode) = &self.mode {
             file.set_permissions(mode.clone()?)?;
@@ -207,12 +213,13 @@ impl Part {
         Ok(())
     }
 
-    /// Gives the file its name, in the place of whatever stands there.
+    /// Renames the file to its final name, which replaces any file there.
     fn replace(&self, rt: &HostRuntime) -> io::Result<()> {
         fs::rename(rt, self.path.as_str(), self.name.as_str())
     }
 
-    /// Gives the file its name from the empty file that stood there, where that still stands so.
+    /// Renames the file to its final name if the empty file that was found there is still there and
+    /// still empty; else `AlreadyExists`.
     fn replace_empty(&self, rt: &HostRuntime, stood: Identity) -> io::Result<()> {
         let known = fs::symlink_metadata(rt, self.name.as_str())?;
         if identity(&known) != stood || known.len() > 0 {
@@ -221,8 +228,8 @@ impl Part {
         self.replace(rt)
     }
 
-    /// Gives the file its name, where nothing stands, by an empty file that is made for it: where the
-    /// file system has no links.
+    /// Gives the file a free name by way of an empty placeholder that is created there first and
+    /// then replaced. For file systems without hard links.
     fn replace_placeholder(&self, rt: &HostRuntime) -> io::Result<()> {
         let placeholder = File::create_new(rt, self.name.as_str())?;
         let replaced = self.replace(rt);
@@ -232,7 +239,8 @@ impl Part {
         replaced
     }
 
-    /// Gives the file its name, where nothing stands, by a link, which replaces nothing.
+    /// Gives the file a free name by a hard link, which replaces nothing; by a placeholder if no
+    /// link can be made. `AlreadyExists` if the name is no longer free.
     fn link(&self, rt: &HostRuntime) -> io::Result<()> {
         match fs::hard_link(rt, self.path.as_str(), self.name.as_str()) {
             Ok(()) => {
@@ -244,7 +252,7 @@ impl Part {
         }
     }
 
-    /// Gives the file its name as it was begun.
+    /// Gives the file its final name, in the way for which it was begun.
     fn give_name(&self, rt: &HostRuntime, file: &File) -> io::Result<()> {
         self.take_mode(file)?;
         match self.stood {
@@ -254,7 +262,8 @@ impl Part {
         }
     }
 
-    /// Has the file take its name, or be gone.
+    /// Lets the file take its final name and syncs the folder; removes the file if it cannot take
+    /// the name.
     pub(crate) fn take_name(&self, rt: &HostRuntime, file: &File) -> io::Result<()> {
         let named = self.give_name(rt, file);
         match &named {
@@ -264,7 +273,7 @@ impl Part {
         named
     }
 
-    /// Removes the file.
+    /// Removes the file; a failure is ignored.
     pub(crate) fn remove(&self, rt: &HostRuntime) {
         let _ = fs::remove_file(rt, self.path.as_str());
     }

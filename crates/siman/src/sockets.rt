@@ -1,4 +1,4 @@
-//! Sockets: of the loopback, and where words of a command line say it.
+//! UDP sockets: of the loopback, and at endpoints that the command line names.
 
 use siman_console::Endpoint;
 use siman_lines::UdpLine;
@@ -7,7 +7,7 @@ use std::io;
 use std::io::ErrorKind;
 use std::net::{Ipv4Addr, SocketAddr, SocketAddrV4, UdpSocket};
 
-/// Sockets of the loopback, each at a port of its own that was free.
+/// `count` sockets of the loopback, each bound to a free port.
 fn sockets(rt: &HostRuntime, alloc: Global, count: usize) -> io::Result<Vec<UdpSocket>> {
     let mut sockets = Vec::new(alloc);
     for _ in 0..count {
@@ -16,7 +16,7 @@ fn sockets(rt: &HostRuntime, alloc: Global, count: usize) -> io::Result<Vec<UdpS
     Ok(sockets)
 }
 
-/// Where each socket is.
+/// The local address of each socket.
 fn addresses(alloc: Global, sockets: &[UdpSocket]) -> io::Result<Vec<SocketAddr>> {
     let mut addresses = Vec::new(alloc);
     for socket in sockets {
@@ -25,7 +25,7 @@ fn addresses(alloc: Global, sockets: &[UdpSocket]) -> io::Result<Vec<SocketAddr>
     Ok(addresses)
 }
 
-/// All addresses but the one of this index.
+/// All addresses but the one at `index`.
 fn others(alloc: Global, addresses: &[SocketAddr], index: usize) -> io::Result<Vec<SocketAddr>> {
     let mut others = Vec::new(alloc);
     for (number, address) in addresses.iter().enumerate() {
@@ -36,7 +36,7 @@ fn others(alloc: Global, addresses: &[SocketAddr], index: usize) -> io::Result<V
     Ok(others)
 }
 
-/// The lines of so many stations, each of which sends to all others.
+/// The links of `stations` stations over the loopback, each of which sends to all others.
 pub(crate) fn lines_of(
     rt: &HostRuntime,
     alloc: Global,
@@ -55,15 +55,15 @@ pub(crate) fn lines_of(
     Ok(lines)
 }
 
-/// The address of a socket.
+/// The socket address of an endpoint.
 fn address_of(endpoint: Endpoint) -> SocketAddr {
     let (first, second, third, fourth) = endpoint.ip;
     let ip = Ipv4Addr::new(first, second, third, fourth);
     SocketAddr::V4(SocketAddrV4::new(ip, endpoint.port))
 }
 
-/// The line of a station whose socket is there, and may send to all of a network. It sends to each of
-/// these peers, and hears them alone, or anyone.
+/// The link of one station: a socket bound to `bind` that may broadcast. It sends to each of
+/// `endpoints`, and hears them alone, or anyone (`anyone`).
 pub(crate) fn line_at(
     rt: &HostRuntime,
     alloc: Global,

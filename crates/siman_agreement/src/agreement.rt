@@ -1,4 +1,4 @@
-//! Whether the checker, the search and the review answer as the plain ones do.
+//! Comparisons of the checker, the search and the review with the plain versions.
 
 use crate::reviews::is_review_same;
 use exercise_audit::{Audit, audit};
@@ -11,7 +11,7 @@ use plain_check::{
 use siman_fixtures::{Case, WELL, found, read_from};
 use std::alloc::{AllocError, Global};
 
-/// The number of an entry as the checker reports it.
+/// Whether two optional entry numbers are equal.
 pub(crate) fn is_number(reported: Option<u32>, entry: Option<usize>) -> bool {
     match (reported, entry) {
         (Some(number), Some(entry)) => number as usize == entry,
@@ -20,7 +20,7 @@ pub(crate) fn is_number(reported: Option<u32>, entry: Option<usize>) -> bool {
     }
 }
 
-/// Whether the pairs, the causes and the number of "other" datagrams are as they are found plainly.
+/// Whether the pairs, the causes and the number of "other" datagrams equal the plain results.
 fn are_entries_same<L: ExerciseLog>(log: &L, checked: &Checked) -> bool {
     for entry in 0..log.entry_count().saturating_add(1) {
         if !is_number(checked.pair(entry), plain_pair(log, entry))
@@ -32,8 +32,8 @@ fn are_entries_same<L: ExerciseLog>(log: &L, checked: &Checked) -> bool {
     checked.others() == plain_others(log)
 }
 
-/// Whether these and the states of the entities, of which none is above `most`, are as they are found
-/// plainly.
+/// Whether the states of the entities, with numbers up to `most`, and the results for the entries
+/// equal the plain results.
 fn is_report_same<L: ExerciseLog>(
     alloc: Global,
     log: &L,
@@ -49,8 +49,8 @@ fn is_report_same<L: ExerciseLog>(
     Ok(are_entries_same(log, checked))
 }
 
-/// Whether the checker answers what the plain one does, and the reports are the same; no entity is
-/// above `most`.
+/// Whether the checker's answer equals the plain answer, with equal reports; entity numbers are at
+/// most `most`.
 pub(crate) fn is_check_same<L: ExerciseLog>(
     alloc: Global,
     log: &L,
@@ -65,7 +65,7 @@ pub(crate) fn is_check_same<L: ExerciseLog>(
     }
 }
 
-/// Whether the checker and the plain one take a certificate, with the same reports.
+/// Whether the checker and the plain one both accept a certificate, with equal reports.
 fn is_taken<L: ExerciseLog>(
     alloc: Global,
     log: &L,
@@ -78,7 +78,7 @@ fn is_taken<L: ExerciseLog>(
     }
 }
 
-/// Whether both take two certificates.
+/// Whether both checkers accept both certificates.
 fn are_taken<L: ExerciseLog>(
     alloc: Global,
     log: &L,
@@ -93,8 +93,8 @@ fn are_taken<L: ExerciseLog>(
     }
 }
 
-/// Whether the search found what the plain one finds; both checkers take the certificate that either
-/// finds.
+/// Whether the search's answer agrees with the plain one: equal blocks, or two certificates that
+/// both checkers accept.
 pub(crate) fn is_audit_same<L: ExerciseLog>(
     alloc: Global,
     log: &L,
@@ -110,7 +110,7 @@ pub(crate) fn is_audit_same<L: ExerciseLog>(
     }
 }
 
-/// The bytes of the last file that a word of a case names.
+/// The bytes of the last file with the name that a word of a case gives.
 fn file_at(case: &Case, word: usize) -> Option<&[u8]> {
     let word = case.words.get(word)?;
     match found(&case.files, &word.bytes) {
@@ -119,9 +119,9 @@ fn file_at(case: &Case, word: usize) -> Option<&[u8]> {
     }
 }
 
-/// Whether the answer to a case of `check`, `audit` or `review` is what the plain ones answer; `None`
-/// for every other case, where the recording or the certificate can't be read, and for a review of
-/// more than 64 entries.
+/// Whether the answer to a case of `check`, `audit` or `review` equals the plain answer; `None` for
+/// every other case, for an unreadable recording or certificate, and for a review of more than 64
+/// entries.
 pub fn compare_case(alloc: Global, case: &Case) -> Result<Option<bool>, AllocError> {
     let (Some(command), Some(bytes)) = (case.words.first(), file_at(case, 1)) else {
         return Ok(None);
@@ -132,19 +132,19 @@ pub fn compare_case(alloc: Global, case: &Case) -> Result<Option<bool>, AllocErr
     }
 }
 
-/// Whether the search finds what the plain one does.
+/// Whether the search's answer agrees with the plain one.
 fn is_audit_plain<L: ExerciseLog>(alloc: Global, log: &L) -> Result<bool, AllocError> {
     let found = audit(alloc, log)?;
     is_audit_same(alloc, log, &found, LARGEST_ENTITY)
 }
 
-/// Whether the review says what the plain one does.
+/// Whether the review equals the plain one.
 fn is_review_plain<L: ExerciseLog>(alloc: Global, log: &L) -> Result<bool, AllocError> {
     let plain = plain_review(alloc, log, LARGEST_ENTITY)?;
     is_review_same(alloc, log, &plain)
 }
 
-/// The same for a command and the recording of its case.
+/// As [`compare_case`], given the command and the recording of the case.
 fn compare_command<L: ExerciseLog>(
     alloc: Global,
     log: &L,
@@ -160,7 +160,8 @@ fn compare_command<L: ExerciseLog>(
     Ok(Some(same))
 }
 
-/// Whether the answer to the certificate of a case is what the plain checker answers.
+/// Whether the answer to the certificate of a case equals the plain checker's answer; `None` if the
+/// certificate cannot be read.
 fn compare_certificate<L: ExerciseLog>(
     alloc: Global,
     log: &L,

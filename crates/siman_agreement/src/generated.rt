@@ -1,4 +1,4 @@
-//! The checker and the search compared with the plain ones, on recordings that are made up.
+//! Compares the checker and the search with the plain versions, on random recordings.
 
 use crate::agreement::{is_audit_same, is_check_same};
 use crate::recordings::recording;
@@ -11,17 +11,18 @@ use std::alloc::{AllocError, Global};
 use std::io;
 use std::io::Write;
 
-/// What was answered, and how often.
+/// Counts of the answers of the checker and the search.
 #[derive(Drop)]
 pub struct Answers {
-    /// How many recordings or certificates were answered otherwise than the plain ones answer.
+    /// Number of recordings and certificates for which the plain versions answered differently, and
+    /// of recordings that could not be generated.
     pub otherwise: u32,
     explained: u32,
     blocked: u32,
     yes: u32,
-    /// How many certificates were refused by each cause, which is its place.
+    /// Number of certificates refused for each cause, at the index of its number.
     causes: [u32; 14],
-    /// How many stations each cause stood in the way of.
+    /// Number of stations blocked by each cause, at the index of its number.
     ways: [u32; 14],
 }
 
@@ -41,8 +42,8 @@ fn names(steps: &[Step], place: u32) -> bool {
     false
 }
 
-/// The steps that the stations can take, and behind them the entries that are left, by their
-/// numbers.
+/// A certificate of all entries: the steps that the stations can take, then the remaining entries
+/// by number.
 fn whole(alloc: Global, log: &Recording) -> Result<Certificate, AllocError> {
     let mut steps = plain_steps(alloc, log)?;
     for place in 0..log.entry_count() {
@@ -57,7 +58,7 @@ fn whole(alloc: Global, log: &Recording) -> Result<Certificate, AllocError> {
     Ok(Certificate { steps })
 }
 
-/// Spoils a certificate in one way.
+/// Changes a certificate at random, mostly so that it becomes invalid.
 fn spoil(random: &mut Random, certificate: &mut Certificate) -> Result<(), AllocError> {
     let count = certificate.steps.len();
     let (place, other) = (random.below(count), random.below(count));
@@ -82,7 +83,7 @@ impl Answers {
         }
     }
 
-    /// Compares what is answered to a certificate.
+    /// Compares the checker's answer to a certificate with the plain one, and counts it.
     fn try_check(
         &mut self,
         alloc: Global,
@@ -101,7 +102,7 @@ impl Answers {
         Ok(())
     }
 
-    /// Counts what was found in a recording.
+    /// Counts the answer of the search to a recording.
     fn count(&mut self, found: &Audit) {
         match found {
             Audit::Explained(_) => self.explained = self.explained.saturating_add(1),
@@ -114,7 +115,7 @@ impl Answers {
         }
     }
 
-    /// Compares what is found in a recording.
+    /// Compares the search's answer to a recording with the plain one, and counts it.
     fn try_audit(&mut self, alloc: Global, log: &Recording) -> Result<(), AllocError> {
         let found = audit(alloc, log)?;
         self.count(&found);
@@ -123,7 +124,7 @@ impl Answers {
         Ok(())
     }
 
-    /// Compares what is answered to a certificate, and to the same when it is spoilt.
+    /// Compares the checker's answers to a certificate, before and after a random change.
     fn try_checks(
         &mut self,
         alloc: Global,
@@ -136,7 +137,7 @@ impl Answers {
         self.try_check(alloc, log, certificate)
     }
 
-    /// Tries a recording.
+    /// Compares the answers for a recording.
     fn try_log(
         &mut self,
         alloc: Global,
@@ -147,7 +148,7 @@ impl Answers {
         self.try_checks(alloc, log, random, &mut whole(alloc, log)?)
     }
 
-    /// Tries a recording of a form that is made up.
+    /// Compares the answers for a random recording of a form.
     fn try_one(&mut self, alloc: Global, form: Form, mut random: Random) -> Result<(), AllocError> {
         match recording(alloc, form, false, random) {
             Ok(log) => self.try_log(alloc, &log, &mut random),
@@ -158,8 +159,9 @@ impl Answers {
         }
     }
 
-    /// Whether all answers were as the plain ones are, and each came: yes, and each cause, and of
-    /// those of an event also in the way of a station. In an open recording there is no stranger.
+    /// Whether all answers agreed with the plain ones and each answer occurred: a yes, an explained
+    /// recording, a refusal for each cause, and a block for each cause of an event. In an open
+    /// recording the cause `Stranger` must not occur.
     pub fn are_good(&self, form: Form) -> bool {
         for cause in 1..14usize {
             let (is_said, is_way) = (self.causes[cause] > 0, self.ways[cause] > 0);
@@ -175,7 +177,7 @@ impl Answers {
         self.otherwise == 0 && self.yes > 0 && self.explained > 0
     }
 
-    /// Prints how often each answer came.
+    /// Prints the number of each answer.
     pub fn print<W: Write>(&self, out: &mut W) -> io::Result<()> {
         let Answers {
             explained,
@@ -193,7 +195,7 @@ impl Answers {
     }
 }
 
-/// Tries so many recordings of a form that are made up.
+/// Compares the answers for `count` random recordings of a form.
 pub fn try_generated(alloc: Global, form: Form, count: u32) -> Result<Answers, AllocError> {
     let mut answers = Answers {
         otherwise: 0,

@@ -1,5 +1,7 @@
-//! The checker, the search and the review compared with the plain ones, which look through the entries
-//! anew at each question as the definitions say it: on cases, and on recordings that are made up.
+//! Compares the checker, the search and the review with the plain versions in `plain_check`, on
+//! cases and on random recordings. It never judges a recording itself and writes no file. Its
+//! functions have no contracts for the layer above; they return whether the answers agree, or
+//! counts of those that differ.
 #![tactic(auto)]
 
 mod agreement;

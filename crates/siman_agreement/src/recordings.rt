@@ -1,14 +1,14 @@
-//! Recordings that are made up by chance, of the scenes of a row of numbers.
+//! Random recordings, from scenes of a random number generator.
 
 use dis_records::{Address, EntityState};
 use exercise_model::{ExerciseLog, Form, LogEntry, LogFault, Recording, Station};
 use siman_fixtures::{Deed, ENTITIES, Random, Scene, begin, place_of, station_of};
 use std::alloc::{AllocError, Global};
 
-/// How many deeds a scene has at most.
+/// Most actions in a scene.
 const MOST_DEEDS: usize = 16;
 
-/// The first stations of a scene, so many, as they are before its first deed.
+/// The first `count` stations of a scene, with their states before its first action.
 fn stations(alloc: Global, scene: &Scene, count: usize) -> Result<Vec<Station>, AllocError> {
     let mut stations = Vec::new(alloc);
     for index in 0..count {
@@ -29,7 +29,7 @@ fn stations(alloc: Global, scene: &Scene, count: usize) -> Result<Vec<Station>, 
     Ok(stations)
 }
 
-/// The entry of a deed.
+/// The log entry of an action.
 fn entry(alloc: Global, deed: Deed, stamp: u64) -> Result<LogEntry, AllocError> {
     Ok(match deed {
         Deed::Sends(station, letter) => LogEntry::Sent {
@@ -50,8 +50,8 @@ fn entry(alloc: Global, deed: Deed, stamp: u64) -> Result<LogEntry, AllocError> 
     })
 }
 
-/// The target of a request of this number that is not for the station that it comes to alone: all
-/// stations, an address that nobody recorded, or no address of one.
+/// Target of a request with this number, if it is to be other than its one station: all stations,
+/// an unrecorded address, or all applications of a site.
 fn wide_target(request: u8) -> Option<[u8; 4]> {
     match request % 12 {
         0 | 6 => Some([0xFF, 0xFF, 0xFF, 0xFF]),
@@ -61,8 +61,8 @@ fn wide_target(request: u8) -> Option<[u8; 4]> {
     }
 }
 
-/// The kind of a request or an answer of this number that asks for an action: some ask for data, or set
-/// some.
+/// Kind of a request or answer with this number: some action requests become data queries or Set
+/// Data, and their answers Data.
 fn varied_kind(kind: u8, request: u8) -> u8 {
     match (kind, request % 4) {
         (16, 1) => 19,
@@ -72,7 +72,7 @@ fn varied_kind(kind: u8, request: u8) -> u8 {
     }
 }
 
-/// What an answer says, by its number and by whether it was able.
+/// Response flag or request status of an answer, by its number and its response.
 fn varied_word(kind: u8, request: u8, response: u8) -> u8 {
     match (kind, request % 8, response) {
         (15, 2, 2) => 3,
@@ -84,9 +84,9 @@ fn varied_word(kind: u8, request: u8, response: u8) -> u8 {
     }
 }
 
-/// Varies a datagram by its kind, its number and its response, alike wherever it stands: orders to
-/// many or to none, requests for data, and every word of an answer. One that went astray in an odd
-/// stamp is of another version.
+/// Varies a datagram by its kind, its request number and its response, in an equal way at each
+/// entry: orders to many stations or to none, requests for data, and every word of an answer. A
+/// datagram with a stamp other than 0 and an odd request number gets protocol version 6.
 fn vary(bytes: &mut [u8], kind: u8, request: u8, response: u8) {
     if bytes.len() < 32 && kind >= 13 || bytes.len() < 28 {
         return;
@@ -108,12 +108,12 @@ fn vary(bytes: &mut [u8], kind: u8, request: u8, response: u8) {
     }
 }
 
-/// Varies a stamp, so that clocks are set back too.
+/// Varies a stamp, so that clocks are sometimes set back.
 fn vary_stamp(stamp: &mut u64) {
     *stamp = stamp.wrapping_mul(11) % 32;
 }
 
-/// Varies the entry of a deed.
+/// Varies the entry of an action.
 fn vary_entry(entry: &mut LogEntry, deed: Deed) {
     let (Deed::Sends(_, letter) | Deed::Gets(_, letter)) = deed else {
         return;
@@ -131,7 +131,7 @@ fn vary_entry(entry: &mut LogEntry, deed: Deed) {
     }
 }
 
-/// Makes so much happen, and lets neighbours change places.
+/// Adds random actions to a scene, and swaps neighbouring ones.
 fn happen(scene: &mut Scene) {
     let deeds = scene.random.below(MOST_DEEDS).saturating_add(1);
     for _ in 0..deeds {
@@ -142,7 +142,7 @@ fn happen(scene: &mut Scene) {
     }
 }
 
-/// Adds what the first stations of a scene did, so many, varied or as it is.
+/// Adds the entries of the first `count` stations' actions, varied or not.
 fn add_deeds(
     alloc: Global,
     deeds: &[Deed],
@@ -165,7 +165,7 @@ fn add_deeds(
     Ok(())
 }
 
-/// A recording of a form, of a scene in which nothing happened so far.
+/// A recording of a form, from a scene without actions so far.
 fn recorded(
     alloc: Global,
     form: Form,
@@ -189,8 +189,8 @@ fn recorded(
     Ok(recording)
 }
 
-/// A recording of a form, of a scene that is made up; with varied datagrams, if it is to have them, so
-/// that orders of all kinds have all fates.
+/// A random recording of a form. With `is_varied`, its datagrams are varied so that orders of all
+/// kinds have all fates.
 pub fn recording(
     alloc: Global,
     form: Form,

@@ -1,4 +1,4 @@
-//! The review compared with the plain one, on recordings that are made up.
+//! Compares the review with the plain version, on random recordings.
 
 use crate::agreement::is_number;
 use crate::recordings::recording;
@@ -17,7 +17,7 @@ use std::alloc::{AllocError, Global};
 use std::io;
 use std::io::Write;
 
-/// What is counted: each fate, and the sends that are missing.
+/// The counted kinds: each fate, and the missing sends.
 static COUNTED: [&str; 10] = [
     "done",
     "answered",
@@ -31,18 +31,18 @@ static COUNTED: [&str; 10] = [
     "missing",
 ];
 
-/// The place of the fate in [`COUNTED`] that comes in open recordings alone.
+/// Index in [`COUNTED`] of the fate that occurs only in open recordings.
 const UNKNOWN: usize = 7;
 
-/// What was told, and how often.
+/// Counts of the fates and the missing sends in the reviews.
 #[derive(Drop)]
 pub struct Reviews {
-    /// How many recordings were told otherwise than the plain review tells them.
+    /// Number of recordings whose plain review differed, or that could not be generated.
     pub otherwise: u32,
     counts: [usize; 10],
 }
 
-/// Whether an entry acknowledges that it created all entities.
+/// Whether an entry acknowledges the creation of all entities.
 fn creates_all<L: ExerciseLog>(log: &L, entry: &EntryView<'_>) -> bool {
     let EntryView::Sent { bytes, .. } = *entry else {
         return false;
@@ -60,7 +60,7 @@ fn creates_all<L: ExerciseLog>(log: &L, entry: &EntryView<'_>) -> bool {
     }
 }
 
-/// The largest number of an entity in a recording that is made up.
+/// An upper bound for the entity numbers in a random recording.
 fn most_in<L: ExerciseLog>(log: &L) -> u16 {
     for entry in 0..log.entry_count() {
         if creates_all(log, &log.entry(entry)) {
@@ -70,7 +70,7 @@ fn most_in<L: ExerciseLog>(log: &L) -> u16 {
     u16::from(ENTITIES)
 }
 
-/// Whether two reviews say the same.
+/// Whether two reviews are equal.
 fn is_same(one: &Review, other: &Review) -> bool {
     one.orders == other.orders
         && one.others == other.others
@@ -80,7 +80,7 @@ fn is_same(one: &Review, other: &Review) -> bool {
         && one.spans.as_slice() == other.spans.as_slice()
 }
 
-/// Whether the fast review says what the plain one does.
+/// Whether the fast review of a log equals the plain one.
 pub(crate) fn is_review_same<L: ExerciseLog>(
     alloc: Global,
     log: &L,
@@ -93,7 +93,8 @@ pub(crate) fn is_review_same<L: ExerciseLog>(
     }
 }
 
-/// Whether what is said of each entry is as it is found plainly.
+/// Whether the head, the source, the missing send and the receipts of each entry equal the plain
+/// results.
 fn are_entries_same<L: ExerciseLog>(
     log: &L,
     register: &Register<'_, L>,
@@ -112,7 +113,7 @@ fn are_entries_same<L: ExerciseLog>(
     same
 }
 
-/// How many sends are missing.
+/// Number of missing sends.
 fn missing_in<L: ExerciseLog>(log: &L) -> usize {
     let mut missing = 0usize;
     for entry in 0..log.entry_count() {
@@ -123,7 +124,8 @@ fn missing_in<L: ExerciseLog>(log: &L) -> usize {
     missing
 }
 
-/// Whether what is said of an order by itself is as it is told plainly.
+/// Whether the fate and the change of an order, computed for it alone, equal those of the plain
+/// review.
 fn is_order_same<L: ExerciseLog>(register: &Register<'_, L>, told: &OrderAt) -> bool {
     let Some(order) = order_at(register, told.head) else {
         return false;
@@ -138,7 +140,7 @@ fn is_order_same<L: ExerciseLog>(register: &Register<'_, L>, told: &OrderAt) -> 
     }
 }
 
-/// Whether the life of an entity is as it is found plainly. Past the last station there is none.
+/// Whether the life of an entity equals the plain result; true past the last station.
 fn is_life_same<L: ExerciseLog>(
     alloc: Global,
     log: &L,
@@ -156,8 +158,8 @@ fn is_life_same<L: ExerciseLog>(
     }
 }
 
-/// Whether the lives of the first few entities of each station, and of the numbers 0 and 0xFFFF, which
-/// no entity has, are as they are found plainly.
+/// Whether the lives of a few entities of each station, and of the numbers 0 and 0xFFFF, which no
+/// entity has, equal the plain results.
 fn are_lives_same<L: ExerciseLog>(
     alloc: Global,
     log: &L,
@@ -173,7 +175,7 @@ fn are_lives_same<L: ExerciseLog>(
     Ok(true)
 }
 
-/// Whether each order of a review is by itself as it is told plainly.
+/// Whether each order of a plain review passes [`is_order_same`].
 fn are_orders_same<L: ExerciseLog>(register: &Register<'_, L>, told: &[OrderAt]) -> bool {
     for order in told {
         if !is_order_same(register, order) {
@@ -183,7 +185,7 @@ fn are_orders_same<L: ExerciseLog>(register: &Register<'_, L>, told: &[OrderAt])
     true
 }
 
-/// Whether what is said of single orders, entries and lives is as it is found plainly.
+/// Whether the results for single orders, entries and lives equal the plain results.
 fn is_single_same<L: ExerciseLog>(
     alloc: Global,
     log: &L,
@@ -198,7 +200,7 @@ fn is_single_same<L: ExerciseLog>(
     Ok(are_entries_same(log, register, &receipts))
 }
 
-/// As [`is_single_same`], over what is found of the log.
+/// As [`is_single_same`], with a new register of the log.
 fn is_found_same<L: ExerciseLog>(
     alloc: Global,
     log: &L,
@@ -208,7 +210,8 @@ fn is_found_same<L: ExerciseLog>(
     is_single_same(alloc, log, &register, told)
 }
 
-/// Whether what is told of a recording is what the plain review tells.
+/// Whether the review of a recording equals the plain review, and so do the results for single
+/// orders, entries and lives.
 fn is_told_same<L: ExerciseLog>(
     alloc: Global,
     log: &L,
@@ -221,7 +224,7 @@ fn is_told_same<L: ExerciseLog>(
     }
 }
 
-/// How often each fate came, by the places of [`COUNTED`], and how many sends are missing.
+/// The counts of the fates and of the missing sends, in the order of [`COUNTED`].
 fn counts_of(fates: &FateCounts, missing: usize) -> [usize; 10] {
     [
         fates.done,
@@ -238,7 +241,7 @@ fn counts_of(fates: &FateCounts, missing: usize) -> [usize; 10] {
 }
 
 impl Reviews {
-    /// Notes a comparison.
+    /// Adds the result of a comparison and its counts.
     fn note(&mut self, same: bool, more: &[usize; 10]) {
         if !same {
             self.otherwise = self.otherwise.saturating_add(1);
@@ -248,7 +251,7 @@ impl Reviews {
         }
     }
 
-    /// Compares what is told of a recording.
+    /// Compares the review of a recording with the plain review, and counts its fates.
     fn try_log<L: ExerciseLog>(&mut self, alloc: Global, log: &L) -> Result<(), AllocError> {
         let plain = plain_review(alloc, log, most_in(log))?;
         let same = is_told_same(alloc, log, &plain)?;
@@ -256,8 +259,8 @@ impl Reviews {
         Ok(())
     }
 
-    /// Whether all recordings were told as the plain review tells them, and each fate came, in a
-    /// recording that is not open each but unknown.
+    /// Whether all reviews equalled the plain ones and each fate occurred; the fate unknown must
+    /// occur in an open recording and no other.
     pub fn are_good(&self, form: Form) -> bool {
         for place in 0..10usize {
             let is_wanted = place != UNKNOWN || form == Form::Open;
@@ -268,7 +271,7 @@ impl Reviews {
         self.otherwise == 0
     }
 
-    /// Prints how often each fate came.
+    /// Prints the number of each fate and of missing sends.
     pub fn print<W: Write>(&self, out: &mut W) -> io::Result<()> {
         for place in 0..10usize {
             write!(out, "{} {}, ", COUNTED[place], self.counts[place])?;
@@ -277,7 +280,7 @@ impl Reviews {
     }
 }
 
-/// Reviews so many recordings of a form that are made up.
+/// Compares the reviews of `count` random recordings of a form.
 pub fn try_reviews(alloc: Global, form: Form, count: u32) -> Result<Reviews, AllocError> {
     let mut reviews = Reviews {
         otherwise: 0,

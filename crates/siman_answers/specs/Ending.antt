@@ -1,4 +1,4 @@
--- Why a command gave no answer, and how a command ends (profile).
+-- The faults of commands, and the ending of a command (profile).
 use Rattle.std.specs.Prelude.{◌≡◌, ◌≢◌, ◌⊎◌, ℕ, List, [], ◌++◌, codes, decimal, Option, Some, None, Result, Ok, Err}
 use Rattle.std.specs.Io.KnownBytes.{Keeps}
 use Rattle.std.specs.Result.{result_err}
@@ -43,7 +43,7 @@ use Rattle.siman_answers.specs.declared.trial_fault.TrialFault.{TrialFault}
 use Rattle.siman_answers.specs.declared.trial_fault.TrialFault.TheVariants as trials
 use Rattle.siman_reports.specs.Records.{line_end}
 
--- the name of a fault of a move
+-- the name of a move's fault
 abbrev pub move_fault_name : MoveFault → List ℕ
 move_fault_name moves.Records = codes "records"
 move_fault_name moves.NoSuchStation = codes "no-such-station"
@@ -54,13 +54,13 @@ move_fault_name (moves.Order orders.IdsSpent) = codes "ids-spent"
 move_fault_name (moves.Order orders.TooLong) = codes "too-long"
 move_fault_name (moves.Order orders.Memory) = codes "memory"
 
--- the name of a limit that pieces pass together
+-- the name of a limit that joined pieces pass
 abbrev pub limit_name : JoinLimit → List ℕ
 limit_name limits.Stations = codes "stations"
 limit_name limits.Records = codes "records"
 limit_name limits.Size = codes "size"
 
--- why a file could not be opened, and how that is told
+-- the reason why a file could not be opened, by the kind of the error, and its text
 abbrev pub reason_of : ErrorKind → Reason
 reason_of NotFound = Missing
 reason_of PermissionDenied = Denied
@@ -73,7 +73,7 @@ reason_text Denied = codes "permission denied"
 reason_text Directory = codes "is a directory"
 reason_text Other = codes "cannot be opened"
 
--- THE TABLE OF FAULTS: what each is about, what there is to say of it, and where it is, or why a file was not opened: the offset of a field in bytes from 0, a line of a script or of hex texts from 1, a move of a world from 0, a piece by its name
+-- THE TABLE OF FAULTS: subject, name and place of each. A place is the offset of a field in bytes from 0, a line of a script or of hex texts from 1, a move of a world from 0, or a piece by its name; for a file that could not be opened, the reason takes its position.
 abbrev pub told_as : Fault → List ℕ × List ℕ × Option Place
 told_as NotBytePairs = (codes "hex: ", codes "not byte pairs", None)
 told_as (HexLine number) = (codes "hex: ", codes "not byte pairs", Some (Line number))
@@ -112,11 +112,11 @@ told_as (SameAs name) = (codes "output: same as ", name.now, None)
 told_as Exists = (codes "output: ", codes "exists", None)
 told_as Memory = ([], codes "memory", None)
 
--- in a piece
+-- the name of a piece at the end of a line
 abbrev pub piece_words : (name : List ℕ) → List ℕ
 piece_words name = codes " in " ++ name
 
--- of a station, by its address
+-- the address of a station, and the name of its piece
 abbrev pub station_words : (site application : ℕ) → (name : List ℕ) → List ℕ
 station_words site application name = (codes " " ++ decimal site) ++ ((codes ":" ++ decimal application) ++ piece_words name)
 
@@ -133,23 +133,23 @@ abbrev pub place_text : Option Place → List ℕ
 place_text None = []
 place_text (Some place) = place_words place
 
--- SUBJECT: NAME, and behind it the place or the reason; with its line end
+-- the line of a fault without and with its line end: SUBJECT: NAME, then the place or the reason
 abbrev pub fault_text : Fault → List ℕ
 fault_text fault = ((told_as fault).0 ++ (told_as fault).1) ++ place_text (told_as fault).2
 
 abbrev pub fault_line : Fault → List ℕ
 fault_line fault = fault_text fault ++ line_end
 
--- the status that tells of it: 3 for want of memory, else 2
+-- the exit status of a fault: 3 for lack of memory, else 2
 abbrev pub fault_status : Fault → ℕ
 fault_status Memory = 3
 fault_status other = 2
 
--- how an error is told: as this fault, or as want of memory
+-- The fault of an error is `Memory` for lack of memory, else `other`.
 abbrev pub IsToldAs : ErrorKind → (other fault : Fault) → Type 0
 IsToldAs kind other fault = ((kind ≡ OutOfMemory) × (fault ≡ Memory)) ⊎ ((kind ≢ OutOfMemory) × (fault ≡ other))
 
--- how the fault of a file is told
+-- the fault of a command for the fault of a recording, and of a certificate
 abbrev pub of_recording : RecordingFault → Fault
 of_recording recordings.Memory = Memory
 of_recording fault = Recording fault
@@ -158,30 +158,30 @@ abbrev pub of_certificate : CertificateFault → Fault
 of_certificate certificates.Memory = Memory
 of_certificate fault = Certificate fault
 
--- how it is told that a recording was not carried over to the second format
+-- the fault of a command for a failed conversion
 abbrev pub of_convert : ConvertFault → Fault
 of_convert (converts.Recording fault) = of_recording fault
 of_convert converts.Already = Already
 of_convert converts.Write = Output
 of_convert converts.Memory = Memory
 
--- how it is told that nothing was mended
+-- the fault of a command for a failed mending
 abbrev pub of_mend : MendFault → Fault
 of_mend (mends.Recording fault) = of_recording fault
 of_mend mends.Write = Output
 of_mend mends.Memory = Memory
 
--- how it is told that a review was not made
+-- the fault of a command for a failed review
 abbrev pub of_review : ReviewFault → Fault
 of_review reviews.OverLimit = OverLimit
 of_review reviews.Memory = Memory
 
--- how the fault of a script, and that of its world, is told
+-- the fault of a command for the fault of a script
 abbrev pub of_script : ScriptFault → Fault
 of_script scripts.Memory = Memory
 of_script fault = Script fault None
 
--- how it is told that a script was not read whole
+-- the fault of a command for a script that was not read whole; the fault of a world; the fault of a judged certificate
 abbrev pub of_unread_script : InputFault → Fault
 of_unread_script (inputs.Unread failed) = ScriptRead failed
 of_unread_script inputs.Memory = Memory
@@ -196,7 +196,7 @@ of_files (files.Certificate fault) = Certificate fault
 of_files files.Write = Output
 of_files files.Memory = Memory
 
--- how the fault of a trial is told
+-- the fault of a command for the fault of a trial
 abbrev pub of_trial : TrialFault → Fault
 of_trial (trials.Read failed) = ScriptRead failed
 of_trial (trials.Script fault) = Script fault None
@@ -204,29 +204,29 @@ of_trial (trials.World fault) = World fault None
 of_trial trials.Write = Output
 of_trial trials.Memory = Memory
 
--- the status of an answer that was told, or of the fault that came in its place
+-- the exit status of an answer or a fault
 abbrev pub status_of : Result ℕ Fault → ℕ
 status_of (Ok status) = status
 status_of (Err fault) = fault_status fault
 
--- whether all that was to be told on the writer of faults was written
+-- whether all that is written to the writer of faults was written
 abbrev pub Wrote : Type 0
 Wrote = Result (Unit {0}) WriteFailed
 
--- After an answer nothing is told to the writer of faults. After a fault its line is there, unless that writer failed, and then a prefix of it.
+-- After an answer nothing is written to the writer of faults. After a fault its line is written, or a prefix of it if that writer fails.
 abbrev pub Tells : Result ℕ Fault → Wrote → Option (List ℕ) → Option (List ℕ) → Type 0
 Tells (Ok status) wrote old new = (wrote ≡ Ok tt) × Keeps old new
 Tells (Err fault) wrote old new = Writes wrote old new (fault_line fault)
 
--- HOW A COMMAND ENDS that answered, or met a fault: with this status, and this on the writer of faults
+-- HOW A COMMAND ENDS after an answer or a fault: its exit status, and the text on the writer of faults
 pub record Ends (answered : Result ℕ Fault) (ended : Ended) (old new : Option (List ℕ)) : Type 0 where
   pub status_is : ended.status ≡ status_of answered
   pub tells : Tells answered ended.written old new
 
--- the fault that was met, if one was
+-- the fault, if there was a fault
 abbrev pub fault_in : Result ℕ Fault → Option Fault
 fault_in answered = result_err answered
 
--- the same of a call that answers the status alone
+-- the ending of a call that returns only the status
 abbrev pub EndsWith : Result ℕ Fault → (status : ℕ) → (old new : Option (List ℕ)) → Type 0
 EndsWith answered status old new = (wrote : Wrote) × Ends answered (record { status = status; written = wrote }) old new

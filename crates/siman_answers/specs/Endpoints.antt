@@ -1,4 +1,4 @@
--- Where sockets are, as words of a command line say it: IP:PORT (profile).
+-- Endpoints of sockets, as words of a command line: IP:PORT (profile).
 use Rattle.std.specs.Prelude.{ℕ, List, nat_le, ◌==◌, Option, Some, None, if◌then◌else◌}
 use Rattle.siman_scripts.specs.Text.{cut_at, number_to}
 use Rattle.siman_scripts.specs.Statement.{◌>>=◌}
@@ -28,7 +28,7 @@ port_of word = do
   n ← number_to 65535 word
   if n == 0 then None else Some n
 
--- WHERE A SOCKET IS of which a word says it: `IP:PORT`, in decimal, which zeros may begin
+-- THE ENDPOINT that a word `IP:PORT` spells, with decimal numbers that may have leading zeros
 abbrev pub endpoint_of : List ℕ → Option Endpoint
 endpoint_of word = do
   p ← cut_at 58 word

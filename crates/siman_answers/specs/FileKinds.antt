@@ -1,4 +1,4 @@
--- What a file looks like, by its first bytes (profile).
+-- The kind of a file, by its first bytes (profile).
 use Rattle.std.specs.Prelude.{ℕ, Bool, ◌==◌, ◌||◌, List, [], ◌∷◌, length, codes, if◌then◌else◌}
 use Rattle.std.specs.List.{starts_with}
 use Rattle.siman_answers.specs.declared.file_kind.FileKind.{FileKind}
@@ -7,17 +7,17 @@ use Rattle.siman_answers.specs.declared.file_kind.FileKind.TheVariants as kinds
 abbrev pub begins : List ℕ → List ℕ → Bool
 begins bytes front = starts_with (◌==◌) bytes front
 
--- the formats pcap, in either byte order, of microseconds or nanoseconds, and pcapng
+-- the start of a capture: pcap, in either byte order, with microseconds or nanoseconds, or pcapng
 abbrev pub is_capture : List ℕ → Bool
 is_capture bytes =
     begins bytes (161 ∷ 178 ∷ 195 ∷ 212 ∷ []) || (begins bytes (212 ∷ 195 ∷ 178 ∷ 161 ∷ [])
     || (begins bytes (161 ∷ 178 ∷ 60 ∷ 77 ∷ []) || (begins bytes (77 ∷ 60 ∷ 178 ∷ 161 ∷ []) || begins bytes (10 ∷ 13 ∷ 13 ∷ 10 ∷ []))))
 
--- with an exercise line, or with a comment
+-- the start of a script: its exercise line, or a comment
 abbrev pub is_script : List ℕ → Bool
 is_script bytes = begins bytes (codes "exercise ") || begins bytes (codes "#")
 
--- WHAT A FILE LOOKS LIKE
+-- THE KIND OF A FILE
 abbrev pub file_kind_of : List ℕ → FileKind
 file_kind_of bytes =
     if length bytes == 0 then kinds.Empty

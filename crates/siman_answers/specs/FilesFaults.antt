@@ -1,4 +1,4 @@
--- How it is told that a certificate was not judged.
+-- The faults of judging a certificate.
 use Rattle.std.specs.Prelude.{ℕ}
 use Rattle.exercise_recording.specs.declared.format_fault.RecordingFault.{RecordingFault}
 use Rattle.exercise_recording.specs.declared.format_fault.RecordingFault.TheVariants as recordings
@@ -8,7 +8,7 @@ use Rattle.siman_answers.specs.declared.files_fault.FilesFault.{FilesFault}
 use Rattle.siman_answers.specs.declared.files_fault.FilesFault.TheVariants.{Recording, Certificate, Memory}
 use Rattle.siman_answers.specs.Ending.{fault_status, of_files}
 
--- how the fault of a file is told
+-- the fault for the fault of a recording, and of a certificate
 abbrev pub of_recording : RecordingFault → FilesFault
 of_recording recordings.Memory = Memory
 of_recording fault = Recording fault
@@ -17,6 +17,6 @@ abbrev pub of_certificate : CertificateFault → FilesFault
 of_certificate certificates.Memory = Memory
 of_certificate fault = Certificate fault
 
--- the statuses: 0 yes, 1 no, 2 a fault, 3 want of memory
+-- the exit statuses: 0 yes, 1 no, 2 a fault, 3 lack of memory
 abbrev pub files_fault_status : FilesFault → ℕ
 files_fault_status fault = fault_status (of_files fault)

@@ -1,4 +1,4 @@
--- What reading a recording and its certificate gives, and how it is told that none was read, that nothing was judged, or that one is explained.
+-- The results of reading a recording and its certificate, the faults if nothing was read or judged, and the line of an explained recording.
 use Rattle.std.specs.Prelude.{◌≡◌, ◌⊎◌, ℕ, List, codes, Result, Ok, Err}
 use Rattle.exercise_model.specs.Recording.{PlainRecording}
 use Rattle.exercise_recording.specs.declared.format_fault.FormatFault.{FormatFault}
@@ -11,7 +11,7 @@ use Rattle.siman_reports.specs.CountLine.{counted}
 use Rattle.siman_answers.specs.declared.fault.Fault.{Fault}
 use Rattle.siman_answers.specs.declared.fault.Fault.TheVariants.{Recording, Certificate, Memory}
 
--- what reading a recording gives, and what reading a certificate gives: its steps
+-- the result of reading a recording, and of reading a certificate: its steps
 abbrev pub Recorded : Type 0
 Recorded = Result PlainRecording FormatFault
 
@@ -25,17 +25,17 @@ IsUnsearched recorded fault =
     ⊎ (fault ≡ Recording recordings.Read)
     ⊎ (fault ≡ Memory)
 
--- a certificate could not be had: the file has a bad field, a read failed, or memory ran out
+-- a certificate could not be read: it has a bad field, a read failed, or memory ran out
 abbrev pub IsUncertified : Certified → Fault → Type 0
 IsUncertified certified fault =
     ((bad : CertificateFormatFault) × (certified ≡ Err bad) × (fault ≡ Certificate (certificates.Format bad)))
     ⊎ (fault ≡ Certificate certificates.Read)
     ⊎ (fault ≡ Memory)
 
--- NOTHING WAS JUDGED: the recording could not be had, which is judged first; or it could, and the certificate could not
+-- NOTHING WAS JUDGED: the recording could not be read, which is tried first; or it could, and the certificate could not
 abbrev pub IsUnjudged : Recorded → Certified → Fault → Type 0
 IsUnjudged recorded certified fault = IsUnsearched recorded fault ⊎ (((r : PlainRecording) × (recorded ≡ Ok r)) × IsUncertified certified fault)
 
--- explained steps=N
+-- the line `explained steps=N`
 abbrev pub explained_text : ℕ → List ℕ
 explained_text steps = line_text (counted (codes "explained") (codes "steps") steps)

@@ -1,4 +1,4 @@
--- How it is told that a trial was not made.
+-- The faults of a trial.
 use Rattle.siman_scripts.specs.declared.script_fault.ScriptFault.{ScriptFault}
 use Rattle.siman_scripts.specs.declared.script_fault.ScriptFault.TheVariants as scripts
 use Rattle.siman_worlds.specs.declared.world_fault.WorldFault.{WorldFault}
@@ -8,7 +8,7 @@ use Rattle.siman_answers.specs.declared.input.InputFault.TheVariants as inputs
 use Rattle.siman_answers.specs.declared.trial_fault.TrialFault.{TrialFault}
 use Rattle.siman_answers.specs.declared.trial_fault.TrialFault.TheVariants.{Read, Script, World, Memory}
 
--- how it is passed on that a text was not read whole, the fault of a script, and that of its world
+-- the trial's fault for a text that was not read whole, for the fault of a script, and for that of a world
 abbrev pub unread : InputFault → TrialFault
 unread (inputs.Unread failed) = Read failed
 unread inputs.Memory = Memory

@@ -1,4 +1,4 @@
-//! How a command ended, and what there is to explain of it.
+//! The ending of a command, and what its explanation needs.
 
 ghost use Rattle.std.specs.Prelude.{◌≡◌, None};
 ghost use Rattle.siman_answers.specs.Ending.{Ends, fault_in};
@@ -9,21 +9,22 @@ use crate::notes::{Notes, Warning};
 use siman_lines::LineTrouble;
 use std::io::Write;
 
-/// How a command ended, and what there is to explain of it.
+/// The ending of a command, and what its explanation needs.
 #[derive(Clone, Copy)]
 pub struct Ending<'a> {
     pub ended: Ended,
-    /// The fault that was met, if it was one that is explained.
+    /// The fault of the command, if it is one that is explained.
     pub fault: Option<Fault<'a>>,
-    /// The recording that the command began before its fault, which can be mended.
+    /// The name of the recording that the command began before its fault, which can be mended.
     pub begun: Option<&'a str>,
-    /// What a line of a station said last of a call that failed.
+    /// The last failed call of a station's link, as the link reported it.
     pub trouble: Option<LineTrouble>,
-    /// What there is to warn of.
+    /// The warning to print, if any.
     pub warning: Option<Warning>,
 }
 
-/// Ends a command, after it told its fault.
+/// Ends a command: writes the line of its fault, if it has one. The ending has no begun recording,
+/// no trouble and no warning.
 pub fn conclude<'a, E: Write>(answered: Result<u8, Fault<'a>>, errors: &mut E) -> Ending<'a>
     ensures ends { Ends answered.entry result.ended (E.contents errors.old) (E.contents errors.new) }
     ensures fault { result.fault ≡ fault_in answered.entry }
@@ -39,7 +40,7 @@ pub fn conclude<'a, E: Write>(answered: Result<u8, Fault<'a>>, errors: &mut E) -
 }
 
 impl Ending<'_> {
-    /// With what was noted, where it warns of nothing itself.
+    /// The ending with the warning of `notes`, unless it has a warning of its own.
     pub fn and_notes(self, notes: Notes) -> Self
         ensures ended { result.ended ≡ self.entry.ended }
         ensures fault { result.fault ≡ self.entry.fault }

@@ -1,18 +1,18 @@
-//! Where sockets are, as words of a command line say it.
+//! Endpoints of sockets, parsed from words of a command line.
 
 ghost use Rattle.std.specs.Prelude.{◌≡◌, IfOk, IfErr, string_bytes, map};
 ghost use Rattle.siman_answers.specs.Endpoints.{byte_of, ip_of, port_of, endpoint_of};
 
 use siman_scripts::{number_16, split_once};
 
-/// Where a socket is: its address of IP version 4, and its port, from 1.
+/// The endpoint of a socket: its IP version 4 address, and its port, from 1 to 65535.
 #[derive(Clone, Copy)]
 pub struct Endpoint {
     pub ip: (u8, u8, u8, u8),
     pub port: u16,
 }
 
-/// The number of 8 bits that a word spells.
+/// The number from 0 to 255 that a word spells.
 fn byte_of(word: &[u8]) -> Option<u8>
     ensures { result ≡ byte_of word.now }
 {
@@ -23,7 +23,7 @@ fn byte_of(word: &[u8]) -> Option<u8>
     Some(number as u8)
 }
 
-/// The address that a word `N.N.N.N` spells.
+/// The IP version 4 address that a word `N.N.N.N` spells.
 fn ip_of(word: &[u8]) -> Option<(u8, u8, u8, u8)>
     ensures { result ≡ ip_of word.now }
 {
@@ -38,7 +38,7 @@ fn ip_of(word: &[u8]) -> Option<(u8, u8, u8, u8)>
     ))
 }
 
-/// The port that a word spells.
+/// The port, from 1 to 65535, that a word spells.
 fn port_of(word: &[u8]) -> Option<u16>
     ensures { result ≡ port_of word.now }
 {
@@ -46,7 +46,7 @@ fn port_of(word: &[u8]) -> Option<u16>
     if port == 0 { None } else { Some(port) }
 }
 
-/// Where the socket is of which a word `IP:PORT` says it.
+/// The endpoint that a word `IP:PORT` spells.
 pub fn endpoint_of(word: &[u8]) -> Option<Endpoint>
     ensures { result ≡ endpoint_of word.now }
 {

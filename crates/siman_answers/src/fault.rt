@@ -1,4 +1,4 @@
-//! Why a command gave no answer, and how a command ends.
+//! The faults of commands, and the ending of a command.
 
 ghost use Rattle.std.specs.Prelude.{◌≡◌, Some};
 ghost use Rattle.std.specs.IoError.{error_kind};
@@ -23,7 +23,7 @@ use std::alloc::{AllocError, AllocFailed};
 use std::io::{ErrorKind, Write};
 use std::{fmt, io};
 
-/// Why a command gave no answer, or not the whole of it.
+/// Why a command gave no answer, or only a part of it.
 #[derive(Clone, Copy)]
 pub enum Fault<'a> {
     /// The hex text is more than 65,536 bytes, or is not pairs of hex digits.
@@ -34,58 +34,58 @@ pub enum Fault<'a> {
     Input,
     /// The file of this name could not be opened, for this reason.
     File(&'a str, Reason),
-    /// The words of the command line could not be had: one is not UTF-8.
+    /// A word of the command line is not UTF-8.
     Words,
-    /// The recording could not be read; never for want of memory.
+    /// The recording could not be read. Lack of memory is `Memory`.
     Recording(RecordingFault),
-    /// The recording that was to be carried over to the second format is one of it.
+    /// The recording to convert already has the second format.
     Already,
-    /// The piece of this name could not be read; never for want of memory.
+    /// The piece of this name could not be read. Lack of memory is `Memory`.
     Piece(RecordingFault, &'a str),
     /// The piece of this name is of another exercise than the first.
     OtherExercise(&'a str),
-    /// The piece of this name has the station of this site and application, and so has an earlier
-    /// one.
+    /// The piece of this name has the station of this site and application, which an earlier piece
+    /// has too.
     StationTwice(u16, u16, &'a str),
-    /// What pieces give together passes a limit.
+    /// The recording joined from the pieces passes a limit.
     Joined(JoinLimit),
-    /// The certificate could not be read; never for want of memory.
+    /// The certificate could not be read. Lack of memory is `Memory`.
     Certificate(CertificateFault),
-    /// The text is no script, and why, where that is told; never for want of memory.
+    /// The text is no script; the reason, if it is known. Lack of memory is `Memory`.
     Script(ScriptFault, Option<LineReason>),
     /// The script could not be read.
     ScriptRead(Unread),
-    /// The world of the script does not run, and where its move stands that cannot be made, where that
-    /// is told; never for want of memory.
+    /// The world of the script does not run; the place of the move that cannot be made, if it is
+    /// known. Lack of memory is `Memory`.
     World(WorldFault, Option<MovePlace>),
-    /// A line of a station could not be had, or a call of it failed.
+    /// The link of a station could not be opened, or a call of it failed.
     LineFailed,
-    /// This word is no address of a station, or says of no socket where it is.
+    /// This word is no address of a station, or no endpoint of a socket.
     StationWord(&'a str),
     /// The script has no station at the address.
     NotInSetup,
-    /// This word asks for no filter.
+    /// This word is no filter.
     Filter(&'a str),
-    /// This word says a step past the last one of so many.
+    /// This word names a step past the last one; the number of steps.
     Step(&'a str, usize),
-    /// The view would have more than 4,194,304 lines.
+    /// The view would have more than 4,194,304 rows.
     OverLimit,
-    /// The picture would have more than 2,000 rows, or the entities of a station have more than
-    /// 4,194,304 stretches.
+    /// The picture would have more than 2,000 rows, or the entities of a station more than
+    /// 4,194,304 spans.
     ChartOverLimit,
     /// The answer could not be written whole.
     Output,
-    /// The file that is to be made is the one that is read, which the words call so.
+    /// The file to be made is the input file; the name of the input, as it was given.
     SameAs(&'a str),
-    /// A file stands where one is to be created.
+    /// A file exists under the name of the one to be created.
     Exists,
     /// Memory ran out.
     Memory,
 }
 
 impl<'a> Fault<'a> {
-    /// How it is told: what it is about, what there is to say of it, and its place in what was read, or
-    /// why a file was not opened.
+    /// Subject, name and place of a fault. For a file that could not be opened, the reason takes
+    /// the position of the place.
     fn told(self) -> (&'static str, &'a str, Option<Place<'a>>)
         ensures subject { result.0.now ≡ (told_as self.entry).0 }
         ensures name { result.1.now ≡ (told_as self.entry).1 }
@@ -156,7 +156,7 @@ impl<'a> Fault<'a> {
         }
     }
 
-    /// The status that tells of it: 3 for want of memory, else 2.
+    /// The exit status of a fault: 3 for lack of memory, else 2.
     pub fn status(self) -> u8
         ensures { result ≡ fault_status self.entry }
     {
@@ -167,8 +167,8 @@ impl<'a> Fault<'a> {
     }
 }
 
-/// The line that tells of it, with no line end: `SUBJECT: NAME`, and behind it the place or the reason,
-/// where one is told.
+/// The line of a fault without its line end: `SUBJECT: NAME`, then the place or the reason, if it
+/// has one.
 impl fmt::Display for Fault<'_> {
     ghost output = { λ f. Some (fault_text f) };
 
@@ -197,7 +197,7 @@ impl<T: Drop> From<AllocFailed<T>> for Fault<'_> {
     }
 }
 
-/// Of what is read whole, and is a script.
+/// For a script, which is read whole.
 impl From<InputFault> for Fault<'_> {
     ghost from_gives = { λ fault e. e ≡ of_unread_script fault };
 
@@ -316,7 +316,7 @@ impl From<TrialFault> for Fault<'_> {
     }
 }
 
-/// How an error is told: as this fault, or as want of memory.
+/// The fault of an error: `Memory` for lack of memory, else `fault`.
 pub fn of_error<'a>(error: &io::Error, fault: Fault<'a>) -> Fault<'a>
     ensures { IsToldAs (error_kind error.now) fault.entry result }
 {
@@ -326,17 +326,17 @@ pub fn of_error<'a>(error: &io::Error, fault: Fault<'a>) -> Fault<'a>
     fault
 }
 
-/// How a command ended.
+/// Exit status of a command, and whether the line of its fault was written.
 #[derive(Clone, Copy)]
 pub struct Ended {
-    /// The status to exit with.
+    /// The exit status.
     pub status: u8,
-    /// Whether all that was to be told on the writer of faults was written; after a failed write a
+    /// Whether all that is written to the writer of faults was written; after a failed write a
     /// prefix of it was.
     pub written: Result<(), WriteFailed>,
 }
 
-/// Writes a place, where there is one.
+/// Writes a place, if there is a place.
 fn tell_place<E: Write>(place: Option<Place<'_>>, errors: &mut E) -> Result<(), WriteFailed>
     ensures { Writes result (E.contents errors.old) (E.contents errors.new) (place_text place.entry) }
 {
@@ -346,7 +346,7 @@ fn tell_place<E: Write>(place: Option<Place<'_>>, errors: &mut E) -> Result<(), 
     }
 }
 
-/// Writes a fault without its line end.
+/// Writes the line of a fault without its line end.
 fn tell_text<E: Write>(fault: Fault<'_>, errors: &mut E) -> Result<(), WriteFailed>
     ensures { Writes result (E.contents errors.old) (E.contents errors.new) (fault_text fault.entry) }
 {
@@ -363,7 +363,7 @@ pub fn tell<E: Write>(fault: Fault<'_>, errors: &mut E) -> Result<(), WriteFaile
     put(errors, b"\n")
 }
 
-/// Ends a command, after it told its fault.
+/// Ends a command: writes the line of its fault, if it has one, and returns its exit status.
 pub fn end<E: Write>(answered: Result<u8, Fault<'_>>, errors: &mut E) -> Ended
     ensures { Ends answered.entry result (E.contents errors.old) (E.contents errors.new) }
 {

@@ -1,27 +1,27 @@
-//! What a file looks like, by its first bytes.
+//! The kind of a file, recognized by its first bytes.
 
 ghost use Rattle.std.specs.Prelude.{◌≡◌};
 ghost use Rattle.siman_answers.specs.FileKinds.{is_capture, is_script, file_kind_of};
 
-/// What a file looks like.
+/// The kind of a file, recognized by its first bytes.
 #[derive(Clone, Copy, PartialEq, Eq)]
 pub enum FileKind {
     /// It begins as a recording.
     Recording,
     /// It begins as a certificate.
     Certificate,
-    /// It begins as a capture of tcpdump or Wireshark.
+    /// It begins as a capture of tcpdump or Wireshark: pcap or pcapng.
     Capture,
     /// It begins as a script, with its exercise line or a comment.
     Script,
     /// It has no bytes.
     Empty,
-    /// Something else, or nothing is known of it.
+    /// Something else, or unknown.
     Unknown,
 }
 
-/// Whether bytes begin as a capture: of the format pcap, in either byte order, of microseconds or
-/// nanoseconds, or of pcapng.
+/// Whether bytes begin as a capture: pcap, in either byte order, with microseconds or nanoseconds,
+/// or pcapng.
 fn is_capture(bytes: &[u8]) -> bool
     ensures { result ≡ is_capture bytes.now }
 {
@@ -39,7 +39,7 @@ fn is_script(bytes: &[u8]) -> bool
     bytes.starts_with(b"exercise ") || bytes.starts_with(b"#")
 }
 
-/// What a file looks like that begins with these bytes.
+/// The kind of a file that begins with these bytes.
 pub fn file_kind_of(bytes: &[u8]) -> FileKind
     ensures { result ≡ file_kind_of bytes.now }
 {

@@ -16,18 +16,18 @@ use std::fmt;
 /// the fault.
 #[derive(Clone, Copy, Debug, PartialEq, Eq)]
 pub enum FilesFault {
-    /// The recording could not be read; never for want of memory.
+    /// The recording could not be read. Lack of memory is `Memory`.
     Recording(RecordingFault),
-    /// The certificate could not be read; never for want of memory.
+    /// The certificate could not be read. Lack of memory is `Memory`.
     Certificate(CertificateFault),
-    /// The answer could not be written whole; a prefix of it is out.
+    /// The answer could not be written whole; a prefix of it was written.
     Write,
-    /// Memory ran out; nothing is out.
+    /// Memory ran out; nothing was written.
     Memory,
 }
 
 impl FilesFault {
-    /// The status that tells of it: 3 for want of memory, else 2.
+    /// The exit status of the fault: 3 for lack of memory, else 2.
     pub fn status(self) -> u8
         ensures { result ≡ files_fault_status self }
     {

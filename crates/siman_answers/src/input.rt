@@ -1,4 +1,4 @@
-//! What a reader has: read to its end, or to one byte more than it may have.
+//! Reading a whole input, up to a limit.
 
 ghost use Rattle.std.specs.Prelude.{◌≤◌, ◌≡◌, ◌+◌, vec_len, IfSome, IfOk};
 ghost use Rattle.std.specs.Io.KnownBytes.{Consumes};
@@ -8,21 +8,21 @@ use byte_files::{FetchFault, fetch};
 use std::alloc::Global;
 use std::io::Read;
 
-/// A read that failed. Only the functions here make one, so who has one has tried to read.
+/// Evidence of a failed read. Only the functions of this module make one.
 #[derive(Clone, Copy, Debug, PartialEq, Eq)]
 pub struct Unread(());
 
-/// Why what a reader has was not read to its end.
+/// Why an input was not read to its end.
 #[derive(Clone, Copy)]
 pub enum InputFault {
     /// A read failed.
     Unread(Unread),
-    /// There is no memory for what was read.
+    /// Memory for the bytes ran out.
     Memory,
 }
 
-/// What a reader has, of which no more is read than one byte past the most that it may have. What is
-/// held grows as it comes.
+/// Reads an input to its end, or to one byte more than `most`; a result of `most + 1` bytes is too
+/// long. The buffer grows as bytes arrive.
 pub fn read_text<R: Read>(alloc: Global, reader: &mut R, most: usize) -> Result<Vec<u8>, InputFault>
     ensures text { IfOk result (λ text. IfSome (R.remaining reader.old) (λ bytes. text.items ≡ fetched most bytes)) }
     ensures bound { IfOk result (λ text. Consumes (R.remaining reader.old) (R.remaining reader.new) text.items) }

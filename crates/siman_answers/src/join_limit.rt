@@ -1,4 +1,4 @@
-//! The limits of what pieces of a recording give together.
+//! The limits that pieces of a recording can pass together.
 
 ghost use Rattle.std.specs.Prelude.{◌≡◌};
 ghost use Rattle.siman_answers.specs.Ending.{limit_name};
@@ -15,7 +15,7 @@ pub enum JoinLimit {
 }
 
 impl JoinLimit {
-    /// How it is told.
+    /// Name of the limit, as the fault has it.
     pub fn name(self) -> &'static str
         ensures { result.now ≡ limit_name self }
     {

@@ -1,5 +1,5 @@
-//! What is known of what a program did outside: what the system said of a call that failed, and what
-//! the files look like that were opened.
+//! Details of the system's calls that explain a fault: the call that failed last, and the kinds of
+//! the opened files.
 
 use crate::endpoint::Endpoint;
 use crate::file_kind::FileKind;
@@ -8,40 +8,40 @@ use std::io::ErrorKind;
 /// A call of the system.
 #[derive(Clone, Copy)]
 pub enum SystemCall {
-    /// A file is opened to be read.
+    /// Opening a file to read it.
     Open,
-    /// A file is made that is to stand under a name.
+    /// Making a file that is to take a name.
     Make,
-    /// A file that was made is written.
+    /// Writing a made file.
     Write,
-    /// A file that was made takes its name.
+    /// Letting a made file take its name.
     Save,
-    /// A socket is bound there.
+    /// Binding a socket to an endpoint.
     Bind(Endpoint),
-    /// Sockets of the loopback are bound.
+    /// Binding sockets of the loopback.
     BindLoopback,
 }
 
-/// What the system said of a call that failed.
+/// A failed call, with the kind of its error.
 #[derive(Clone, Copy)]
 pub struct SystemFault {
     pub call: SystemCall,
     pub kind: ErrorKind,
 }
 
-/// What is known of what a program did outside.
+/// Details of the system's calls that explain a fault.
 #[derive(Clone, Copy)]
 pub struct Known {
-    /// What the system said of the call that failed last.
+    /// The call that failed last.
     pub failed: Option<SystemFault>,
-    /// What the file looks like that was opened first.
+    /// The kind of the file that was opened first.
     pub first: FileKind,
-    /// What the file looks like that was opened second.
+    /// The kind of the file that was opened second.
     pub second: FileKind,
 }
 
 impl Known {
-    /// Nothing.
+    /// No failed call, and files of unknown kind.
     pub fn nothing() -> Known {
         Known {
             failed: None,

@@ -1,12 +1,15 @@
-//! What all commands of `siman` share: the faults that they meet and how each is told, what a program
-//! may do outside, and how files are opened, read, made and written.
+//! What all commands of `siman` share: their faults, the line of each fault, the trait of a
+//! program's surroundings ([`Outside`]), and how files are opened, read, made and written. A
+//! command is a [`Product`], from which a file is made ([`make_of_file`]), or it says something of
+//! one file or two ([`OfFile`], [`OfFiles`]); it returns a status or a [`Fault`], which [`end`]
+//! turns into an exit status.
 //!
-//! It knows no command, opens no file itself and ends no process. A command is a [`Product`], of which
-//! a file is made ([`make_of_file`]), or says something of one file or two ([`OfFile`], [`OfFiles`]),
-//! over what a program may do ([`Outside`]), and gives a status or a [`Fault`], as which [`end`] ends.
-//! The contracts here say which files are opened and made, in which order (`SaysOfFile`,
-//! `WorksSparing`, `MakesFile`), and what is told of each fault, to the byte (`fault_line`, `Ends`); the crates of the
-//! commands say what is made of what is read.
+//! It knows no command, opens no file itself and ends no process.
+//!
+//! The layer above may use its contracts on which files are opened and made, in which order
+//! (`SaysOfFile`, `WorksSparing`, `MakesFile`), and on the line of each fault, to the byte
+//! (`fault_line`, `Ends`); what a command makes of its input is in the contracts of the command's
+//! crate.
 #![tactic(auto)]
 
 mod ending;

@@ -1,6 +1,6 @@
-//! The limits of the files that commands read.
+//! Limits of the files that commands read.
 
-/// The size in bytes of the largest recording that is read.
+/// Size in bytes of the largest recording that is read.
 pub const LARGEST_RECORDING: u64 = 268_435_456;
 
 /// The most steps of a certificate that is read.

@@ -1,4 +1,4 @@
-//! Making a file: what is written to it, and what is said then.
+//! Making a file: writing it, reporting on it, and saving it.
 
 ghost use Rattle.std.specs.Prelude.{◌≡◌, ◌∷◌, [], ℕ, List, Option, Result};
 ghost use Rattle.std.specs.IoError.{error_kind};
@@ -14,13 +14,13 @@ use std::alloc::Global;
 use std::io;
 use std::io::{ErrorKind, Write};
 
-/// What a command makes a file of.
+/// A value from which a command makes a file.
 pub trait Making {
-    /// What is written to the file and said, and the status or the fault that is answered.
+    /// The relation of the value to the status or fault, the made file and the output.
     ghost puts: { Self → Result ℕ Fault → (file out : Stream) → Type 0 };
 
-    /// Writes it to a file, whole, has that outlast the machine, and then says what there is to say;
-    /// gives the status.
+    /// Writes the whole file, flushes it so that it survives a power loss, and then writes the
+    /// command's report. Returns the status.
     fn put<F: Write, W: Write>(
         &self,
         alloc: Global,
@@ -32,7 +32,7 @@ pub trait Making {
             puts self.now result file out };
 }
 
-/// Has what was written to a file outlast the machine, and then writes a line.
+/// Flushes a file, so that it survives a power loss, and then writes a line.
 pub fn settle_and_say<F: Write, W: Write>(
     file: &mut F,
     line: &str,
@@ -51,7 +51,7 @@ pub fn settle_and_say<F: Write, W: Write>(
     }
 }
 
-/// Writes what tells of a no, as a blocked list, and gives the status.
+/// Writes the answer where there is nothing to make, a blocked list, and returns status 1.
 pub fn put_stuck<W: Write>(list: &str, out: &mut W) -> Result<u8, Fault<'static>>
     ensures { let out : Stream = record { old = W.contents out.old; new = W.contents out.new } in
         PutsBlocked list.now result out }
@@ -62,7 +62,7 @@ pub fn put_stuck<W: Write>(list: &str, out: &mut W) -> Result<u8, Fault<'static>
     }
 }
 
-/// Why a file was not saved.
+/// The fault of a file that was not saved: `Exists` if its name was taken meanwhile, else `Output`.
 fn unsaved(error: &io::Error) -> Fault<'static>
     ensures { result ≡ unsaved (error_kind error.now) }
 {
@@ -72,7 +72,7 @@ fn unsaved(error: &io::Error) -> Fault<'static>
     }
 }
 
-/// Saves a file that was written, or discards it where there was a fault.
+/// Saves a written file, or discards it after a fault.
 fn save_or_discard<O: Outside>(
     put: Result<u8, Fault<'static>>,
     file: O::Made,
@@ -93,9 +93,8 @@ fn save_or_discard<O: Outside>(
     }
 }
 
-/// Makes the file of a name, in the place of one that stands there or not, writes what there is to
-/// write, whole, and then says what there is to say. The file is saved after that, and discarded after
-/// a fault.
+/// Makes the file of a name, which replaces an existing one (`force`) or not, writes it whole, and
+/// then writes the command's report. After that the file is saved, or discarded after a fault.
 pub fn make_file<M: Making, O: Outside, W: Write>(
     alloc: Global,
     made: &M,

@@ -1,4 +1,4 @@
-//! The move of a script that cannot be made: how its fault is told, and where it stands.
+//! A move of a script that cannot be made: its place, and the name of its fault.
 
 ghost use Rattle.std.specs.Prelude.{◌≡◌};
 ghost use Rattle.siman_answers.specs.Ending.{move_fault_name};
@@ -6,16 +6,16 @@ ghost use Rattle.siman_answers.specs.Ending.{move_fault_name};
 use siman_manager::OrderFault;
 use siman_worlds::MoveFault;
 
-/// Where the move of a script stands that cannot be made.
+/// Place of a move that cannot be made.
 #[derive(Clone, Copy)]
 pub struct MovePlace {
     /// The line of the script, from 1.
     pub line: usize,
-    /// How many datagrams were sent before it, where that is known.
+    /// Number of datagrams that were sent before the move, if it is known.
     pub sends: Option<usize>,
 }
 
-/// The name of a fault of a move.
+/// Name of a move's fault, as the line of the fault has it.
 pub(crate) fn move_fault_name(fault: MoveFault) -> &'static str
     ensures { result.now ≡ move_fault_name fault }
 {

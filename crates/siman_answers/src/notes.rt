@@ -1,4 +1,4 @@
-//! What a command notes besides its answer, to warn of.
+//! Warnings that a command notes besides its answer.
 
 ghost use Rattle.std.specs.Prelude.{◌≡◌};
 ghost use Rattle.exercise_model.specs.Held.{shown};
@@ -6,17 +6,17 @@ ghost use Rattle.siman_answers.specs.Notes.{datagram_count, entry_count, nothing
 
 use exercise_model::{EntryView, ExerciseLog, meaning_view};
 
-/// What a command warns of, whatever it answers.
+/// A warning, which changes neither the answer nor the status.
 #[derive(Clone, Copy)]
 pub enum Warning {
-    /// A recording has so many datagrams, and none of them means anything in its exercise, which is
-    /// this one.
+    /// A recording has datagrams, this many, and none of them means anything in its exercise, whose
+    /// number this is.
     NothingMeant {
         datagrams: u64,
         exercise: u8,
     },
-    /// The order of this line of a script, from 1, is for a station of this site and application,
-    /// which the script has not.
+    /// The order in this line of a script, from 1, is for a station of this site and application
+    /// that the script does not have.
     NoSuchStation {
         line: usize,
         site: u16,
@@ -24,10 +24,10 @@ pub enum Warning {
     },
 }
 
-/// What a command notes besides its answer.
+/// Notes of a command besides its answer.
 #[derive(Clone, Copy)]
 pub struct Notes {
-    /// The first that there was to warn of.
+    /// The first warning that was noted.
     pub warning: Option<Warning>,
 }
 
@@ -36,14 +36,14 @@ impl Notes {
     ghost use Rattle.std.specs.Option.{option_or};
     ghost use Rattle.siman_answers.specs.Notes.{nothing_meant};
 
-    /// Nothing so far.
+    /// No notes.
     pub fn nothing() -> Notes
         ensures { result.warning ≡ None }
     {
         Notes { warning: None }
     }
 
-    /// Notes a warning, where none was noted before.
+    /// Notes a warning, unless one was noted before.
     pub fn note(&mut self, warning: Option<Warning>)
         ensures { self.new.warning ≡ option_or self.old.warning warning }
     {
@@ -52,8 +52,8 @@ impl Notes {
         }
     }
 
-    /// Notes that a recording has datagrams of which none means anything in its exercise, if that is
-    /// so.
+    /// Notes the warning that a recording has datagrams and none means anything in its exercise, if
+    /// that is so.
     pub fn note_recording<L: ExerciseLog>(&mut self, log: &L)
         ensures { self.new.warning ≡ option_or self.old.warning (nothing_meant (L.recording log.now)) }
     {
@@ -61,7 +61,7 @@ impl Notes {
     }
 }
 
-/// A datagram that means something in an exercise, or one that does not.
+/// `Some(1)` for a datagram that means nothing in an exercise, `None` for one that means something.
 fn datagram_count(exercise: u8, datagram: &[u8]) -> Option<usize>
     ensures { result ≡ datagram_count exercise datagram.now }
 {
@@ -71,7 +71,7 @@ fn datagram_count(exercise: u8, datagram: &[u8]) -> Option<usize>
     Some(1)
 }
 
-/// How many datagrams an entry has that mean nothing in an exercise; `None` where it has one that
+/// Number of datagrams of an entry that mean nothing in an exercise, 0 or 1; `None` if its datagram
 /// means something.
 fn entry_count(exercise: u8, entry: EntryView<'_>) -> Option<usize>
     ensures { result ≡ entry_count exercise (shown entry.entry) }
@@ -84,7 +84,7 @@ fn entry_count(exercise: u8, entry: EntryView<'_>) -> Option<usize>
     }
 }
 
-/// How many datagrams a recording has, where none of them means anything in its exercise.
+/// Number of datagrams of a recording, if none of them means anything in its exercise; else `None`.
 fn nothing_in<L: ExerciseLog>(log: &L) -> Option<usize>
     ensures { let r = L.recording log.now in result ≡ nothing_in r.setting.exercise r.entries }
 {
@@ -99,7 +99,7 @@ fn nothing_in<L: ExerciseLog>(log: &L) -> Option<usize>
     Some(datagrams)
 }
 
-/// The warning of a recording that has datagrams of which none means anything in its exercise.
+/// The warning of a recording that has datagrams, none of which means anything in its exercise.
 fn nothing_meant<L: ExerciseLog>(log: &L) -> Option<Warning>
     ensures { result ≡ nothing_meant (L.recording log.now) }
 {

@@ -1,4 +1,4 @@
-//! Opening files to be read, while another is to be made.
+//! Opening files to read them, while another file is to be made.
 
 ghost use Rattle.std.specs.Prelude.{◌≡◌, ℕ, List, Option};
 ghost use Rattle.std.specs.IoError.{error_kind};
@@ -12,7 +12,8 @@ use crate::reason::reason_of;
 use std::io;
 use std::io::ErrorKind;
 
-/// How it is told that the file of a name could not be opened.
+/// The fault of a file that could not be opened: `Memory` for lack of memory, else `File` with its
+/// name and the reason.
 pub fn unopened<'a>(name: &'a str, error: &io::Error) -> Fault<'a>
     ensures { IsUnopened name.now (error_kind error.now) result }
 {
@@ -22,8 +23,7 @@ pub fn unopened<'a>(name: &'a str, error: &io::Error) -> Fault<'a>
     Fault::File(name, reason_of(error.kind()))
 }
 
-/// Opens the file of the first name to be read, which must not be the one that is to be made under
-/// the second.
+/// Opens the file of the first name. `SameAs` if it is the file to be made under the second name.
 pub fn open_apart<'a, O: Outside>(
     names: (&'a str, &'a str),
     outside: &mut O,
@@ -42,7 +42,7 @@ pub fn open_apart<'a, O: Outside>(
     }
 }
 
-/// Opens two files in the order of their names, neither of which may be the one that is to be made.
+/// Opens two files in the order of their names. `SameAs` if either is the file to be made.
 fn open_both<'a, O: Outside>(
     names: (&'a str, &'a str),
     made: &'a str,
@@ -56,7 +56,8 @@ fn open_both<'a, O: Outside>(
     Ok((first, second))
 }
 
-/// Spares what stands under the name of the file that is to be made, unless that is to be replaced.
+/// Reports `Exists` if the name of the file to be made has a file to replace, unless `force` is
+/// set.
 pub fn spare<O: Outside>(name: &str, force: bool, outside: &mut O) -> Result<(), Fault<'static>>
     ensures { (deeds : List Deed) × Adds (O.deeds outside.old) (O.deeds outside.new) deeds × ((holds : List ℕ → Option Found) → All (WasHeld holds) deeds) × Spares force name.now deeds result }
 {
@@ -69,8 +70,8 @@ pub fn spare<O: Outside>(name: &str, force: bool, outside: &mut O) -> Result<(),
     Ok(())
 }
 
-/// Opens the file of the first name to be read, where none stands that the one of the second would
-/// replace, unless that is asked for.
+/// Opens the file of the first name. `SameAs` if it is the file to be made under the second name;
+/// `Exists` if that name has a file to replace, unless `force` is set.
 pub fn open_spared<'a, O: Outside>(
     names: (&'a str, &'a str),
     force: bool,
@@ -83,8 +84,8 @@ pub fn open_spared<'a, O: Outside>(
     Ok(file)
 }
 
-/// Opens two files in the order of their names, where none stands that the one to be made would
-/// replace, unless that is asked for.
+/// Opens two files in the order of their names. `SameAs` if either is the file to be made; `Exists`
+/// if the name of that has a file to replace, unless `force` is set.
 pub fn open_both_spared<'a, O: Outside>(
     names: (&'a str, &'a str),
     made: &'a str,

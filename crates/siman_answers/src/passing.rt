@@ -1,4 +1,4 @@
-//! Passing lines on, some 64 KiB at a time.
+//! Writing long texts in parts of some 64 KiB.
 
 ghost use Rattle.std.specs.Prelude.{◌≡◌, ◌≤◌, length, OnOk, string_bytes};
 ghost use Rattle.siman_answers.specs.Passing.{PassesOn, shown_status};
@@ -7,10 +7,10 @@ use crate::fault::Fault;
 use byte_files::put;
 use std::io::Write;
 
-/// How many bytes of lines are held before they are written.
+/// Number of bytes of text that are buffered before they are written.
 pub const HELD: usize = 65_536;
 
-/// Writes the lines that are held, if there are more than so many bytes of them.
+/// Writes the buffered text and clears the buffer, if it has more than `most` bytes.
 pub fn pass_on<W: Write>(lines: &mut String, most: usize, out: &mut W) -> Result<(), Fault<'static>>
     ensures passed { PassesOn result (W.contents out.old) (W.contents out.new) (string_bytes lines.new) (string_bytes lines.old) }
     ensures held { OnOk result (length (string_bytes lines.new) ≤ most) }
@@ -26,7 +26,7 @@ pub fn pass_on<W: Write>(lines: &mut String, most: usize, out: &mut W) -> Result
     }
 }
 
-/// The status of a recording of which a text was given is 0.
+/// Exit status after the text of a recording: 0, or the fault.
 pub fn status_of(shown: Result<(), Fault<'static>>) -> Result<u8, Fault<'static>>
     ensures { result ≡ shown_status shown.entry }
 {

@@ -1,4 +1,4 @@
-//! What stands at the end of the line of a fault: a place in what was read, or why a file was not opened.
+//! The end of a fault's line: a place in what was read, or why a file was not opened.
 
 ghost use Rattle.std.specs.Prelude.{◌++◌, decimal, Some};
 ghost use Rattle.byte_files.specs.Writing.{Writes};
@@ -10,7 +10,7 @@ use itoa::Buffer;
 use std::fmt;
 use std::io::Write;
 
-/// A place in what was read, or why a file was not.
+/// A place in what was read, or why a file was not opened.
 #[derive(Clone, Copy)]
 pub(crate) enum Place<'a> {
     /// An offset in bytes, from 0.
@@ -19,13 +19,13 @@ pub(crate) enum Place<'a> {
     Line(usize),
     /// A move, from 0.
     Move(usize),
-    /// A piece, which the words call so.
+    /// A piece, by its name.
     Piece(&'a str),
     /// An offset in bytes, from 0, in the piece of this name.
     PieceOffset(u64, &'a str),
     /// The station of this site and application, in the piece of this name.
     PieceStation(u16, u16, &'a str),
-    /// No place: nothing was read of a file that could not be opened, for this reason.
+    /// No place, but the reason why a file could not be opened.
     Unopened(Reason),
 }
 
@@ -60,7 +60,7 @@ fn put_number<W: Write>(writer: &mut W, words: &str, number: u64) -> Result<(), 
     put_both(writer, words.as_bytes(), buffer.format(number).as_bytes())
 }
 
-/// Writes words and a number, and then in which piece.
+/// Writes words and a number, and ` in ` with the name of the piece.
 fn put_in_piece<W: Write>(
     writer: &mut W,
     words: &str,
@@ -73,7 +73,7 @@ fn put_in_piece<W: Write>(
     put_both(writer, b" in ", name.as_bytes())
 }
 
-/// Writes the address of a station, and then in which piece.
+/// Writes the address of a station, and ` in ` with the name of the piece.
 fn put_station<W: Write>(
     writer: &mut W,
     site: u16,
@@ -86,7 +86,7 @@ fn put_station<W: Write>(
     put_in_piece(writer, ":", application as u64, name)
 }
 
-/// Writes a place, as it is shown.
+/// Writes a place, as its `Display` does.
 pub(crate) fn put_place<W: Write>(writer: &mut W, place: Place<'_>) -> Result<(), WriteFailed>
     ensures { Writes result (W.contents writer.old) (W.contents writer.new) (place_words place.entry) }
 {

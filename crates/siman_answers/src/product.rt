@@ -1,4 +1,4 @@
-//! Making a file of another: what is made of the one that is read, and what is done with it.
+//! Commands that make one file from another.
 
 ghost use Rattle.std.specs.Prelude.{◌≡◌, ℕ, Bool, List, Option, Result};
 ghost use Rattle.std.specs.List.{All};
@@ -13,16 +13,16 @@ use crate::outside::Outside;
 use std::alloc::Global;
 use std::io::{Read, Write};
 
-/// What a command makes of the file that it reads, to make another of it.
+/// What a command reads from its input file, to make another file of it.
 pub trait Product: Sized {
-    /// What comes of a file that has these bytes, where they are known: this, or a fault.
+    /// The relation of a file's bytes, if they are known, to the product or the fault.
     ghost reads: { (known : Option (List ℕ)) → Result Self Fault → Type 0 };
 
-    /// What is done with it for the file of a name, in the place of one that stands there (`force`) or
-    /// not, and the status or the fault that is answered.
+    /// The relation of a product to the calls that make the file of a name, which replaces an
+    /// existing one (`force`) or not, and to the status or fault and the output.
     ghost makes: { Self → (force : Bool) → (name : List ℕ) → List Deed → Result ℕ Fault → (out : Stream) → Type 0 };
 
-    /// Makes it of what a reader has, and notes what there is to warn of.
+    /// Reads the product from an input, and notes warnings.
     fn read<R: Read + Drop>(
         alloc: Global,
         file: R,
@@ -30,7 +30,7 @@ pub trait Product: Sized {
     ) -> Result<Self, Fault<'static>>
         ensures { reads (R.remaining file) result };
 
-    /// Makes the file of a name, says what there is to say, and gives the status.
+    /// Makes the file of a name, writes the command's report, and returns the status.
     fn make<O: Outside, W: Write>(
         self,
         alloc: Global,
@@ -43,8 +43,8 @@ pub trait Product: Sized {
             (deeds : List Deed) × Adds (O.deeds outside.old) (O.deeds outside.new) deeds × ((holds : List ℕ → Option Found) → All (WasHeld holds) deeds) × makes self force name.now deeds result out };
 }
 
-/// Opens the file of the first name, and makes that of the second of what comes of it, in the place of
-/// one that stands there or not.
+/// Opens the file of the first name, reads a product from it, and makes the file of the second name
+/// of that; the made file replaces an existing one (`force`) or not.
 pub fn make_of_file<'a, P: Product, O: Outside, W: Write>(
     alloc: Global,
     names: (&'a str, &'a str),

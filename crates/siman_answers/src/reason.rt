@@ -8,9 +8,9 @@ use std::io::ErrorKind;
 /// Why a file could not be opened.
 #[derive(Clone, Copy)]
 pub enum Reason {
-    /// None stands under its name.
+    /// No file has the name.
     Missing,
-    /// It may not be read.
+    /// The user may not read it.
     Denied,
     /// It is a directory.
     Directory,
@@ -19,7 +19,7 @@ pub enum Reason {
 }
 
 impl Reason {
-    /// How it is told.
+    /// The text of the reason, as the line of the fault has it.
     pub(crate) fn name(self) -> &'static str
         ensures { result.now ≡ reason_text self }
     {
@@ -32,7 +32,7 @@ impl Reason {
     }
 }
 
-/// The reason that an error gives.
+/// The reason for a kind of error.
 pub(crate) fn reason_of(kind: ErrorKind) -> Reason
     ensures { result ≡ reason_of kind }
 {

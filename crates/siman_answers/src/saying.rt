@@ -1,4 +1,4 @@
-//! Saying something of files: what a command opens, in which order, and what it says of them.
+//! Commands that say something of files: which files they open, in which order, and what they say.
 
 ghost use Rattle.std.specs.Prelude.{◌≡◌, ℕ, List, Option, Result};
 ghost use Rattle.std.specs.List.{All};
@@ -15,12 +15,10 @@ use std::io::{Read, Write};
 
 /// A command that says something of one file.
 pub trait OfFile {
-    /// What is said of a file that has these bytes, where they are known, and the status or the
-    /// fault that is answered.
+    /// The relation of a file's bytes, if they are known, to the status or fault and the output.
     ghost says: { Self → (known : Option (List ℕ)) → Result ℕ Fault → (out : Stream) → Type 0 };
 
-    /// Says what there is to say of what a reader has, notes what there is to warn of, and gives the
-    /// status.
+    /// Reads the file, writes the answer, notes warnings, and returns the status.
     fn say<R: Read + Drop, W: Write>(
         &self,
         alloc: Global,
@@ -34,11 +32,10 @@ pub trait OfFile {
 
 /// A command that says something of two files.
 pub trait OfFiles {
-    /// What is said of files that have these bytes, as of one.
+    /// The relation of both files' bytes, if they are known, to the status or fault and the output.
     ghost says: { Self → (first second : Option (List ℕ)) → Result ℕ Fault → (out : Stream) → Type 0 };
 
-    /// Says what there is to say of what two readers have, notes what there is to warn of, and gives
-    /// the status.
+    /// Reads both files, writes the answer, notes warnings, and returns the status.
     fn say<R: Read + Drop, S: Read + Drop, W: Write>(
         &self,
         alloc: Global,
@@ -51,7 +48,7 @@ pub trait OfFiles {
             says self.now (R.remaining first) (S.remaining second) result out };
 }
 
-/// Opens a file, and says of it what a command says.
+/// Opens a file, and runs a command on it.
 pub fn say_of_file<'a, C: OfFile, O: Outside, W: Write>(
     alloc: Global,
     command: &C,
@@ -72,8 +69,7 @@ pub fn say_of_file<'a, C: OfFile, O: Outside, W: Write>(
     }
 }
 
-/// Opens two files in the order of the words before any of them is read, and says of them what a
-/// command says.
+/// Opens two files in the order of their names, before either is read, and runs a command on them.
 pub fn say_of_files<'a, C: OfFiles, O: Outside, W: Write>(
     alloc: Global,
     command: &C,

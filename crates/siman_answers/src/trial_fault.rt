@@ -18,18 +18,18 @@ use std::fmt;
 pub enum TrialFault {
     /// The script could not be read.
     Read(Unread),
-    /// The text is no script; never for want of memory.
+    /// The text is no script. Lack of memory is `Memory`.
     Script(ScriptFault),
-    /// The world of the script does not run; never for want of memory.
+    /// The world of the script does not run. Lack of memory is `Memory`.
     World(WorldFault),
-    /// The text could not be written whole; a prefix of it is out.
+    /// The text could not be written whole; a prefix of it was written.
     Write,
-    /// Memory ran out; nothing is out.
+    /// Memory ran out; nothing was written.
     Memory,
 }
 
 impl TrialFault {
-    /// The status that tells of it: 3 for want of memory, else 2.
+    /// The exit status of the fault: 3 for lack of memory, else 2.
     pub fn status(self) -> u8
         ensures { result ≡ fault_status (of_trial self) }
     {

@@ -1,4 +1,4 @@
--- The answer to a request, by what the application knows when the request comes first (profile, over IEEE 1278.1-2012, 5.6.5).
+-- The answer to a new request, given what the application knows then (profile, over IEEE 1278.1-2012, 5.6.5).
 use Rattle.std.specs.Prelude.{ℕ, zero, suc, ◌+◌, ◌-◌, Bool, ◌==◌, ◌&&◌, ◌||◌, not, nat_le, nat_lt, [], length, map, take, Option, Some, None, if◌then◌else◌}
 use Rattle.std.specs.List.{list_any}
 use Rattle.dis_records.specs.declared.entity_number.TheConstants.{ANY_NUMBER}
@@ -29,12 +29,12 @@ pub record Knowledge : Type 0 where
 
 -- Entities.
 
--- how many of the numbers 1 to n are of entities that are there
+-- how many of the numbers 1 to n are those of present entities
 unfoldable pub count_present : (ℕ → EntityState) → ℕ → ℕ
 count_present y zero = 0
 count_present y (suc n) = count_present y n + (if is_absent (y (suc n)) then 0 else 1)
 
--- fewer than 4,096 entities are there
+-- fewer than 4,096 entities are present
 abbrev pub has_place : (ℕ → EntityState) → Bool
 has_place y = nat_lt (count_present y LARGEST_ENTITY) MOST_ENTITIES
 
@@ -42,18 +42,18 @@ has_place y = nat_lt (count_present y LARGEST_ENTITY) MOST_ENTITIES
 abbrev pub is_free : (ℕ → EntityState) → ℕ → Bool
 is_free y e = is_entity e && is_absent (y e)
 
--- the number that a Create Entity for number n creates, if it does: n, or for 0xFFFE the least that is free
+-- the number that a Create Entity for number n creates, if any: n, or for 0xFFFE the least that is free
 abbrev pub chosen : (ℕ → EntityState) → ℕ → Option ℕ
 chosen y n =
     if has_place y
     then (if n == ANY_NUMBER then first_below (is_free y) (LARGEST_ENTITY + 1) else (if is_free y n then Some n else None))
     else None
 
--- the number names an entity that is there, or no single one
+-- the number names a present entity, or no single one
 abbrev pub is_meant : Kind → (ℕ → EntityState) → ℕ → Bool
 is_meant kind y n = is_open kind n || not (is_absent (y n))
 
--- the originating number of an answer: that of the request, or 0 where that names no single entity
+-- the originating number of an answer: that of the request, or 0 if that names no single entity
 abbrev pub own_number : Kind → ℕ → ℕ
 own_number kind n = if is_open kind n then 0 else n
 
@@ -75,17 +75,19 @@ answer_pdu a q stamp m body = record {
 abbrev pub plain_answer : Outfit → Pdu → ℕ → Body → Pdu
 plain_answer a q stamp body = answer_pdu a q stamp (own_number (body_kind q.body) q.target.entity) body
 
--- A Create Entity is acknowledged with flag 1: able, from the number that is created, or unable.
+-- the Acknowledge of a Create Entity, with flag 1: able, from the number that is created, or unable
 abbrev pub created : Outfit → Pdu → ℕ → ℕ → Option ℕ → Pdu
 created a q stamp request None = plain_answer a q stamp (Acknowledge 1 unable request)
 created a q stamp request (Some m) = answer_pdu a q stamp m (Acknowledge 1 able request)
 
--- A Remove Entity (flag 2), Start/Resume (3) or Stop/Freeze (4): able where it is for all entities or for one that is there.
+-- the Acknowledge of a Remove Entity (flag 2), Start/Resume (3) or Stop/Freeze (4): able if it is for all entities
+-- or for a present one
 abbrev pub obeyed : Outfit → (ℕ → EntityState) → Pdu → ℕ → ℕ → ℕ → Pdu
 obeyed a y q stamp flag request =
     plain_answer a q stamp (Acknowledge flag (if is_meant (body_kind q.body) y q.target.entity then able else unable) request)
 
--- the request status of an Action Response: 4 (complete) where the action is known, for all entities or for one that is there; else 5 (rejected)
+-- the request status of an Action Response: 4 (complete) if the action is known, for all entities or for a present
+-- one; else 5 (rejected)
 abbrev pub action_status : Outfit → (ℕ → EntityState) → Pdu → ℕ → ℕ
 action_status a y q action =
     if list_any (λ known. known == action) a.actions && is_meant (body_kind q.body) y q.target.entity then 4 else 5
@@ -111,16 +113,16 @@ record_count d = length d.fixed + length d.variable
 abbrev pub data_pdu : Outfit → Pdu → ℕ → ℕ → DatumLists → Pdu
 data_pdu a q stamp request d = plain_answer a q stamp (DataPdu request d)
 
--- A Data holds the longest beginning of the records with which it has at most 8192 bytes.
+-- a Data with the longest prefix of the records with which it has at most 8192 bytes
 abbrev pub data_answer : Outfit → Pdu → ℕ → ℕ → DatumLists → Pdu
 data_answer a q stamp request d =
     data_pdu a q stamp request (first_records (largest (λ k. nat_le (pdu_size (data_pdu a q stamp request (first_records k d))) LARGEST_DATAGRAM) (record_count d)) d)
 
--- the records that are held under these identifiers
+-- the records held under these identifiers
 abbrev pub held_records : Knowledge → IdLists → DatumLists
 held_records k ids = record { fixed = found k.fixed ids.fixed; variable = found k.variable ids.variable }
 
--- the records that a Set Data brings
+-- the records of a Set Data
 abbrev pub brought : Body → DatumLists
 brought (CreateEntity request) = no_datums
 brought (RemoveEntity request) = no_datums
@@ -135,7 +137,7 @@ brought (DataPdu request datums) = no_datums
 brought (EventReport event datums) = no_datums
 brought (Comment datums) = no_datums
 
--- what is known after these records were brought: under each identifier that is held, the last of them
+-- what is known after these records are stored: under each identifier that is held, the last of them
 abbrev pub told_of : DatumLists → Knowledge → Knowledge
 told_of d k = record {
   states = k.states;
@@ -147,7 +149,8 @@ told_of d k = record {
 abbrev pub ids_of : DatumLists → IdLists
 ids_of d = record { fixed = map fixed_id d.fixed; variable = map variable_id d.variable }
 
--- THE ANSWER TO A REQUEST q that comes for the first time, with this timestamp; what is no request has none, and stands for itself
+-- THE ANSWER TO A NEW REQUEST q, with this timestamp; a body that is no request has none, and the result is the PDU
+-- itself
 abbrev pub answer_by : Outfit → Knowledge → Pdu → ℕ → Body → Pdu
 answer_by a k q stamp (CreateEntity request) = created a q stamp request (chosen k.states q.target.entity)
 answer_by a k q stamp (RemoveEntity request) = obeyed a k.states q stamp 2 request
@@ -157,7 +160,7 @@ answer_by a k q stamp (Acknowledge flag response request) = q
 answer_by a k q stamp (ActionRequest request action datums) =
     plain_answer a q stamp (ActionResponse request (action_status a k.states q action) no_datums)
 answer_by a k q stamp (ActionResponse request status datums) = q
--- the interval is not looked at
+-- the interval is ignored
 answer_by a k q stamp (DataQuery request interval ids) = data_answer a q stamp request (held_records k ids)
 -- the values are those after all storing
 answer_by a k q stamp (SetData request datums) = data_answer a q stamp request (held_records (told_of datums k) (ids_of datums))

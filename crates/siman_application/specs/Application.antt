@@ -1,4 +1,4 @@
--- What contracts see of an application: what it was begun with, and what it keeps of the distinct requests, in order of arrival.
+-- What contracts see of an application: its configuration, and the distinct requests, in order of arrival.
 use Rattle.std.specs.Prelude.{◌≡◌, List, Bool, ◌&&◌, is_none, Result, Ok, Err}
 use Rattle.siman_pdus.specs.declared.pdu.Pdu.{Pdu}
 use Rattle.siman_application.specs.declared.fault.AppFault.{AppFault}
@@ -11,7 +11,7 @@ pub record ApplicationData : Type 0 where
   pub outfit : Outfit
   pub kept : List KeptRequest
 
--- the distinct requests that came, the last first
+-- the distinct requests that were received, the last first
 abbrev pub came : ApplicationData → List Pdu
 came s = requests s.kept
 
@@ -19,12 +19,12 @@ came s = requests s.kept
 abbrev pub is_new : ApplicationData → Pdu → Bool
 is_new s q = is_for s.outfit q && is_none (first_under q (came s))
 
--- what a call that took q left: the same outfit, and q among the distinct requests if it is one
+-- the effect of a call that took q: the outfit is unchanged, and q joins the distinct requests if it is new
 pub record Takes (old : ApplicationData) (q : Pdu) (new : ApplicationData) : Type 0 where
   pub outfit : new.outfit ≡ old.outfit
   pub came_is : came new ≡ with_request old.outfit (came old) q
 
--- what a call leaves that was to take q; an error leaves all as it was
+-- the effect of a call that was to take q; an error leaves all unchanged
 abbrev pub Leaves : {A : Type 0} → ApplicationData → Pdu → Result A AppFault → ApplicationData → Type 0
 Leaves old q (Ok r) new = Takes old q new
 Leaves old q (Err fault) new = new ≡ old

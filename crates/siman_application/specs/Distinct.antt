@@ -1,4 +1,4 @@
--- The distinct requests among the PDUs that came to a station (profile). Each list has THE LAST ONE FIRST.
+-- The distinct requests among the PDUs that a station received (profile). Each list has THE LAST ONE FIRST.
 use Rattle.std.specs.Prelude.{List, [], ◌∷◌, Bool, ◌&&◌, ◌==◌, Option, Some, None, is_none, if◌then◌else◌}
 use Rattle.std.specs.Option.{option_or}
 use Rattle.dis_records.specs.Entity.{is_addressed}
@@ -11,7 +11,7 @@ use Rattle.siman_application.specs.Outfit.{Outfit}
 abbrev pub is_for : Outfit → Pdu → Bool
 is_for a q = (q.exercise == a.exercise) && (is_request_body q.body && is_addressed q.target a.station.address)
 
--- the KEY of a request is its originating site and application and its request identifier: two requests have the same
+-- the two requests have one KEY: originating site and application, and request identifier
 abbrev pub is_under_key : Pdu → Pdu → Bool
 is_under_key q d = same_pair q.origin d.origin && same_id (request_id_of q.body) (request_id_of d.body)
 
@@ -25,11 +25,11 @@ unfoldable pub first_under : Pdu → List Pdu → Option Placed
 first_under q [] = None
 first_under q (d ∷ ds) = option_or (first_under q ds) (if is_under_key q d then Some (record { request = d; before = ds }) else None)
 
--- the distinct requests after one more PDU: it joins them where it is for the station and the first under its key
+-- the distinct requests after one more PDU: it joins them if it is for the station and the first under its key
 abbrev pub with_request : Outfit → List Pdu → Pdu → List Pdu
 with_request a ds q = if is_for a q && is_none (first_under q ds) then q ∷ ds else ds
 
--- THE DISTINCT REQUESTS among the PDUs that came
+-- THE DISTINCT REQUESTS among the received PDUs
 abbrev pub distinct : Outfit → List Pdu → List Pdu
 distinct a [] = []
 distinct a (q ∷ qs) = with_request a (distinct a qs) q

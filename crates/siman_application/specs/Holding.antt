@@ -1,4 +1,4 @@
--- What is held under each datum identifier, and what is held after records came.
+-- The records under each datum identifier, before and after others are stored.
 use Rattle.std.specs.Prelude.{ℕ, nat_eq, Option, None}
 use Rattle.indexmap.specs.IndexMap.{get}
 use Rattle.dis_records.specs.declared.datum.FixedDatum.{FixedDatum}
@@ -23,6 +23,6 @@ held_by d = record { fixed = λ id. last_under fixed_id id d.fixed; variable = �
 abbrev pub held_in : Held → Holding
 held_in h = record { fixed = λ id. get nat_eq h.fixed id; variable = λ id. get nat_eq h.variable id }
 
--- what is held after others came: only what is held is stored
+-- the records after others are stored: only under identifiers that are held
 abbrev pub stored_in : (came held : Holding) → Holding
 stored_in came held = record { fixed = λ id. stored (came.fixed id) (held.fixed id); variable = λ id. stored (came.variable id) (held.variable id) }

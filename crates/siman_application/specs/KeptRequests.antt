@@ -1,4 +1,4 @@
--- What is kept of the requests: a table under their keys, in order of arrival.
+-- The stored requests: a table by key, in order of arrival.
 use Rattle.std.specs.Prelude.{◌≡◌, ◌<◌, ℕ, zero, suc, List, [], ◌∷◌, length, take, slice_get, true, Option, Some, None}
 use Rattle.std.specs.declared.hash.FoldHasher.{FoldHasher}
 use Rattle.std.specs.declared.hash.BuildHasherDefault.{BuildHasherDefault}
@@ -21,37 +21,37 @@ use Rattle.siman_application.specs.Ranges.{IsOutfitInRange}
 abbrev pub Table : Type 0
 Table = IndexMap RequestKey KeptRequest (BuildHasherDefault FoldHasher)
 
--- the distinct requests after those that are kept in this order after some others; the last first
+-- the distinct requests after others and then these, which are in order of arrival; the last first
 abbrev pub kept_after : List Pdu → List KeptRequest → List Pdu
 kept_after ds [] = ds
 kept_after ds (k ∷ ks) = kept_after (k.request ∷ ds) ks
 
--- the requests that are kept, the last first
+-- the stored requests, the last first
 abbrev pub requests : List KeptRequest → List Pdu
 requests ks = kept_after [] ks
 
--- The key is that of the request.
+-- the key is that of the request
 pub record IsKey (k : RequestKey) (q : Pdu) : Type 0 where
   pub site : k.site ≡ q.origin.site
   pub application : k.application ≡ q.origin.application
   pub request : request_id_of q.body ≡ Some k.request
 
--- Each request is kept under its key.
+-- each request is stored under its key
 abbrev pub AreKeyed : List (RequestKey × KeptRequest) → Type 0
 AreKeyed [] = Unit {0}
 AreKeyed (e ∷ es) = IsKey e.0 e.1.request × AreKeyed es
 
--- A kept request is for the station, and its answer is the answer to it after these, with some timestamp.
+-- a stored request is for the station, and its answer is the answer to it after these, with some timestamp
 pub record IsAnswered (a : Outfit) (ds : List Pdu) (k : KeptRequest) : Type 0 where
   pub own : is_for a k.request ≡ true
   pub answer_is : k.answer ≡ answer a (known a ds) k.request k.answer.stamp
 
--- Each request that was kept after some others is answered.
+-- each request that was stored after some others is answered
 abbrev pub AreAnswered : Outfit → List Pdu → List KeptRequest → Type 0
 AreAnswered a ds [] = Unit {0}
 AreAnswered a ds (k ∷ ks) = IsAnswered a ds k × AreAnswered a (k.request ∷ ds) ks
 
--- The text of each request for entities means what is carried of it, and that of its answer the answer.
+-- the text of each request for entities means the request as a datagram carries it, and that of its answer the answer
 abbrev pub AreSpelled : Outfit → List Pdu → Type 0
 AreSpelled a [] = Unit {0}
 AreSpelled a (d ∷ ds) =
@@ -59,12 +59,13 @@ AreSpelled a (d ∷ ds) =
     → (meaning a.exercise (pdu_text d) ≡ Some (carried d)) × (meaning a.exercise (pdu_text (answer a (known a ds) d 0)) ≡ Some (answer a (known a ds) d 0)))
     × AreSpelled a ds
 
--- Each request is for the station.
+-- each request is for the station
 abbrev pub AreFor : Outfit → List Pdu → Type 0
 AreFor a [] = Unit {0}
 AreFor a (d ∷ ds) = (is_for a d ≡ true) × AreFor a ds
 
--- The tables of an application are right: each request is under its key with its answer, and entities and datums are as the requests leave them. The numbers that it was begun with are in their ranges.
+-- the tables of an application are right: each request is under its key with its answer, and entities and datums
+-- are as the requests leave them; the numbers of its configuration are in their ranges
 pub record AreRight (a : Outfit) (table : Table) (entities : Entities) (held : Holding) : Type 0 where
   pub ranges : IsOutfitInRange a
   pub keyed : AreKeyed table.entries
@@ -73,17 +74,17 @@ pub record AreRight (a : Outfit) (table : Table) (entities : Entities) (held : H
   pub spelled : AreSpelled a (requests (values table))
   pub known_is : knows entities held ≡ known a (requests (values table))
 
--- the requests that are kept before a place, the last first
+-- the requests that are stored before a place, the last first
 abbrev pub requests_before : ℕ → List KeptRequest → List Pdu
 requests_before place ks = requests (take place ks)
 
--- the place of the first request under the key of q, if there is one
+-- the place of the first request under the key of q, if any
 abbrev pub IsPlace : Pdu → List KeptRequest → Option ℕ → Type 0
 IsPlace q ks None = first_under q (requests ks) ≡ None
 IsPlace q ks (Some place) =
     (k : KeptRequest) × (slice_get ks place ≡ Some k) × (place < length ks) × (first_under q (requests ks) ≡ Some (record { request = k.request; before = requests_before place ks }))
 
--- a kept request whose answer has another timestamp
+-- a stored request whose answer has another timestamp
 abbrev pub stamped : ℕ → KeptRequest → KeptRequest
 stamped stamp k = record { request = k.request; answer = with_stamp stamp k.answer }
 

@@ -1,4 +1,4 @@
--- What an application knows by what it has: its entities by rising numbers, and the records that it holds.
+-- What an application knows, by its data: its entities by rising numbers, and the records that it holds.
 use Rattle.siman_application.specs.Answer.{Knowledge}
 use Rattle.siman_application.specs.Holding.{Holding}
 use Rattle.siman_application.specs.Listed.{Entities, states_in}

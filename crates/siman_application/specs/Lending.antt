@@ -1,4 +1,4 @@
--- What an application is once the answer that it gave is let go.
+-- The application after the borrow of the answer that it returned has ended.
 use Rattle.std.specs.Prelude.{Option, Result}
 use Rattle.std.specs.Borrow.{MutBor, Bor, Fml}
 use Rattle.std.specs.Io.BufRead.{Rests}

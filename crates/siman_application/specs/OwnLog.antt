@@ -15,17 +15,18 @@ use Rattle.siman_application.specs.Distinct.{is_under_key}
 use Rattle.siman_application.specs.Play.{reply}
 use Rattle.siman_application.specs.Ranges.{IsOutfitInRange}
 
--- what a station does in one turn
+-- one turn of a station
 pub data OwnTurn : Type 0 where
   -- it tells the state of an entity
   Tells : (entity : ℕ) (state : EntityState) → OwnTurn
-  -- its manager half sends an order, in one of its spellings
+  -- its manager sends an order, in one of its spellings
   Orders : (bytes : List ℕ) (order : Pdu) → OwnTurn
-  -- it gets a datagram that its application does not take
+  -- it receives a datagram that its application does not take
   Passes : (bytes : List ℕ) → OwnTurn
-  -- it gets a datagram whose PDU its application takes, and sends the reply at once with this timestamp, if one is due
+  -- it receives a datagram whose PDU its application takes, and sends the reply at once with this timestamp, if one
+  -- is due
   Takes : (bytes : List ℕ) (pdu : Pdu) (stamp : ℕ) → OwnTurn
-  -- the same, and the reply that is due is not sent
+  -- likewise, but the reply that is due is not sent
   Loses : (bytes : List ℕ) (pdu : Pdu) (stamp : ℕ) → OwnTurn
 
 -- the PDUs that the application took in these turns, the last first
@@ -37,7 +38,7 @@ taken_in (Passes b ∷ ts) = taken_in ts
 taken_in (Takes b q stamp ∷ ts) = q ∷ taken_in ts
 taken_in (Loses b q stamp ∷ ts) = q ∷ taken_in ts
 
--- a log that goes on by a reply, if there is one
+-- a log with a reply appended, if any
 abbrev pub sent_after : ℕ → Option Pdu → History → History
 sent_after s None log = log
 sent_after s (Some p) log = Send s (pdu_text p) ∷ log
@@ -51,12 +52,12 @@ log_in a s (Passes b ∷ ts) = Get s b ∷ log_in a s ts
 log_in a s (Takes b q stamp ∷ ts) = sent_after s (reply a (taken_in ts) q stamp) (Get s b ∷ log_in a s ts)
 log_in a s (Loses b q stamp ∷ ts) = Get s b ∷ log_in a s ts
 
--- the datagram consists of bytes, and is read as the PDU
+-- the datagram consists of bytes, and is decoded as the PDU
 pub record IsRead (b : List ℕ) (q : Pdu) : Type 0 where
   pub bytes : (i : ℕ) → slice_index b i < 256
   pub read : reading b ≡ Some q
 
--- an order of the station: a datagram that is read as a request of the exercise, whichever of its spellings it is
+-- an order of the station: a datagram that is decoded as a request of the exercise, in any of its spellings
 pub record IsOrder (a : Outfit) (b : List ℕ) (p : Pdu) : Type 0 where
   pub exercise : p.exercise ≡ a.exercise
   pub request : is_request_body p.body ≡ true
@@ -66,7 +67,8 @@ pub record IsOrder (a : Outfit) (b : List ℕ) (p : Pdu) : Type 0 where
 abbrev pub is_due : Outfit → List OwnTurn → Pdu → ℕ → Bool
 is_due a ts q stamp = is_some (reply a (taken_in ts) q stamp)
 
--- THE TURNS OF A STATION, where `later` says that a reply is due later on. What it orders is an order, what it takes is read so, and no reply is missing but the last that is due.
+-- THE TURNS OF A STATION, where `later` says that a reply is due later on: each of its orders is an order, each PDU
+-- that it takes is decoded from its datagram, and no reply is missing but the last that is due
 abbrev pub AreTurns : Outfit → Bool → List OwnTurn → Type 0
 AreTurns a later [] = Unit {0}
 AreTurns a later (Tells e y ∷ ts) = AreTurns a later ts
@@ -91,7 +93,7 @@ MissNone (Passes b ∷ ts) = MissNone ts
 MissNone (Takes b q stamp ∷ ts) = MissNone ts
 MissNone (Loses b q stamp ∷ ts) = ⊥
 
--- the application took each PDU that came
+-- the application took each received PDU
 abbrev pub TakesAll : List OwnTurn → Type 0
 TakesAll [] = Unit {0}
 TakesAll (Tells e y ∷ ts) = TakesAll ts
@@ -100,24 +102,24 @@ TakesAll (Passes b ∷ ts) = (reading b ≡ None) × TakesAll ts
 TakesAll (Takes b q stamp ∷ ts) = TakesAll ts
 TakesAll (Loses b q stamp ∷ ts) = TakesAll ts
 
--- a log that gets this datagram
+-- a log that receives this datagram
 abbrev pub HasGet : History → List ℕ → Type 0
 HasGet [] b = ⊥
 HasGet (Send s c ∷ log) b = HasGet log b
 HasGet (Get s c ∷ log) b = (c ≡ b) ⊎ HasGet log b
 HasGet (Tell s e y ∷ log) b = HasGet log b
 
--- no site and application used one request identifier for two orders, as far as a log got them
+-- no site and application used one request identifier for two orders, as far as a log received them
 abbrev pub AreOneOrder : Outfit → History → Type 0
 AreOneOrder a h =
     (b c : List ℕ) (p q : Pdu) → HasGet h b → HasGet h c → meaning a.exercise b ≡ Some p → meaning a.exercise c ≡ Some q
     → is_request_body p.body ≡ true → is_request_body q.body ≡ true → is_under_key q p ≡ true → IsSameOrder p q
 
--- One of the two: so the first request under a key that a log gets is the order that the application answers.
+-- one of the two: so the first request under a key that a log receives is the order that the application answers
 abbrev pub IsClear : Outfit → List OwnTurn → History → Type 0
 IsClear a ts h = TakesAll ts ⊎ AreOneOrder a h
 
--- No answer that the log sends has a cause against it, after the events before it.
+-- no answer that the log sends has a cause against it, after the events before it
 abbrev pub AnswersStand : Outfit → History → Type 0
 AnswersStand a [] = Unit {0}
 AnswersStand a (Send s c ∷ log) =

@@ -1,4 +1,5 @@
--- What an application knows after requests, and its reply to the next PDU: over the distinct requests alone, THE LAST ONE FIRST, without kept answers and tables (profile).
+-- What an application knows after requests, and its reply to the next PDU: by the distinct requests alone, THE LAST
+-- ONE FIRST, without stored answers and tables (profile).
 use Rattle.std.specs.Prelude.{ℕ, List, [], ◌∷◌, Bool, true, false, Option, Some, None, if◌then◌else◌}
 use Rattle.dis_records.specs.declared.datum.FixedDatum.{FixedDatum}
 use Rattle.dis_records.specs.declared.entity_state.EntityState.{EntityState}
@@ -15,7 +16,7 @@ use Rattle.siman_application.specs.Distinct.{Placed, is_for, first_under, distin
 use Rattle.siman_application.specs.Records.{fixed_id, variable_id, last_under, stored}
 use Rattle.siman_application.specs.Answer.{Knowledge, brought, answer}
 
--- Create Entity, Remove Entity, Start/Resume and Stop/Freeze speak of entities
+-- Create Entity, Remove Entity, Start/Resume and Stop/Freeze are for entities
 abbrev pub is_for_entities : Kind → Bool
 is_for_entities kinds.CreateEntity = true
 is_for_entities kinds.RemoveEntity = true
@@ -30,7 +31,8 @@ is_for_entities kinds.DataPdu = false
 is_for_entities kinds.EventReport = false
 is_for_entities kinds.Comment = false
 
--- the record under an identifier after these distinct requests: that of the last Set Data that stores one, else the one begun with
+-- the record under an identifier after these distinct requests: that of the last Set Data that stores one, else the
+-- first one
 abbrev pub fixed_after : Outfit → List Pdu → ℕ → Option FixedDatum
 fixed_after a [] id = last_under fixed_id id a.datums.fixed
 fixed_after a (d ∷ ds) id = stored (last_under fixed_id id (brought d.body).fixed) (fixed_after a ds id)
@@ -47,7 +49,8 @@ known_by a log ds = record {
   variable = λ id. variable_after a ds id;
 }
 
--- the play goes on by a request that is received and the answer that is sent, where it speaks of entities; no rule looks at the timestamp
+-- the play continued by a request that is received and the answer that is sent, if it is for entities; no rule
+-- depends on the timestamp
 abbrev pub play_on : Pdu → Pdu → History → History
 play_on d p log = if is_for_entities (body_kind d.body) then Send 0 (pdu_text p) ∷ Get 0 (pdu_text d) ∷ log else log
 
@@ -64,7 +67,8 @@ known a ds = known_by a (play a ds) ds
 abbrev pub state_over : Outfit → List Pdu → ℕ → EntityState
 state_over a ds e = state_after a.exercise a.station (play a ds) e
 
--- the answer to a request that has this key's first request before it: the same order gets the answer to that first request, another order none
+-- the answer to a request that has the first request under its key before it: the same order gets the answer to
+-- that first request, another order none
 abbrev pub answer_under : Outfit → List Pdu → Pdu → ℕ → Option Placed → Option Pdu
 answer_under a ds q stamp None = Some (answer a (known a ds) q stamp)
 answer_under a ds q stamp (Some first) =
@@ -74,6 +78,6 @@ answer_under a ds q stamp (Some first) =
 abbrev pub reply_after : Outfit → List Pdu → Pdu → ℕ → Option Pdu
 reply_after a ds q stamp = if is_for a q then answer_under a ds q stamp (first_under q ds) else None
 
--- THE REPLY to a PDU q, with this timestamp, after the PDUs qs that came
+-- THE REPLY to a PDU q, with this timestamp, after the received PDUs qs
 abbrev pub reply : Outfit → List Pdu → Pdu → ℕ → Option Pdu
 reply a qs q stamp = reply_after a (distinct a qs) q stamp

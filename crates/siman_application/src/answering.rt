@@ -1,4 +1,4 @@
-//! Answers to requests that come for the first time.
+//! Answers to new requests.
 
 ghost use Rattle.std.specs.Prelude.{◌≡◌, [], IfOk, IsTrue};
 ghost use Rattle.std.specs.Option.{unwrap_or};
@@ -17,13 +17,13 @@ use dis_records::{Kind, is_open};
 use siman_pdus::{ABLE, Body, DatumIds, Datums, Pdu, UNABLE, kind_of};
 use std::alloc::{AllocError, Global};
 
-/// The request status of an action that was done (SISO-REF-010): complete.
+/// Request status of an action that was done (SISO-REF-010): complete.
 const COMPLETE: u32 = 4;
 
-/// The request status of an action that was not: request rejected.
+/// Request status of an action that was not done: request rejected.
 const REJECTED: u32 = 5;
 
-/// The acknowledge flags (SISO-REF-010).
+/// Acknowledge flags (SISO-REF-010).
 const CREATE: u16 = 1;
 
 const REMOVE: u16 = 2;
@@ -32,14 +32,14 @@ const START: u16 = 3;
 
 const STOP: u16 = 4;
 
-/// What a request comes to: its answer, and the datums that it brought, if it is to store any.
+/// Result of a request: its answer, and the datums that it stores, if any.
 #[derive(Drop)]
 pub(crate) struct Outcome {
     pub answer: Pdu,
     pub brought: Option<Datums>,
 }
 
-/// The answer from the number of the request, or from 0 where that names no single entity.
+/// Answer from the entity number of the request, or from 0 if that names no single entity.
 fn plain_answer(outfit: &Outfit, request: &Pdu, stamp: u32, body: Body) -> Pdu
     ensures { result ≡ plain_answer outfit.now request.now stamp body }
 {
@@ -52,7 +52,7 @@ fn plain_answer(outfit: &Outfit, request: &Pdu, stamp: u32, body: Body) -> Pdu
     outfit.answer(request, stamp, number, body)
 }
 
-/// The answer to a Create Entity: able, from the number that is created, or unable.
+/// Answer to a Create Entity: able, from the created number, or unable.
 fn answer_creation(outfit: &Outfit, entities: &Entities, request: &Pdu, stamp: u32, id: u32) -> Pdu
     ensures { result ≡ created outfit.now request.now stamp id (chosen (states_in entities.now) request.now.target.entity) }
 {
@@ -76,8 +76,8 @@ fn answer_creation(outfit: &Outfit, entities: &Entities, request: &Pdu, stamp: u
     }
 }
 
-/// The answer to a Remove Entity, Start/Resume or Stop/Freeze: able where it is for all entities or
-/// for one that is there.
+/// Answer to a Remove Entity, Start/Resume or Stop/Freeze: able if it is for all entities or for a
+/// present one.
 fn answer_order(
     outfit: &Outfit,
     entities: &Entities,
@@ -98,8 +98,8 @@ fn answer_order(
     plain_answer(outfit, request, stamp, body)
 }
 
-/// The request status of an action: complete where it is known, for all entities or for one that
-/// is there.
+/// Request status of an action: complete if the action is known, for all entities or for a present
+/// one.
 fn action_status(outfit: &Outfit, entities: &Entities, request: &Pdu, action: u32) -> u32
     ensures { result ≡ action_status outfit.now (states_in entities.now) request.now action }
 {
@@ -138,8 +138,7 @@ fn answer_action(
     )
 }
 
-/// The Data with the records that are held under these identifiers once others came, as many as
-/// fit.
+/// Data with the records held under these identifiers after `came` is stored, as many as fit.
 fn answer_data(
     alloc: Global,
     outfit: &Outfit,
@@ -179,7 +178,7 @@ fn answer_query(
     answer_data(alloc, outfit, held, &none, request, stamp, id, ids)
 }
 
-/// The Data with the records that are held under the identifiers of datums that came, once these are.
+/// Data with the records held under the identifiers of `came`, after these datums are stored.
 fn answer_came(
     alloc: Global,
     outfit: &Outfit,
@@ -196,7 +195,7 @@ fn answer_came(
     answer_data(alloc, outfit, held, &others, request, stamp, id, &ids)
 }
 
-/// The answer to a Set Data, and what it brought.
+/// Answer to a Set Data, and the datums that it stores.
 fn answer_setting(
     alloc: Global,
     outfit: &Outfit,
@@ -217,7 +216,7 @@ fn answer_setting(
     })
 }
 
-/// The answer to a request that comes for the first time, and what it brought.
+/// Answer to a new request, and the datums that it stores.
 pub(crate) fn answer(
     alloc: Global,
     outfit: &Outfit,

@@ -1,4 +1,4 @@
-//! The application half of a station.
+//! The application of a station.
 
 ghost use Rattle.std.specs.Prelude.{◌≡◌, ◌<◌, ◌≤◌, ◌↔◌, true, false, [], length, Err, IsOk, IfOk, IfErr, IfSome, slice_get};
 ghost use Rattle.std.specs.Option.{option_map, option_copied, option_and_then};
@@ -26,12 +26,11 @@ use siman_pdus::{Datums, Pdu, datums_are_in_range, numbers_are_in_range};
 use std::alloc::{AllocError, Global};
 use std::marker::Model;
 
-/// The application half of a station: its entities and datums, and each distinct request that it
-/// took, with its answer. Contracts see it as what it was begun with and these requests, in order
-/// of arrival.
+/// The application of a station: its entities and datums, and each distinct request that it took,
+/// with its answer. Contracts see it as its configuration and these requests, in order of arrival.
 ///
-/// Only [`begin`](Application::begin) and a [`take`](Application::take) that answers anew take
-/// memory.
+/// Only [`begin`](Application::begin) and a [`take`](Application::take) that makes a new answer
+/// take memory.
 pub struct Application {
     alloc: Global,
     outfit: Outfit,
@@ -40,7 +39,7 @@ pub struct Application {
     kept: KeptTable,
 }
 
-// Not derived: who drops it makes one call, and does not take its tables apart by himself.
+// Not derived: a caller that drops it makes one call, and does not drop each table.
 impl Drop for Application {
     fn drop(self) {
         let Application {
@@ -67,7 +66,7 @@ impl Model for Application {
     ghost invariant = { λ a. AreRight a.outfit a.kept a.entities (held_in a.held) };
 }
 
-/// An equal station.
+/// Copy of a station.
 fn copy_station(alloc: Global, station: &Station) -> Result<Station, AllocError>
     ensures copy { IfOk result (λ copy. copy ≡ station.now) }
     ensures station { IfOk result (λ copy. is_station copy ≡ true) }
@@ -77,10 +76,10 @@ fn copy_station(alloc: Global, station: &Station) -> Result<Station, AllocError>
 }
 
 impl Application {
-    /// An application that took nothing yet, for an exercise and a station with its entities. It
-    /// holds these datums, and knows these actions; of a repeated datum identifier the last counts.
-    /// It is refused as [`AppFault::TooMany`] exactly where the station opens with more than 4,096
-    /// entities.
+    /// Begins an application that has taken nothing, for an exercise and a station with its
+    /// entities. It holds these datums, and knows these actions; of a repeated datum identifier the
+    /// last counts. Fails with [`AppFault::TooMany`] exactly if the station opens with more than
+    /// 4,096 entities.
     pub fn begin(
         alloc: Global,
         exercise: u8,
@@ -120,12 +119,12 @@ impl Application {
         })
     }
 
-    /// Takes a PDU, and answers what is to go out, with this timestamp: `None` for a PDU of another
-    /// exercise, one that is no request, one that does not address the station, and another order
-    /// under a key (originating site and application, request identifier) that is known; for the
-    /// same order again the kept answer; otherwise an answer that is made and kept (profile, over
-    /// IEEE 1278.1-2012, 5.6.5). A datagram can carry what is to go out. After a fault, which only
-    /// that last case can have, all is as it was, and the PDU counts as not taken.
+    /// Takes a PDU, and returns the answer to send, with this timestamp: `None` for a PDU of
+    /// another exercise, one that is no request, one that does not address the station, and another
+    /// order under a known key (originating site and application, request identifier); for a repeat
+    /// of an order the stored answer; otherwise a new answer, which is stored (profile, over IEEE
+    /// 1278.1-2012, 5.6.5). The answer fits a datagram. After a fault, which only that last case
+    /// can have, everything is unchanged, and the PDU counts as not taken.
     pub fn take(&mut self, pdu: &Pdu, stamp: u32) -> Result<Option<&Pdu>, AppFault>
         ensures* ends { sem 𝓛 (EndsTaken self.entry pdu.now result) }
         ensures reply { IfOk result (λ answer. option_copied answer ≡ reply_after self.old.outfit (came self.old) pdu.now stamp) }
@@ -165,21 +164,21 @@ impl Application {
         )
     }
 
-    /// The state of an entity.
+    /// State of an entity.
     pub fn state(&self, entity: u16) -> EntityState
         ensures { result ≡ state_over self.now.outfit (came self.now) entity }
     {
         self.entities.state(entity)
     }
 
-    /// The value of a fixed datum that is held.
+    /// Value of the fixed datum with this identifier, if it is held.
     pub fn datum(&self, id: u32) -> Option<u32>
         ensures { result ≡ option_map (λ d. d.value) (fixed_after self.now.outfit (came self.now) id) }
     {
         self.held.value(id)
     }
 
-    /// A variable datum that is held.
+    /// Variable datum with this identifier, if it is held.
     pub fn variable(&self, id: u32) -> Option<&VariableDatum>
         ensures { option_copied result ≡ variable_after self.now.outfit (came self.now) id }
     {

@@ -1,4 +1,4 @@
-//! The entities that an application has.
+//! The entities of an application.
 
 ghost use Rattle.std.specs.Prelude.{◌≡◌, ◌≤◌, true, IfOk, IsTrue, OnOk, OnErr, length};
 ghost use Rattle.siman_application.specs.declared.entity_list.TheConstants.{MOST_ENTITIES};
@@ -16,8 +16,7 @@ use siman_pdus::{ABLE, Pdu};
 use std::alloc::{AllocError, Global};
 use std::marker::Model;
 
-/// The entities that are there, by rising numbers in 1..=0xFFFD, with their states. Contracts see
-/// a list.
+/// The present entities, by rising numbers in 1..=0xFFFD, with their states. Contracts see a list.
 #[derive(Drop)]
 pub(crate) struct Entities {
     list: Vec<(u16, EntityState)>,
@@ -37,7 +36,7 @@ impl Model for Entities {
 }
 
 impl Entities {
-    /// Those that a station opens with.
+    /// The entities that a station opens with.
     pub(crate) fn open(
         alloc: Global,
         opening: &[(u16, EntityState)],
@@ -50,29 +49,28 @@ impl Entities {
         Ok(Entities { list })
     }
 
-    /// The state of an entity: Absent where it is not there.
+    /// State of an entity: Absent if there is no such entity.
     pub(crate) fn state(&self, entity: u16) -> EntityState
         ensures { result ≡ listed_state self.now entity }
     {
         listed_state(&self.list, entity)
     }
 
-    /// The number that a Create Entity for this number creates, if it does.
+    /// Number that a Create Entity for this number creates, if any.
     pub(crate) fn choose(&self, number: u16) -> Option<u16>
         ensures { result ≡ chosen (states_in self.now) number }
     {
         choose(&self.list, number)
     }
 
-    /// Whether a request of this kind for this number means an entity that is there, or no single
-    /// one.
+    /// Whether a request of this kind for this number means a present entity, or no single one.
     pub(crate) fn is_meant(&self, kind: Kind, number: u16) -> bool
         ensures { result ≡ is_meant kind (states_in self.now) number }
     {
         is_open(kind, number) || self.state(number) != EntityState::Absent
     }
 
-    /// Makes a change against which no entity stands. Only a Create Entity takes memory.
+    /// Makes a change that the entities permit. Only a Create Entity takes memory.
     fn change(&mut self, change: Change) -> Result<(), AllocError>
         requires { IsPossible change (states_in self.old) }
         ensures ok { OnOk result (states_in self.new ≡ (λ e. changed e (listed_state self.old e) change)) }
@@ -81,7 +79,8 @@ impl Entities {
         carry_out(&mut self.list, change)
     }
 
-    /// Does what the answer to a request says: what an Able asks for, and nothing for any other.
+    /// Does what the answer to a request says: for an Able what the request wants, and nothing for
+    /// any other.
     pub(crate) fn obey(&mut self, answer: &Pdu, request: &Pdu) -> Result<(), AllocError>
         requires answers { IsTrue (is_answer_to answer.now request.now) }
         requires possible { responds able answer.now ≡ true → IsPossible (change_of answer.now request.now) (states_in self.old) }

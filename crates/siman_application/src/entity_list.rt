@@ -14,7 +14,7 @@ use dis_records::{ANY_NUMBER, EntityState, Kind, Scope};
 use exercise_model::{Change, is_entity, listed_state};
 use std::alloc::AllocError;
 
-/// How many entities an application has at most (profile).
+/// Most entities of an application (profile).
 pub(crate) const MOST_ENTITIES: usize = 4096;
 
 /// Whether an entity of this number can be created.
@@ -24,7 +24,7 @@ fn is_free(entities: &[(u16, EntityState)], number: u16) -> bool
     is_entity(number) && listed_state(entities, number) == EntityState::Absent
 }
 
-/// The least number from 1 on that no entity has.
+/// Least number from 1 on that no entity has.
 pub(crate) fn least_free(entities: &[(u16, EntityState)]) -> u16
     requires opening { IsTrue (is_opening entities.now) }
     requires few { length entities.now < MOST_ENTITIES }
@@ -40,7 +40,7 @@ pub(crate) fn least_free(entities: &[(u16, EntityState)]) -> u16
     least
 }
 
-/// Where an entity of this number goes.
+/// Index at which an entity of this number is inserted.
 fn place_for(entities: &[(u16, EntityState)], number: u16) -> usize
     ensures within { result ≤ length entities.now }
     ensures place { (state : EntityState) → insert entities.now result (number, state) ≡ inserted number state entities.now }
@@ -53,7 +53,7 @@ fn place_for(entities: &[(u16, EntityState)], number: u16) -> usize
     entities.len()
 }
 
-/// Where the entity of this number is.
+/// Index of the entity of this number, if any.
 fn place_of(entities: &[(u16, EntityState)], number: u16) -> Option<usize>
     ensures { MatchOption result (removed number entities.now ≡ entities.now)
         (λ place. (place < length entities.now) × (remove entities.now place ≡ removed number entities.now)) }
@@ -66,7 +66,7 @@ fn place_of(entities: &[(u16, EntityState)], number: u16) -> Option<usize>
     None
 }
 
-/// Puts an entity in its place.
+/// Inserts an entity in its place.
 fn insert(
     entities: &mut Vec<(u16, EntityState)>,
     number: u16,
@@ -80,7 +80,7 @@ fn insert(
     Ok(())
 }
 
-/// Takes an entity out, if it is there.
+/// Removes an entity, if there is one of this number.
 fn remove(entities: &mut Vec<(u16, EntityState)>, number: u16)
     ensures { entities.new.items ≡ removed number entities.old.items }
 {
@@ -89,7 +89,7 @@ fn remove(entities: &mut Vec<(u16, EntityState)>, number: u16)
     }
 }
 
-/// Changes each entity that is in the scope.
+/// Changes each entity in the scope.
 fn change_each(entities: &mut Vec<(u16, EntityState)>, change: Change)
     ensures { entities.new.items ≡ all_changed change entities.old.items }
 {
@@ -99,7 +99,7 @@ fn change_each(entities: &mut Vec<(u16, EntityState)>, change: Change)
     }
 }
 
-/// The number that a Create Entity for this number creates, if it does.
+/// Number that a Create Entity for this number creates, if any.
 pub(crate) fn choose(entities: &[(u16, EntityState)], number: u16) -> Option<u16>
     requires opening { IsTrue (is_opening entities.now) }
     requires few { length entities.now ≤ MOST_ENTITIES }
@@ -117,7 +117,7 @@ pub(crate) fn choose(entities: &[(u16, EntityState)], number: u16) -> Option<u16
     None
 }
 
-/// Makes a change against which no entity stands. Only a Create Entity takes memory.
+/// Makes a change that the entities permit. Only a Create Entity takes memory.
 pub(crate) fn carry_out(
     entities: &mut Vec<(u16, EntityState)>,
     change: Change,

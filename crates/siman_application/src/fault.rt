@@ -1,4 +1,4 @@
-//! Why an application was not begun, or did not take a PDU.
+//! Why an application could not begin, or could not take a PDU.
 
 ghost use Rattle.std.specs.Prelude.{◌≡◌};
 ghost use Rattle.siman_application.specs.declared.fault.AppFault.TheVariants.{Memory};
@@ -6,10 +6,10 @@ ghost use Rattle.siman_application.specs.declared.fault.AppFault.TheVariants.{Me
 use std::alloc::{AllocError, AllocFailed};
 use thiserror::Error;
 
-/// Why an application was not begun, or did not take a PDU.
+/// Why an application could not begin, or could not take a PDU.
 #[derive(Clone, Copy, Debug, PartialEq, Eq, Error)]
 pub enum AppFault {
-    /// Memory ran out. An application that did not take a PDU is as it was.
+    /// Memory ran out. An application that did not take a PDU is unchanged.
     #[error("memory")]
     Memory,
     /// The station opens with more than 4,096 entities.

@@ -1,4 +1,4 @@
-//! The datums that an application holds.
+//! The datums of an application.
 
 ghost use Rattle.std.specs.Prelude.{◌≡◌, [], IfOk};
 ghost use Rattle.std.specs.Option.{option_copied, option_map};
@@ -15,7 +15,7 @@ use dis_records::VariableDatum;
 use siman_pdus::{DatumIds, Datums};
 use std::alloc::{AllocError, Global};
 
-/// The record under each datum identifier.
+/// Record of each datum identifier.
 #[derive(Drop)]
 pub(crate) struct Held {
     fixed: FixedTable,
@@ -23,7 +23,7 @@ pub(crate) struct Held {
 }
 
 impl Held {
-    /// No records. It takes no memory.
+    /// No records. Takes no memory.
     pub(crate) fn new(alloc: Global) -> Held
         ensures { held_in result ≡ nothing }
     {
@@ -33,7 +33,7 @@ impl Held {
         }
     }
 
-    /// These records: of a repeated identifier the last counts.
+    /// These records. Of a repeated identifier the last counts.
     pub(crate) fn of(alloc: Global, records: &Datums) -> Result<Held, AllocError>
         ensures { IfOk result (λ held. held_in held ≡ held_by records.now) }
     {
@@ -42,7 +42,7 @@ impl Held {
         Ok(Held { fixed, variable })
     }
 
-    /// The value that is held under the identifier of a fixed datum.
+    /// Value of the fixed datum with this identifier, if it is held.
     pub(crate) fn value(&self, id: u32) -> Option<u32>
         ensures { result ≡ option_map (λ d. d.value) ((held_in self.now).fixed id) }
     {
@@ -50,14 +50,14 @@ impl Held {
         Some(record.value)
     }
 
-    /// The variable datum that is held under an identifier.
+    /// Variable datum with this identifier, if it is held.
     pub(crate) fn variable(&self, id: u32) -> Option<&VariableDatum>
         ensures { option_copied result ≡ (held_in self.now).variable id }
     {
         self.variable.get(&id)
     }
 
-    /// The records under these identifiers once others came, as many as a Data holds.
+    /// Records held under these identifiers after `came` is stored, as many as a Data holds.
     pub(crate) fn find(
         &self,
         alloc: Global,
@@ -72,7 +72,7 @@ impl Held {
         Ok(Datums { fixed, variable })
     }
 
-    /// Stores records that came: only what is held is stored. It takes no memory.
+    /// Stores records, but only those whose identifiers are held. Takes no memory.
     pub(crate) fn store(&mut self, came: Datums)
         ensures { held_in self.new ≡ stored_in (held_by came) (held_in self.old) }
     {

@@ -1,4 +1,4 @@
-//! What is kept of the requests.
+//! Table of the requests that were answered.
 
 ghost use Rattle.std.specs.Prelude.{◌≡◌, ◌<◌, ◌++◌, [], ◌∷◌, true, None, length};
 ghost use Rattle.indexmap.specs.IndexMap.{values, index_map_len, spare};
@@ -10,7 +10,7 @@ ghost use Rattle.siman_application.specs.declared.kept.KeptRequest.{KeptRequest}
 use indexmap::IndexMap;
 use siman_pdus::{Pdu, request_id};
 
-/// Under what a request is kept: who sent it, and its request identifier.
+/// Key of a request: its originating site and application, and its request identifier.
 #[derive(Clone, Copy, PartialEq, Eq, Hash)]
 pub(crate) struct RequestKey {
     pub site: u16,
@@ -22,14 +22,14 @@ pub(crate) struct RequestKey {
 #[derive(Drop)]
 pub(crate) struct KeptRequest {
     pub request: Pdu,
-    /// Its answer, with the timestamp that it was last given.
+    /// Its answer, with the timestamp of its last sending.
     pub answer: Pdu,
 }
 
-/// The requests under their keys, in order of arrival.
+/// Answered requests by key, in order of arrival.
 pub(crate) type KeptTable = IndexMap<RequestKey, KeptRequest>;
 
-/// The key of a request.
+/// Key of a request.
 pub(crate) fn key_of(pdu: &Pdu) -> RequestKey
     requires { is_request_body pdu.now.body ≡ true }
     ensures { IsKey result pdu.now }
@@ -41,7 +41,7 @@ pub(crate) fn key_of(pdu: &Pdu) -> RequestKey
     }
 }
 
-/// Where the first request under a key is kept.
+/// Index of the first request with this key, if any.
 pub(crate) fn place_of(kept: &KeptTable, key: RequestKey, pdu: &Pdu) -> Option<usize>
     requires keyed { AreKeyed kept.now.entries }
     requires key { IsKey key pdu.now }
@@ -50,7 +50,7 @@ pub(crate) fn place_of(kept: &KeptTable, key: RequestKey, pdu: &Pdu) -> Option<u
     kept.get_index_of(&key)
 }
 
-/// Keeps a request, the first under its key, with its answer. It goes last; its place.
+/// Appends a request, the first with its key, with its answer. Returns its index.
 pub(crate) fn keep(kept: &mut KeptTable, key: RequestKey, request: Pdu, answer: Pdu) -> usize
     requires keyed { AreKeyed kept.old.entries }
     requires key { IsKey key request }
@@ -64,7 +64,7 @@ pub(crate) fn keep(kept: &mut KeptTable, key: RequestKey, request: Pdu, answer: 
     place
 }
 
-/// Gives a kept answer another timestamp.
+/// Changes the timestamp of a stored answer.
 pub(crate) fn stamp_again(kept: &mut KeptTable, place: usize, stamp: u32)
     requires { place < index_map_len kept.old }
     ensures kept { kept.new.entries ≡ stamped_at place stamp kept.old.entries }

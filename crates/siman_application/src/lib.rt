@@ -1,12 +1,11 @@
-//! The application half of a station: it takes requests, keeps its entities and datums, and answers
-//! each distinct request once (IEEE 1278.1-2012, 5.6).
-//!
-//! It is a machine without a clock and without a line: timestamps and the PDUs that came are
-//! arguments, and what is to go out is an answer. The layers above rest on the contracts of
-//! [`Application`], which tell replies, states and datums by the distinct requests alone
-//! (`specs/Distinct.antt`, `Answer.antt`, `Play.antt`), on [`requests_are_told_once`], which says
-//! what these come to over every list of PDUs, and on [`own_logs_stand`]: no answer in the log of
-//! such a station has a cause against it.
+//! The application of a station: it takes requests, holds entities and datums, and answers each
+//! distinct request once (IEEE 1278.1-2012, 5.6).
+//! The crate reads no clock and sends nothing: timestamps and received PDUs are arguments, and a
+//! PDU to send is returned.
+//! The contract for the layer above: [`Application`], whose replies, states and datums depend on
+//! the distinct requests alone (`specs/Distinct.antt`, `Answer.antt`, `Play.antt`);
+//! [`requests_are_told_once`], their effect over every list of PDUs; and [`own_logs_stand`]: no
+//! answer in the log of such a station has a cause against it.
 #![tactic(auto)]
 
 mod answering;

@@ -1,4 +1,4 @@
-//! What an application is begun with.
+//! Configuration of an application.
 
 ghost use Rattle.std.specs.Prelude.{◌≡◌, ◌==◌};
 ghost use Rattle.std.specs.List.{list_any};
@@ -10,7 +10,7 @@ use exercise_model::Station;
 use siman_pdus::{Body, Datums, Pdu, kind_of};
 use std::marker::Model;
 
-/// What stays the same for as long as an application lives: the exercise, its station with the
+/// Configuration of an application, which never changes: the exercise, its station with the
 /// entities that it opens with, the datums that it holds at first, and the actions that it knows.
 #[derive(Drop)]
 pub(crate) struct Outfit {
@@ -45,8 +45,8 @@ impl Outfit {
         knows(&self.actions, action)
     }
 
-    /// The answer to a request from an entity number: in the request's version, of the exercise,
-    /// status 0, to the request's originator.
+    /// Answer to a request from an entity number: in the request's version, of the exercise, status
+    /// 0, to the request's originator.
     pub(crate) fn answer(&self, request: &Pdu, stamp: u32, number: u16, body: Body) -> Pdu
         ensures { result ≡ answer_pdu self.now request.now stamp number body }
     {

@@ -10,13 +10,14 @@ use dis_records::{FixedDatum, VariableDatum, padded_size};
 use siman_pdus::{DatumIds, Datums};
 use std::alloc::{AllocError, Global};
 
-/// How many fixed records a Data of at most 8192 bytes holds, of which 40 are no records (profile).
+/// Number of fixed records that a Data of at most 8192 bytes holds; 40 of its bytes are no records
+/// (profile).
 const MOST_FIXED: usize = 1019;
 
-/// How many bytes the records of a Data have at most.
+/// Most bytes of the records of a Data.
 pub(crate) const ROOM: usize = 8152;
 
-/// The records held under these identifiers once others came, at most so many.
+/// Records held under these identifiers after `came` is stored, at most [`MOST_FIXED`].
 pub(crate) fn find_fixed(
     alloc: Global,
     held: &FixedTable,
@@ -37,8 +38,7 @@ pub(crate) fn find_fixed(
     Ok(records)
 }
 
-/// The records held under these identifiers once others came, as long as they have room in so many
-/// bytes.
+/// Records held under these identifiers after `came` is stored, as many as fit `room` bytes.
 pub(crate) fn find_variable(
     alloc: Global,
     held: &VariableTable,
@@ -83,7 +83,7 @@ fn ids_of_variable(alloc: Global, records: &[VariableDatum]) -> Result<Vec<u32>,
     Ok(ids)
 }
 
-/// The identifiers of records.
+/// Identifiers of records.
 pub(crate) fn ids_of(alloc: Global, records: &Datums) -> Result<DatumIds, AllocError>
     ensures { IfOk result (λ ids. ids ≡ ids_of records.now) }
 {

@@ -1,4 +1,4 @@
-//! Tables of datum records under their identifiers.
+//! Tables of datum records by identifier.
 
 ghost use Rattle.std.specs.Prelude.{◌≡◌, ℕ, IfOk, nat_eq};
 ghost use Rattle.std.specs.Option.{option_copied};
@@ -9,13 +9,13 @@ use dis_records::{FixedDatum, VariableDatum};
 use indexmap::IndexMap;
 use std::alloc::{AllocError, Global};
 
-/// Fixed datums under their identifiers.
+/// Fixed datums by identifier.
 pub(crate) type FixedTable = IndexMap<u32, FixedDatum>;
 
-/// Variable datums under their identifiers.
+/// Variable datums by identifier.
 pub(crate) type VariableTable = IndexMap<u32, VariableDatum>;
 
-/// The table of some records: of a repeated identifier the last counts.
+/// Table of these records. Of a repeated identifier the last counts.
 pub(crate) fn fixed_table(alloc: Global, records: &[FixedDatum]) -> Result<FixedTable, AllocError>
     ensures { IfOk result (λ table. (id : ℕ) → get nat_eq table id ≡ last_under fixed_id id records.now) }
 {
@@ -26,7 +26,7 @@ pub(crate) fn fixed_table(alloc: Global, records: &[FixedDatum]) -> Result<Fixed
     Ok(table)
 }
 
-/// The table of some records: of a repeated identifier the last counts.
+/// Table of these records. Of a repeated identifier the last counts.
 pub(crate) fn variable_table(
     alloc: Global,
     records: &[VariableDatum],
@@ -40,7 +40,7 @@ pub(crate) fn variable_table(
     Ok(table)
 }
 
-/// Stores records in the place of those that are held under their identifiers.
+/// Replaces held records by those with their identifiers; ignores all others.
 pub(crate) fn store_fixed(held: &mut FixedTable, came: &[FixedDatum])
     ensures { (id : ℕ) → get nat_eq held.new id ≡ stored (last_under fixed_id id came.now) (get nat_eq held.old id) }
 {
@@ -51,7 +51,7 @@ pub(crate) fn store_fixed(held: &mut FixedTable, came: &[FixedDatum])
     }
 }
 
-/// Stores records in the place of those that are held under their identifiers.
+/// Replaces held records by those with their identifiers; ignores all others.
 pub(crate) fn store_variable(held: &mut VariableTable, came: Vec<VariableDatum>)
     ensures { (id : ℕ) → get nat_eq held.new id ≡ stored (last_under variable_id id came.items) (get nat_eq held.old id) }
 {
@@ -63,7 +63,7 @@ pub(crate) fn store_variable(held: &mut VariableTable, came: Vec<VariableDatum>)
     }
 }
 
-/// The record that is held under an identifier once these came.
+/// Record held under this identifier after `came` is stored.
 pub(crate) fn fixed_under(held: &FixedTable, came: &FixedTable, id: u32) -> Option<FixedDatum>
     ensures { result ≡ stored (get nat_eq came.now id) (get nat_eq held.now id) }
 {
@@ -74,7 +74,7 @@ pub(crate) fn fixed_under(held: &FixedTable, came: &FixedTable, id: u32) -> Opti
     }
 }
 
-/// The record that is held under an identifier once these came.
+/// Record held under this identifier after `came` is stored.
 pub(crate) fn variable_under<'a>(
     held: &'a VariableTable,
     came: &'a VariableTable,

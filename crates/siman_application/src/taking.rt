@@ -1,4 +1,4 @@
-//! Requests as they are taken.
+//! Taking of requests.
 
 ghost use Rattle.std.specs.Prelude.{◌≡◌, ◌<◌, ◌∷◌, ◌&&◌, true, false, Some, None, Ok, is_none, IsOk, IfOk, IfErr, IfSome, OnOk, OnErr, MatchOption, slice_get, if◌then◌else◌};
 ghost use Rattle.std.specs.Option.{option_map, option_and_then, unwrap_or};
@@ -21,7 +21,7 @@ use crate::outfit::Outfit;
 use siman_pdus::{Datums, Pdu, numbers_are_in_range, same_order};
 use std::alloc::{AllocError, Global};
 
-/// Stores what a request brought, if it brought anything.
+/// Stores the datums of a request, if any.
 fn store(held: &mut Held, brought: Option<Datums>)
     ensures { held_in held.new ≡ stored_in (held_by (unwrap_or brought no_datums)) (held_in held.old) }
 {
@@ -30,8 +30,8 @@ fn store(held: &mut Held, brought: Option<Datums>)
     }
 }
 
-/// Answers a request that comes for the first time, and has the entities do what the answer says.
-/// A fault leaves them as they were.
+/// Answers a new request, and makes the change of the entities that the answer says. A fault leaves
+/// them unchanged.
 fn answer_and_obey(
     alloc: Global,
     outfit: &Outfit,
@@ -51,8 +51,8 @@ fn answer_and_obey(
     Ok(outcome)
 }
 
-/// Answers a request that is the first under its key, and keeps it. Its place. A fault leaves all
-/// as it was: what may fail comes before the first change.
+/// Answers a request that is the first with its key, and stores it. Returns its index. A fault
+/// leaves everything unchanged: whatever may fail is done before the first change.
 fn take_first(
     alloc: Global,
     outfit: &Outfit,
@@ -83,8 +83,8 @@ fn take_first(
     Ok(place)
 }
 
-/// The place of the kept answer to a request whose key is known, with another timestamp; none for
-/// another order.
+/// Index of the stored answer to a request with a known key, after its timestamp is changed. `None`
+/// for another order.
 fn take_again(kept: &mut KeptTable, place: usize, pdu: &Pdu, stamp: u32) -> Option<usize>
     requires { place < index_map_len kept.old }
     ensures result { result ≡ option_and_then (λ k. if is_same_order pdu.now k.request then Some place else None) (slice_get (values kept.old) place) }
@@ -97,8 +97,8 @@ fn take_again(kept: &mut KeptTable, place: usize, pdu: &Pdu, stamp: u32) -> Opti
     Some(place)
 }
 
-/// Takes a PDU: where its answer is kept, if it has one. It takes no memory where it has none, or
-/// one that was kept before.
+/// Takes a PDU, and returns the index of its stored answer, if it has one. Takes memory only for a
+/// new answer.
 pub(crate) fn take(
     alloc: Global,
     outfit: &Outfit,

@@ -1,4 +1,4 @@
--- What was done outside, one after the other (profile). Of the files in memory no contract tells the bytes.
+-- What was done outside, one action after the other (profile). For files in memory no contract says the bytes.
 use Rattle.std.specs.Prelude.{ℕ, List, map, Option, Some, None, Result, Ok, Err}
 use Rattle.std.specs.IoError.{error_kind}
 use Rattle.std.specs.declared.io.Error.{Error}
@@ -15,7 +15,7 @@ letters_of l = map (λ p. p.0) l.items
 abbrev pub endpoints_of : Log Endpoint (Unit {0}) → List Endpoint
 endpoints_of l = map (λ p. p.0) l.items
 
--- what was found, where it failed for a reason or for none
+-- The result of opening, making or creating a file, from the error if it failed.
 abbrev pub found_of : Option ErrorKind → Found
 found_of None = Ok None
 found_of (Some kind) = Err kind
@@ -42,6 +42,6 @@ deed_of done.Left = Leaves None
 abbrev pub deeds_of : Log Done (Unit {0}) → List Deed
 deeds_of l = map (λ p. deed_of p.0) l.items
 
--- a writer that tells no contract what stands on it
+-- A writer whose contents no contract mentions.
 abbrev pub untold : Stream
 untold = record { old = None; new = None }

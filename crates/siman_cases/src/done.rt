@@ -1,4 +1,4 @@
-//! What was done outside, as contracts alone see it: none of it takes memory.
+//! Actions of a case outside the program, for contracts alone: they take no memory.
 
 ghost use Rattle.std.specs.Prelude.{◌≡◌};
 ghost use Rattle.siman_cases.specs.Done.{letters_of, endpoints_of, found_of, found_as};
@@ -9,30 +9,31 @@ use siman_console::Endpoint;
 use std::io;
 use std::io::ErrorKind;
 
-/// A name, letter by letter.
+/// The letters of a name, one by one.
 pub(crate) type Letters = Log<u8, ()>;
 
-/// Where peers are, one after the other.
+/// Endpoints of peers, one by one.
 pub(crate) type Endpoints = Log<Endpoint, ()>;
 
-/// Something that was done outside, with the names that were given, and why it failed where it did.
+/// An action outside the program, with the names that it was given, and the error if it failed.
 #[derive(Drop)]
 pub(crate) enum Done {
     Opened(Letters, Option<ErrorKind>),
     Compared(Letters, bool),
     Read,
     LookedInto(Letters, bool),
-    /// A file was made, in the place of one that stands there or not.
+    /// A file was made. The bool is whether it may replace another file.
     Made(Letters, bool, Option<ErrorKind>),
     Saved,
-    /// A file was not saved, for this reason.
+    /// A file was not saved, with this error.
     Unsaved(ErrorKind),
     Discarded,
     LookedFor(Letters, bool),
     Created(Letters, Option<ErrorKind>),
-    /// Lines of so many stations were asked for, and how many were had.
+    /// Links for this many stations were requested; the number of links, or the error.
     Lined(usize, Result<usize, ErrorKind>),
-    /// A line was asked for whose socket is there, with these peers, which hears them alone or anyone.
+    /// A link was requested with its socket here and these peers; the bool is whether it hears
+    /// anyone instead of the peers alone. The result is success or the error.
     Bound(Endpoint, Endpoints, bool, Result<(), ErrorKind>),
     Left,
 }
@@ -48,7 +49,7 @@ pub(crate) fn letters(name: &str) -> Letters
     letters
 }
 
-/// Where peers are.
+/// The endpoints of peers.
 pub(crate) fn endpoints(peers: &[Endpoint]) -> Endpoints
     ensures { endpoints_of result ≡ peers.now }
 {
@@ -59,7 +60,7 @@ pub(crate) fn endpoints(peers: &[Endpoint]) -> Endpoints
     endpoints
 }
 
-/// Why an answer is none, if it is none.
+/// The error of an answer, if it is one.
 pub(crate) fn failure<T>(answer: &io::Result<T>) -> Option<ErrorKind>
     ensures { found_of result ≡ found_as answer.now }
 {
@@ -69,7 +70,7 @@ pub(crate) fn failure<T>(answer: &io::Result<T>) -> Option<ErrorKind>
     }
 }
 
-/// How many there are, or why there are none.
+/// The number of items of an answer, or its error.
 pub(crate) fn number<T>(answer: &io::Result<Vec<T>>) -> Result<usize, ErrorKind>
     ensures { result ≡ counted_by answer.now }
 {
@@ -79,7 +80,7 @@ pub(crate) fn number<T>(answer: &io::Result<Vec<T>>) -> Result<usize, ErrorKind>
     }
 }
 
-/// That something was had, or why it was not.
+/// Success or the error of an answer.
 pub(crate) fn had<T>(answer: &io::Result<T>) -> Result<(), ErrorKind>
     ensures { result ≡ had_by answer.now }
 {

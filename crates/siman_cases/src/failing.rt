@@ -1,4 +1,5 @@
-//! A station that the program plays, where calls of its line and bytes that it records fail in turn.
+//! A station that the program plays, with calls of its link and writes of its recording failing in
+//! turn.
 
 use crate::trial::run_case;
 use siman_fixtures::{Calls, Case, entries_of};
@@ -6,9 +7,9 @@ use std::alloc::Global;
 use std::io;
 use std::io::{ErrorKind, Write};
 
-/// Whether all stands as it must where this byte, from 0, is the first that is not recorded: that is
-/// told; the bytes before it stand in the file, and on the line is just what the entries say that are
-/// whole in them.
+/// Whether the run is right if this byte, from 0, is the first that is not written: the fault is
+/// printed, the file has the bytes before it, and the datagrams on the link are those of its whole
+/// entries.
 fn stands_before(alloc: Global, case: &Case, byte: usize) -> io::Result<bool> {
     let calls = Calls {
         most: 1,
@@ -28,8 +29,8 @@ fn stands_before(alloc: Global, case: &Case, byte: usize) -> io::Result<bool> {
     )
 }
 
-/// Whether all stands as it must where the call of the line of this number fails, from 1: that is
-/// told, the recording has its end, and each datagram on the line is that of an entry of its own.
+/// Whether the run is right if the call of the link with this number, from 1, fails: the fault is
+/// printed, the recording has its end, and each datagram on the link is in a sent entry of its own.
 fn stands_without(alloc: Global, case: &Case, call: u64) -> io::Result<bool> {
     let left = run_case(alloc, case, case.left.calls, Some(call));
     let sent = left.shelf.sent(alloc)?;
@@ -48,8 +49,8 @@ fn stands_without(alloc: Global, case: &Case, call: u64) -> io::Result<bool> {
     )
 }
 
-/// Lets each byte that must be left fail in turn, where the case asks for that, and prints where it
-/// stands otherwise.
+/// Repeats the run with the write of each byte of `left` failing in turn, if the case asks for
+/// that; prints each byte for which the run is wrong. Whether all runs are right.
 fn fail_each_byte<W: Write>(alloc: Global, case: &Case, out: &mut W) -> io::Result<bool> {
     let mut good = true;
     if !case.each_byte {
@@ -64,7 +65,8 @@ fn fail_each_byte<W: Write>(alloc: Global, case: &Case, out: &mut W) -> io::Resu
     Ok(good)
 }
 
-/// Lets each of the first calls of the line fail in turn, as many as the case asks for.
+/// Repeats the run with each of the first calls of the link failing in turn, as many as the case
+/// asks for; prints each call for which the run is wrong. Whether all runs are right.
 fn fail_each_call<W: Write>(alloc: Global, case: &Case, out: &mut W) -> io::Result<bool> {
     let mut good = true;
     for call in 1..=case.each_call {
@@ -76,7 +78,8 @@ fn fail_each_call<W: Write>(alloc: Global, case: &Case, out: &mut W) -> io::Resu
     Ok(good)
 }
 
-/// Lets bytes and calls fail in turn, as the case asks for; whether all stands as it must.
+/// Repeats the run with bytes and calls failing in turn, as the case asks for. Whether all runs are
+/// right.
 pub(crate) fn try_failing<W: Write>(alloc: Global, case: &Case, out: &mut W) -> io::Result<bool> {
     let bytes = fail_each_byte(alloc, case, out)?;
     let calls = fail_each_call(alloc, case, out)?;

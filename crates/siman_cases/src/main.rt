@@ -1,57 +1,84 @@
-//! Tries `siman` on cases, which are data: files that say what the program is given, and what it
-//! must leave. It prints what is otherwise, and for each file how many cases were tried.
+//! Tries `siman` on cases: files that say what the program is given, and what it must leave. It
+//! prints what differs, and for each file the number of its cases. It never opens a file or a
+//! socket for the program, since each run gets its files and links from memory. Nothing is built on
+//! it: it has no contract to use.
 //!
-//! A file of cases is a text of lines. `#` begins a comment, and an empty line says nothing.
+//! A file of cases is a text of lines. `#` begins a comment, and empty lines are skipped. What is
+//! filled by a line gets its bytes from the filling lines behind it.
 //!
-//! | Line | What it says |
-//! |---|---|
-//! | `case NAME` | here a case begins; files stay for the cases behind it, all else begins anew |
-//! | `words WORD..` | the words of the command line behind the program's name, one space between |
-//! | `word` | one word more, which the lines behind it fill |
-//! | `unread-utf8`, `unread-memory` | the words can't be had: they are no UTF-8, or memory is refused |
-//! | `file NAME` | a file of that name, which the lines behind it fill |
-//! | `file NAME.later` | a file that appears under NAME while the one that is made there is written |
-//! | `shut NAME`, `folder NAME`, `odd NAME`, `full NAME` | a file that can't be opened or made: no permission, a directory, what is none in its path, no memory |
-//! | `input`, `out`, `errors`, `left` | the lines behind it fill standard input, what must be out, what must be told of faults, what the file must hold that is made |
-//! | `reason` | the lines behind it fill what must stand behind the first line of the fault; where it is not there, nothing or one line that begins with two blanks, and only behind a fault |
-//! | `behind` | the lines behind it fill what must stand behind such a line that the case does not say |
-//! | `discarded` | as `left`, of a file that is made and must be discarded in the end |
-//! | `text TEXT`, `piece TEXT` | a line with its line end, a text without |
-//! | `times N TEXT` | a text so many times |
-//! | `each FIRST LAST TEXT` | a line for each number from one to another: the text with the number in the place of each `%` |
-//! | `hex HEX..` | bytes as pairs of hex digits |
-//! | `calls MOST AT KIND` | each call reads or writes at most so many bytes, and the call of this number fails, from 1: `other`, `interrupted`, or `nothing`, where it takes none |
-//! | `asked NAME`, `asked make NAME` | the next file that must be opened, or made |
-//! | `asked-nothing` | no file must be opened or made |
-//! | `keep NAME` | a file must be made, whatever it holds; it stands under this name for the cases behind |
-//! | `status N` | the status that must be answered |
-//! | `half-told` | what is told of faults can't be written whole |
-//! | `line-fails N` | of the calls that lines make the one of this number fails, from 1; 0: no lines can be had |
-//! | `comes` | one datagram more that comes on the line of a station, which the lines behind it fill |
-//! | `pause` | before the next datagram a receive finds nothing once |
-//! | `sent` | as below, of the line that the command `station` has |
-//! | `each-call-fails N` | all is done again, once for each of the first N calls of that line, which fails: it must be told, the recording must have its end, and on the line must be what it says |
-//! | `each-byte-fails` | all is done again, once for each byte of `left`, at which the writer fails: that must be told, and the bytes before it must be left, and on the line just what their whole entries say |
+//! What the program is given:
 //!
-//! A case may be of a station at a line over memory, in the place of the program. The file `script`
-//! says which stations there are. `out` is what the calls must answer, a line each, and behind them
-//! how many datagrams are on the line, whether each is that of a sent entry of its own which is
-//! written whole, and how many entries are; `left` is what must be written of the recording.
+//! - `case NAME`: begins a case; files stay for later cases, all else begins anew
+//! - `words WORD..`: words of the command line behind the program's name, with one space between
+//!   two
+//! - `word`: one more word, which is filled
+//! - `unread-utf8`, `unread-memory`: the words can't be read: they are not UTF-8, or memory is
+//!   refused
+//! - `file NAME`: a file with this name, which is filled
+//! - `file NAME.later`: a file that appears under NAME while the program makes one there
+//! - `shut NAME`, `folder NAME`, `odd NAME`, `full NAME`: a file that can't be opened or made: no
+//!   permission, a directory, a file in place of a directory in its path, no memory
+//! - `input`: standard input, which is filled
+//! - `comes`: one more datagram that arrives on the link of a station, which is filled
+//! - `pause`: before the next datagram one receive finds nothing
+//! - `line-fails N`: the N-th call of links fails, from 1; 0: no link can be made
 //!
-//! | Line | What it says |
-//! |---|---|
-//! | `station N` | the case is of the station of this number, from 0 |
-//! | `sent` | the lines behind it fill what must be on the line: a text of hex digits for each datagram |
-//! | `line-fails N` | the call of this line that fails, from 1 |
-//! | `serve NOW TURNS`, `issue NOW`, `nudge NOW` | the next call; orders are issued as the moves of the script come |
-//! | `order N`, `entity N` | asks how the order of a request identifier stands, or an entity |
-//! | `datum N`, `given-up` | asks for the value of a fixed datum, or how many orders are given up |
-//! | `each-call-fails N` | all is done again, once for each of the first N calls of the line, which fails, and told behind a line that says so |
-//! | `each-byte-fails` | all is done again, once for each byte of `left`, at which the writer fails; the bytes before it must be left then, and on the line just what their whole entries say |
+//! What it must leave:
 //!
-//! A word may be a COUNT in the place of a file: so many recordings are made up, and tried by the
-//! checker and the search and by the plain ones; and a quarter of so many of each form by the review and
-//! by the plain one.
+//! - `out`, `errors`, `left`: standard output, the faults on standard error without their reasons,
+//!   and the file that is made; each is filled
+//! - `reason`: the text behind the first line of the fault, which is filled. Without it that text
+//!   must be nothing or one line that begins with two blanks, and nothing or a warning if there is
+//!   no fault
+//! - `behind`: the text behind such a line that the case does not give, which is filled
+//! - `discarded`: as `left`, for a file that is made and must be discarded in the end
+//! - `asked NAME`, `asked make NAME`: the next file that must be opened, or made
+//! - `asked-nothing`: no file may be opened or made
+//! - `keep NAME`: a file must be made, whatever it holds; later cases find it under this name
+//! - `status N`: the exit status
+//! - `half-told`: the fault can't be written whole
+//! - `sent`: the datagrams on the link of the command `station`, which are filled: a text of hex
+//!   digits for each
+//! - `each-call-fails N`: the run is repeated with each of the first N calls of that link failing;
+//!   the fault must be printed, the recording must have its end, and each datagram on the link must
+//!   be in a sent entry of its own
+//! - `each-byte-fails`: the run is repeated with the write of each byte of `left` failing; the
+//!   fault must be printed, the bytes before it must be left, and the datagrams on the link must be
+//!   those of its whole entries
+//!
+//! Filling lines:
+//!
+//! - `text TEXT`, `piece TEXT`: a text with a line end, or without
+//! - `times N TEXT`: a text N times
+//! - `each FIRST LAST TEXT`: a line for each number from FIRST to LAST, with the number in place of
+//!   each `%`
+//! - `hex HEX..`: bytes as pairs of hex digits
+//! - `calls MOST AT KIND`: each call reads or writes at most MOST bytes, and the call numbered AT,
+//!   from 1, fails: `other`, `interrupted`, or `nothing` for a call that takes no byte
+//!
+//! A case may run a station at a link in memory instead of the program. The file `script` has its
+//! stations and orders. `out` has the answers of the calls, a line each, and behind them the number
+//! of datagrams on the link, whether each is in a sent entry of its own that is written whole, and
+//! the number of entries. `left` is the recording.
+//!
+//! - `station N`: runs the station numbered N, from 0
+//! - `sent`: the datagrams on its link, which are filled: a text of hex digits for each
+//! - `line-fails N`: the call of its link that fails, from 1
+//! - `serve NOW TURNS`, `issue NOW`, `nudge NOW`: the next call; `issue` issues the order of the
+//!   script's next move
+//! - `order N`, `entity N`: asks for the status of the order with this request identifier, or for
+//!   the state of an entity
+//! - `datum N`, `given-up`: asks for the value of a fixed datum, or for the number of orders given
+//!   up
+//! - `each-call-fails N`: the run is repeated with each of the first N calls of the link failing;
+//!   `out` has a line for the call, and then the answers
+//! - `each-byte-fails`: the run is repeated with the write of each byte of `left` failing; the
+//!   bytes before it must be left, and the datagrams on the link must be those of its whole
+//!   entries; `out` has a line that counts the bytes for which that is so
+//!
+//! A word of the command line may be a COUNT instead of a file: that many random recordings are
+//! tried by the checker and the search and compared with the plain ones, and a quarter of that many
+//! of each form by the review and the plain one.
 #![tactic(auto)]
 
 mod done;
@@ -67,7 +94,7 @@ use std::io::Write;
 use std::process::ExitCode;
 use std::{env, fs, io};
 
-/// Tries the cases of a file, and prints how many they were.
+/// Tries the cases of a file, and prints their number. Whether all went as expected.
 fn try_file(rt: &HostRuntime, alloc: Global, name: &str) -> io::Result<bool> {
     let mut out = rt.stdout();
     let Tally {
@@ -87,7 +114,8 @@ fn try_file(rt: &HostRuntime, alloc: Global, name: &str) -> io::Result<bool> {
     Ok(otherwise == 0 && unread.is_none())
 }
 
-/// Reviews recordings of each form that are made up, and prints how often each fate came.
+/// Reviews random recordings of each form, and prints how often each fate occurred. Whether all
+/// reviews are right.
 fn try_fates(rt: &HostRuntime, alloc: Global, count: u32) -> io::Result<bool> {
     let mut out = rt.stdout();
     let mut good = true;
@@ -104,8 +132,8 @@ fn try_fates(rt: &HostRuntime, alloc: Global, count: u32) -> io::Result<bool> {
     Ok(good)
 }
 
-/// Tries recordings that are made up, and then as many open ones, of the same scenes without what
-/// their last station recorded; and prints how often each answer came.
+/// Tries `count` random recordings, and then as many open ones, of those scenes without the log of
+/// their last station; prints how often each answer occurred. Whether all answers are right.
 fn try_made_up(rt: &HostRuntime, alloc: Global, count: u32) -> io::Result<bool> {
     let mut out = rt.stdout();
     let closed = try_generated(alloc, Form::First, count)?;
@@ -117,7 +145,8 @@ fn try_made_up(rt: &HostRuntime, alloc: Global, count: u32) -> io::Result<bool> 
     Ok(closed.are_good(Form::First) && open.are_good(Form::Open))
 }
 
-/// Tries what the words of the command line name: so many recordings that are made up, or a file.
+/// Tries what each word of the command line names: a number of random recordings, or a file.
+/// Whether all went as expected.
 fn try_words(rt: &HostRuntime, alloc: Global) -> io::Result<bool> {
     let mut good = true;
     for word in env::args(rt)?.skip(1) {

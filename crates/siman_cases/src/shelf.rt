@@ -1,4 +1,4 @@
-//! Files in memory, and what was asked for.
+//! Files in memory, and the names that were requested.
 
 ghost use Rattle.std.specs.Prelude.{◌≡◌, ◌∷◌, [], ◌++◌};
 ghost use Rattle.siman_cases.specs.Done.{deed_of, deeds_of};
@@ -12,41 +12,39 @@ use std::alloc::Global;
 use std::io;
 use std::io::ErrorKind;
 
-/// Files, what was asked for, each with a line end (the name of a file to be opened, `make` and the
-/// name of one to be made), and what the file that was made was left with.
+/// The files and the link of a case, the requests for files (one a line: the name of a file to
+/// open, or `make` and the name of a file to make), and the contents of the file that was made.
 #[derive(Drop)]
 pub(crate) struct Shelf<'a> {
     alloc: Global,
-    /// The case whose files they are, and what comes on the line of a station in it.
+    /// The case that supplies the files, and the datagrams that arrive on a station's link.
     case: &'a Case,
-    /// How the calls of a file that is made go.
+    /// Limits of the calls that write a file.
     makes: Calls,
-    /// The number of the call that fails, from 1, of those that lines make; 0: no lines can be had.
+    /// Number of the call of links that fails, from 1; 0 if no link can be made.
     line_fails: Option<u64>,
-    /// The line of a station's peer.
+    /// The link of a station's peer.
     peer: Option<WireLine>,
     /// The file that was opened last.
     opened: Option<&'a File>,
-    /// Whether a file appears under the name of the one that is made while it is written, which that
-    /// one is not to replace.
+    /// Whether a file appears under the name of the one that is being made, so that saving fails.
     appears: bool,
-    /// What is known of what was done, by which a fault is explained.
+    /// What a fault is explained by.
     known: Known,
-    /// How many files were opened.
+    /// Number of files that were opened.
     count: usize,
     pub(crate) asked: String,
-    /// What was done, for contracts alone.
+    /// The actions so far, for contracts alone.
     pub(crate) done: Log<Done, ()>,
     pub(crate) left: Option<Vec<u8>>,
-    /// What the file held that was discarded.
+    /// Contents of the file that was discarded.
     pub(crate) discarded: Option<Vec<u8>>,
 }
 
-/// Behind its name, how a case calls a file that appears under it while the one that is made is
-/// written.
+/// Suffix that a case adds to the name of a file that appears only while one is made there.
 const LATER: &str = ".later";
 
-/// A shelf with the files of a case, of which nothing was asked so far.
+/// A shelf with the files of a case, before any request.
 pub(crate) fn filled(alloc: Global, case: &Case, makes: Calls, line_fails: Option<u64>) -> Shelf<'_>
     ensures { deeds_of result.done ≡ [] }
 {
@@ -68,14 +66,14 @@ pub(crate) fn filled(alloc: Global, case: &Case, makes: Calls, line_fails: Optio
 }
 
 impl<'a> Shelf<'a> {
-    /// One more thing was done.
+    /// Appends an action.
     fn note(&mut self, done: Done)
         ensures { deeds_of self.new.done ≡ deeds_of self.old.done ++ deed_of done ∷ [] }
     {
         self.done = self.done.and(&done, &());
     }
 
-    /// The file of a name, where it can be opened.
+    /// Opens the file with this name, and notes the request.
     fn look_up(&mut self, name: &str) -> io::Result<&'a File>
         ensures { deeds_of self.new.done ≡ deeds_of self.old.done }
     {
@@ -94,7 +92,7 @@ impl<'a> Shelf<'a> {
         }
     }
 
-    /// Keeps what a file looks like that was opened: the first, or the second.
+    /// Notes the kind of a file that was opened, if it is the first or the second one.
     fn look_at(&mut self, kind: FileKind)
         ensures { deeds_of self.new.done ≡ deeds_of self.old.done }
     {
@@ -106,7 +104,7 @@ impl<'a> Shelf<'a> {
         self.count = self.count.saturating_add(1);
     }
 
-    /// Keeps what was said of a call, where that failed.
+    /// Notes the call and its error, if it failed.
     fn keep<T>(&mut self, call: SystemCall, done: &io::Result<T>)
         ensures { deeds_of self.new.done ≡ deeds_of self.old.done }
     {
@@ -116,7 +114,7 @@ impl<'a> Shelf<'a> {
         }
     }
 
-    /// A file that is made or created under a name.
+    /// Begins to make or create a file, and notes the request.
     fn begin(&mut self, name: &str) -> io::Result<Written>
         ensures { deeds_of self.new.done ≡ deeds_of self.old.done }
     {
@@ -134,18 +132,19 @@ impl<'a> Shelf<'a> {
         }
     }
 
-    /// Whether a file of this name stands there.
+    /// The file with this name.
     fn stands(&self, name: &str) -> Option<&'a File> {
         found(&self.case.files, name.as_bytes())
     }
 
-    /// Whether the case has a file appear under a name.
+    /// Whether the case has a file that appears under this name.
     fn appears_at(&self, name: &str) -> io::Result<bool> {
         let later = format!(in self.alloc; "{name}{LATER}")?;
         Ok(self.stands(&later).is_some())
     }
 
-    /// A file that is to take a name, in the place of one that stands there or not.
+    /// Begins to make a file that takes this name in the end. With `force` it may replace another
+    /// file.
     fn begin_made(&mut self, name: &str, force: bool) -> io::Result<Written>
         ensures { deeds_of self.new.done ≡ deeds_of self.old.done }
     {
@@ -153,7 +152,7 @@ impl<'a> Shelf<'a> {
         self.begin(name)
     }
 
-    /// What the station sent on its line.
+    /// Datagrams that the station sent on its link.
     pub(crate) fn sent(&self, alloc: Global) -> io::Result<Vec<Vec<u8>>> {
         match &self.peer {
             Some(peer) => Ok(peer.heard(alloc)?),
@@ -161,7 +160,7 @@ impl<'a> Shelf<'a> {
         }
     }
 
-    /// The lines of so many stations, where they can be had.
+    /// Links of this many stations, on one network.
     fn have_lines(&self, alloc: Global, stations: usize) -> io::Result<Vec<WireLine>> {
         if self.line_fails == Some(0) {
             return Err(io::Error::from(ErrorKind::Other));
@@ -169,7 +168,7 @@ impl<'a> Shelf<'a> {
         Ok(lines_of(alloc, stations, self.line_fails)?)
     }
 
-    /// The line of a station, where it can be had. That of its peer is kept.
+    /// The link of a station; the shelf stores that of its peer.
     fn have_line(&mut self, alloc: Global) -> io::Result<WireLine>
         ensures { deeds_of self.new.done ≡ deeds_of self.old.done }
     {

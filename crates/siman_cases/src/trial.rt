@@ -1,4 +1,4 @@
-//! Runs cases, and tells what is otherwise.
+//! Runs cases, and prints what differs from them.
 
 ghost use Rattle.std.specs.Prelude.{ℕ, List, Option, Result, None};
 ghost use Rattle.siman_answers.specs.declared.fault.Fault.{Fault};
@@ -18,8 +18,8 @@ use std::alloc::Global;
 use std::io;
 use std::io::Write;
 
-/// How many cases of a file were tried, how many went otherwise, how many were compared with the
-/// plain checker or search, and the first line that can't be read, from 1.
+/// Counts of the cases of a file: all, those that went wrong, and those that were compared with a
+/// plain program; and the number of the first line that can't be read, from 1.
 #[derive(Drop)]
 pub(crate) struct Tally {
     pub(crate) tried: u32,
@@ -28,7 +28,7 @@ pub(crate) struct Tally {
     pub(crate) unread: Option<usize>,
 }
 
-/// The words of a case, as the program gets them.
+/// The words of a case, as the program gets them, or the error in their place.
 fn words(alloc: Global, case: &Case) -> io::Result<Vec<String>> {
     if let Some(kind) = case.unread {
         return Err(io::Error::from(kind));
@@ -41,7 +41,7 @@ fn words(alloc: Global, case: &Case) -> io::Result<Vec<String>> {
     Ok(words)
 }
 
-/// What a run left.
+/// Results of a run.
 #[derive(Drop)]
 pub(crate) struct Outcome<'a> {
     pub(crate) ended: Ended,
@@ -51,9 +51,9 @@ pub(crate) struct Outcome<'a> {
     reasons: Written,
 }
 
-/// Runs the program on a case, where the calls of the file that is made go so, and this call of those
-/// that lines make fails. What was done on the shelf is what the program does on some words, in
-/// that order, and nothing else.
+/// Runs the program on a case. The calls that write the file have the limits `makes`, and the call
+/// `line_fails` of links fails. By contract, the actions on the shelf are those of the program on
+/// some words, in order, and no others.
 pub(crate) fn run_case(
     alloc: Global,
     case: &Case,
@@ -86,7 +86,7 @@ pub(crate) fn run_case(
     }
 }
 
-/// Prints what a file that was made holds, where it is otherwise.
+/// Compares a file that was made with the expected one, and prints it if it differs.
 fn compare_made<W: Write>(
     name: &str,
     what: &str,
@@ -102,7 +102,7 @@ fn compare_made<W: Write>(
     }
 }
 
-/// Whether bytes are one line that begins with two blanks, and this behind it.
+/// Whether bytes are one line that begins with two blanks, with exactly `behind` following it.
 fn is_second_line(bytes: &[u8], behind: &[u8]) -> bool {
     let Some(first_end) = bytes.iter().position(|byte| *byte == b'\n') else {
         return false;
@@ -110,9 +110,9 @@ fn is_second_line(bytes: &[u8], behind: &[u8]) -> bool {
     bytes.starts_with(b"  ") && bytes.get(first_end.saturating_add(1)..) == Some(behind)
 }
 
-/// Prints the second line of a fault, where it is otherwise than the case wants; where that does not
-/// say it, behind a fault one line may stand that begins with two blanks, and what the case says behind
-/// it, and else one that warns.
+/// Compares the text behind the first line of a fault with the case, and prints it if it differs.
+/// If the case does not give that text, a fault may have one line that begins with two blanks, with
+/// the text `behind` of the case following it; any other answer may have a warning.
 fn compare_reason<W: Write>(case: &Case, left: &Outcome<'_>, out: &mut W) -> io::Result<bool> {
     let (name, told, behind) = (&case.name, &left.reasons.bytes, &case.behind.bytes);
     if case.is_reason {
@@ -128,7 +128,8 @@ fn compare_reason<W: Write>(case: &Case, left: &Outcome<'_>, out: &mut W) -> io:
     compare(name, "reason", told, b"nothing, or one line\n", out)
 }
 
-/// Prints which files were asked for, left or discarded, where it is otherwise.
+/// Compares the requested files and the file that was left or discarded with the case, and prints
+/// what differs.
 fn compare_files<W: Write>(case: &Case, shelf: &Shelf<'_>, out: &mut W) -> io::Result<bool> {
     let name = &case.name;
     let asked = if case.is_asked {
@@ -154,7 +155,7 @@ fn compare_files<W: Write>(case: &Case, shelf: &Shelf<'_>, out: &mut W) -> io::R
     Ok(asked && left && dropped)
 }
 
-/// Prints what is on the line of a station, where it is otherwise.
+/// Compares the datagrams on the link of a station with the case, and prints them if they differ.
 fn compare_sent<W: Write>(
     alloc: Global,
     case: &Case,
@@ -165,7 +166,7 @@ fn compare_sent<W: Write>(
     compare(&case.name, "sent", sent.as_bytes(), &case.sent.bytes, out)
 }
 
-/// Prints what a run left otherwise than its case wants; whether nothing is otherwise.
+/// Compares all results of a run with the case, and prints what differs. Whether nothing does.
 fn compare_all<W: Write>(
     alloc: Global,
     case: &Case,
@@ -185,8 +186,8 @@ fn compare_all<W: Write>(
     Ok(ended && answered && told && files && sent && reason)
 }
 
-/// Runs the program on a case, and prints what is otherwise: whether nothing is, and the file that
-/// was left. A station at its line leaves no file.
+/// Runs the program or the station of a case, and prints what differs. Returns whether nothing
+/// does, and the file that was left; a station at its link leaves none.
 fn try_case<W: Write>(
     alloc: Global,
     case: &Case,
@@ -204,7 +205,8 @@ fn try_case<W: Write>(
 }
 
 impl Tally {
-    /// Compares the answer to a case with the plain one, and prints where it is otherwise.
+    /// Compares the answer to a case with that of a plain program, and prints the case if they
+    /// differ. Whether they agree.
     fn compare<W: Write>(&mut self, alloc: Global, case: &Case, out: &mut W) -> io::Result<bool> {
         let Some(same) = compare_case(alloc, case)? else {
             return Ok(true);
@@ -216,7 +218,7 @@ impl Tally {
         Ok(same)
     }
 
-    /// Tries a case that is whole; before the first there is none.
+    /// Tries a case whose lines are complete. The case before the first is skipped.
     fn add<W: Write>(&mut self, alloc: Global, case: &mut Case, out: &mut W) -> io::Result<()> {
         if case.name.is_empty() {
             return Ok(());
@@ -231,7 +233,7 @@ impl Tally {
         Ok(())
     }
 
-    /// Takes a line: a case that it ends is tried.
+    /// Takes a line; a `case` line first tries the case that it ends.
     fn take<W: Write>(
         &mut self,
         alloc: Global,
@@ -246,7 +248,7 @@ impl Tally {
     }
 }
 
-/// Takes the lines of a text, and tries the cases that they make.
+/// Takes the lines of a text, and tries its cases.
 fn try_lines<W: Write>(
     alloc: Global,
     case: &mut Case,
@@ -269,7 +271,7 @@ fn try_lines<W: Write>(
     Ok(tally)
 }
 
-/// Tries the cases of a text, and prints what is otherwise.
+/// Tries the cases of a text, and prints what differs.
 pub(crate) fn try_cases<W: Write>(alloc: Global, text: &str, out: &mut W) -> io::Result<Tally> {
     let mut case = begin_case(alloc, String::new(alloc), Vec::new(alloc));
     try_lines(alloc, &mut case, text, out)

@@ -1,4 +1,4 @@
--- What `chart` makes of a recording and a certificate, and how it ends.
+-- What `chart` makes of a recording and a certificate, and its ending.
 use Rattle.std.specs.Prelude.{◌≡◌, ◌⊎◌, ◌<◌, ◌≤◌, ℕ, Bool, ◌-◌, List, [], ◌∷◌, ◌++◌, All, length, map, codes, string_bytes, Option, Some, None, Result, Ok, Err}
 use Rattle.std.specs.Io.KnownBytes.{Keeps}
 use Rattle.exercise_model.specs.declared.cause.Cause.{Cause}
@@ -44,42 +44,42 @@ use Rattle.siman_answers.specs.Recorded.{IsUnjudged}
 abbrev pub rows_count : Rows → ℕ
 rows_count rows = rows.end - rows.first
 
--- chart steps=N stations=N
+-- the line `chart steps=N stations=N`
 abbrev pub chart_line : (steps stations : ℕ) → Line
 chart_line steps stations =
     named_line (codes "chart") (Keyed (codes "steps") (Number steps) ∷ Keyed (codes "stations") (Number stations) ∷ [])
 
--- the texts of the picture of some steps: that of its file, which is the picture of their marks, and its line
+-- the texts of the picture of some steps: its file, which is the picture of their marks, and the line of the answer
 pub record ArePictureTexts (r : PlainRecording) (steps : List Step) (rows : Rows) (picture line : List ℕ) : Type 0 where
   pub picture_is : picture ≡ picture_text r (marks_of r steps rows) rows
   pub line_is : line ≡ line_text (chart_line (rows_count rows) (length r.setting.stations))
 
--- the rows are too many, or the stretches of some station
+-- There are too many rows, or the entities of some station have too many spans.
 abbrev pub IsOverfilled : PlainRecording → Rows → Type 0
 IsOverfilled r rows = (MOST_ROWS < rows_count rows) ⊎ IsOverfull r
 
--- the picture of some steps, or why there is none
+-- the picture of some steps, or the fault
 abbrev pub Pictures : PlainRecording → List Step → Rows → Result PictureTexts ChartFault → Type 0
 Pictures r steps rows (Ok texts) = ArePictureTexts r steps rows (string_bytes texts.picture) (string_bytes texts.line)
 Pictures r steps rows (Err charts.OverLimit) = IsOverfilled r rows
 Pictures r steps rows (Err charts.Memory) = Unit {0}
 
--- WHAT THE MARKS SHOW of a good certificate is a run: the rows are its steps, in their order, with the entries that they take; an arrow leads from the source of a receipt down to the receipt; a bar has the state that its entity has after each step that it covers
+-- THE MARKS OF A GOOD CERTIFICATE SHOW A RUN: the rows are its steps, in their sequence, with their entries; an arrow leads from the source of a receipt down to the receipt; a bar has the state of its entity after each step that it covers
 pub record ShowsRun (r : PlainRecording) (steps : List Step) (rows : Rows) (marks : MarksData) : Type 0 where
   pub steps_are : map row_fact marks.rows ≡ values_below (step_fact steps rows) (rows_count rows)
   pub arrows : All (LeadsDown r steps rows) marks.arrows
   pub bars : All (HasState r steps) marks.bars
 
--- ---- what comes of two files
+-- ---- the result of two files
 
--- THE CERTIFICATE THAT WAS READ IS GOOD for the recording that was read
+-- THE CERTIFICATE IS GOOD for the recording
 pub record IsCertified (recorded : Recorded) (certified : Certified) (r : PlainRecording) (steps : List Step) : Type 0 where
-  -- the first file is this recording, and the second the certificate of these steps
+  -- The first file is this recording, and the second the certificate with these steps.
   pub read : recorded ≡ Ok r
   pub certificate : certified ≡ Ok steps
-  -- there is a step for each entry, and each step is good
+  -- There is a step for each entry, and each step is good.
   pub good : IsGood r steps
-  -- the order that they name is a run that explains the recording: the headline's sentences hold of it
+  -- The sequence that the steps name is a run that explains the recording: the headline's sentences hold of it.
   pub holds : Holds r (order_of r steps)
 
 -- A PICTURE IS DRAWN
@@ -87,15 +87,15 @@ pub record DrawsPicture (words : List (List ℕ)) (window : Window) (recorded : 
   pub recording : PlainRecording
   pub steps : List Step
   pub certified_is : IsCertified recorded certified recording steps
-  -- no word says a step past the last one
+  -- No word names a step past the last.
   pub within : past_of (length steps) words ≡ None
-  -- these steps are shown, and they are not too many
+  -- These steps are shown, and they are not too many.
   pub rows : Rows
   pub shown : AreShown window (length steps) rows
   pub few : rows_count rows ≤ MOST_ROWS
   -- their picture, and its line
   pub texts : ArePictureTexts recording steps rows picture line
-  -- which shows a run
+  -- The picture shows a run.
   pub run : ShowsRun recording steps rows (marks_of recording steps rows)
 
 -- THE CERTIFICATE IS NOT GOOD, and this is the line of its first bad step, as `check` has it
@@ -110,34 +110,34 @@ pub record RefusesChart (recorded : Recorded) (certified : Certified) (text : Li
   pub bad : ¬ IsGood recording steps
   pub text_is : text ≡ no_text step cause
 
--- a word is told as `filter: WORD`, as it was given
+-- The fault of a word is `filter: WORD`, with the word as it was given.
 abbrev pub IsToldWord : List ℕ → Fault → Type 0
 IsToldWord word fault = fault_text fault ≡ codes "filter: " ++ word
 
--- of how many steps a fault says that a word is past the last one
+-- the number of steps that a fault has, for a word past the last one
 abbrev pub steps_of : Fault → Option ℕ
 steps_of (faults.Step word steps) = Some steps
 steps_of other = None
 
--- WHY THE CERTIFICATE IS GOOD, AND NO PICTURE DRAWN: a word says a step past the last one, or what is shown passes a limit
+-- WHY NO PICTURE IS DRAWN FOR A GOOD CERTIFICATE: a word names a step past the last, or the picture passes a limit
 abbrev pub IsUndrawn : (words : List (List ℕ)) → Window → PlainRecording → List Step → Fault → Type 0
 IsUndrawn words window r steps fault =
     ((word : List ℕ) × (past_of (length steps) words ≡ Some word) × IsToldWord word fault × (steps_of fault ≡ Some (length steps)))
     ⊎ ((rows : Rows) × (past_of (length steps) words ≡ None) × AreShown window (length steps) rows × IsOverfilled r rows × (fault ≡ ChartOverLimit))
 
--- NO PICTURE: nothing was judged, the recording first, or it is not drawn
+-- NO PICTURE: nothing was judged, where the recording is read first, or it is not drawn
 abbrev pub IsUncharted : (words : List (List ℕ)) → Window → Recorded → Certified → Fault → Type 0
 IsUncharted words window recorded certified fault =
     IsUnjudged recorded certified fault
     ⊎ ((r : PlainRecording) × (steps : List Step) × IsCertified recorded certified r steps × IsUndrawn words window r steps fault)
 
--- what comes of a recording and a certificate, with its texts
+-- the result for a recording and a certificate, with its texts
 abbrev pub Charts : (words : List (List ℕ)) → Window → Recorded → Certified → Result Charted Fault → Type 0
 Charts words window recorded certified (Ok (Drawn texts)) = DrawsPicture words window recorded certified (string_bytes texts.picture) (string_bytes texts.line)
 Charts words window recorded certified (Ok (Refused line)) = RefusesChart recorded certified (string_bytes line)
 Charts words window recorded certified (Err fault) = IsUncharted words window recorded certified fault
 
--- WHAT COMES OF TWO FILES for `chart` that have these bytes, where they are known; of a good certificate the picture is made, and then its line is written, with status 0; of another one no file is made, and the line of its first bad step is written, with status 1
+-- THE RESULT OF TWO FILES for `chart` with these bytes, if they are known; for a good certificate the picture is made, and then its line is written, with status 0; for another no file is made, and the line of its first bad step is written, with status 1
 abbrev pub ChartsFiles : (words : List (List ℕ)) → Window → (recording certificate : Option (List ℕ)) → Result Charted Fault → Type 0
 ChartsFiles words window recording certificate charted =
     (bytes : List ℕ) × Has recording bytes
@@ -148,14 +148,14 @@ abbrev pub MakesChart : Charted → (force : Bool) → (name : List ℕ) → Lis
 MakesChart (Drawn texts) force name deeds answered out = MakesFile (PutsBoth (string_bytes texts.picture) (string_bytes texts.line)) force name deeds answered out
 MakesChart (Refused line) force name deeds answered out = (deeds ≡ []) × PutsBlocked (string_bytes line) answered out
 
--- ---- by words
+-- ---- the words
 
--- how it is told that a picture has no marks
+-- the fault for a picture that could not be drawn
 abbrev pub of_chart : ChartFault → Fault
 of_chart charts.OverLimit = ChartOverLimit
 of_chart charts.Memory = Memory
 
--- WHAT `chart` DOES: the first word that says no step is told, and nothing is opened; else both files are opened in their order, none of which is the one to be made, before either is read
+-- WHAT `chart` DOES: the first bad word is reported, with nothing opened; or both files are opened in their order, neither of which is the one to be made, before either is read
 abbrev pub ChartsNamed : (recording certificate picture : List ℕ) → (words : List (List ℕ)) → (force : Bool) → List Deed → Answered → Stream → Type 0
 ChartsNamed recording certificate picture words force deeds answered out =
     ((word : List ℕ) × (fault : Fault) × (window_of words ≡ Err word) × IsToldWord word fault × (deeds ≡ []) × (answered ≡ Err fault) × Keeps out.old out.new)

@@ -1,4 +1,4 @@
-//! The command `chart`: an exercise as a picture, in the order of a certificate.
+//! The command `chart`: draws an exercise as a picture, in the sequence of a certificate.
 
 ghost use Rattle.std.specs.Prelude.{◌≡◌, ◌∷◌, [], ◌≤◌, ◌-◌, ℕ, List, Option, None, Ok, IfOk, OnOk, length, map, string_bytes};
 ghost use Rattle.std.specs.List.{All};
@@ -33,23 +33,23 @@ use siman_texts::{Field, Line, Spelling, Value, put_line};
 use std::alloc::{AllocError, Global};
 use std::io::{Read, Write};
 
-/// The texts of a picture: that of its file, and its line.
+/// The texts of a picture: its file, and the line of the answer.
 #[derive(Drop)]
 pub(crate) struct PictureTexts {
     pub picture: String,
     pub line: String,
 }
 
-/// What comes of a recording and a certificate, with the texts that tell of it.
+/// Result of judging a recording by a certificate, with its texts.
 #[derive(Drop)]
 pub(crate) enum Charted {
     /// The certificate is good: the picture.
     Drawn(PictureTexts),
-    /// It is not: the line of its first bad step.
+    /// The certificate is not good: the line of its first bad step.
     Refused(String),
 }
 
-/// How it is told that no picture was drawn.
+/// The fault for a picture that could not be drawn.
 fn of_chart(fault: ChartFault) -> Fault<'static>
     ensures { result ≡ of_chart fault }
 {
@@ -59,9 +59,10 @@ fn of_chart(fault: ChartFault) -> Fault<'static>
     }
 }
 
-/// Judges the recording of the first file by the certificate of the second, and makes a picture of it,
-/// of the steps that words say; gives the status. A word that says no step is told before any file is
-/// opened, and one that says a step past the last once the certificate is good.
+/// Judges the recording of the first file by the certificate of the second, makes a picture of the
+/// steps that `words` select, and returns the status. `Filter` for a word that selects no step,
+/// before any file is opened; `Step` for one that names a step past the last, after the certificate
+/// was found good.
 pub fn chart_named<'a, O: Outside, W: Write>(
     alloc: Global,
     names: (&'a str, &'a str),
@@ -84,7 +85,7 @@ pub fn chart_named<'a, O: Outside, W: Write>(
     }
 }
 
-/// Opens both files, and makes the picture of what comes of them, or tells the first bad step.
+/// Opens both files, and makes the picture, or writes the line of the first bad step.
 fn chart_of_files<'a, O: Outside, W: Write>(
     alloc: Global,
     names: (&'a str, &'a str),
@@ -103,7 +104,7 @@ fn chart_of_files<'a, O: Outside, W: Write>(
     make_chart(alloc, &charted, picture, force, outside, out)
 }
 
-/// What comes of the recording and the certificate that were opened.
+/// Reads the opened recording and certificate, and draws the picture.
 fn chart_opened<'a, O: Outside>(
     alloc: Global,
     opened: (O::Opened, O::Opened),
@@ -120,7 +121,7 @@ fn chart_opened<'a, O: Outside>(
     chart(alloc, recording, certificate, asked, notes)
 }
 
-/// What comes of the recording and the certificate that readers have.
+/// Reads a recording and a certificate, and draws the picture.
 fn chart<'a, R: Read + Drop, C: Read + Drop>(
     alloc: Global,
     recording: R,
@@ -134,7 +135,7 @@ fn chart<'a, R: Read + Drop, C: Read + Drop>(
     chart_bytes(alloc, &bytes, certificate, asked, notes)
 }
 
-/// As [`chart`], of the recording whose file these bytes are.
+/// As [`chart`], with the recording of a file's bytes.
 fn chart_bytes<'a, C: Read + Drop>(
     alloc: Global,
     bytes: &[u8],
@@ -169,7 +170,8 @@ fn chart_log<'a, L: ExerciseLog>(
     }
 }
 
-/// The picture of a recording in the order of a good certificate.
+/// The picture of a recording in the sequence of a good certificate; `Step` if a word names a step
+/// past the last.
 fn drawn<'a, L: ExerciseLog>(
     alloc: Global,
     log: &L,
@@ -186,7 +188,7 @@ fn drawn<'a, L: ExerciseLog>(
     }
 }
 
-/// As [`drawn`], where no word says a step past the last one.
+/// As [`drawn`], where no word names a step past the last.
 fn shown<'a, L: ExerciseLog>(
     alloc: Global,
     log: &L,
@@ -224,7 +226,7 @@ fn pictured<L: ExerciseLog>(
     Ok(PictureTexts { picture, line })
 }
 
-/// The line of a picture: how many steps it shows, and of how many stations.
+/// The line of the answer: the numbers of steps and stations in the picture.
 fn chart_line(alloc: Global, steps: usize, stations: usize) -> Result<String, AllocError>
     ensures { IfOk result (λ line. string_bytes line ≡ line_text (chart_line steps stations)) }
 {
@@ -260,7 +262,8 @@ impl Making for PictureTexts {
     }
 }
 
-/// Makes the file of a picture that was drawn; where none was, no file is made.
+/// Makes the file of a picture; without one makes no file and writes the line of the first bad
+/// step.
 fn make_chart<O: Outside, W: Write>(
     alloc: Global,
     charted: &Charted,

@@ -1,4 +1,4 @@
-//! The words that say which steps a picture shows.
+//! The words that select the steps of a picture.
 
 ghost use Rattle.std.specs.Prelude.{◌≡◌, ◌≤◌, Ok, Err, IfOk, IfErr, map, option_map};
 ghost use Rattle.siman_charts.specs.ChartWords.{edge_by, edge_of, is_turned, narrowed, with_word, window_of, step_of, is_past, past_of, AreShown};
@@ -6,25 +6,25 @@ ghost use Rattle.siman_charts.specs.ChartWords.{edge_by, edge_of, is_turned, nar
 use exercise_chart::Rows;
 use siman_scripts::{number_32, split_once};
 
-/// What a word says of the steps that are shown.
+/// One bound of the selected steps.
 #[derive(Clone, Copy)]
 pub(crate) enum Edge {
-    /// The first of them.
+    /// The first step.
     From(u32),
-    /// The last of them.
+    /// The last step.
     To(u32),
 }
 
-/// What words say of the steps that are shown.
+/// The bounds of the selected steps.
 #[derive(Clone, Copy)]
 pub(crate) struct Window {
-    /// The first of them, where a word says it.
+    /// The first step, if a word names it.
     pub from: Option<u32>,
-    /// The last of them, where a word says it.
+    /// The last step, if a word names it.
     pub to: Option<u32>,
 }
 
-/// What a key and the word behind it say.
+/// The bound for a key and its value.
 fn edge_by(key: &[u8], word: &[u8]) -> Option<Edge>
     ensures { result ≡ edge_by key.now word.now }
 {
@@ -37,7 +37,7 @@ fn edge_by(key: &[u8], word: &[u8]) -> Option<Edge>
     None
 }
 
-/// What a word says, `from=STEP` or `to=STEP`.
+/// The bound that a word `from=STEP` or `to=STEP` names.
 fn edge_of(word: &[u8]) -> Option<Edge>
     ensures { result ≡ edge_of word.now }
 {
@@ -45,7 +45,7 @@ fn edge_of(word: &[u8]) -> Option<Edge>
     edge_by(key, word)
 }
 
-/// Whether the first step is above the last.
+/// Whether the first step is after the last.
 fn is_turned(window: Window) -> bool
     ensures { result ≡ is_turned window }
 {
@@ -55,8 +55,8 @@ fn is_turned(window: Window) -> bool
     }
 }
 
-/// What words say with one more; nothing where its key stands already, or the first step would be
-/// above the last.
+/// The bounds with one more; `None` if that bound was named before, or the first step would be
+/// after the last.
 fn narrowed(window: Window, edge: Edge) -> Option<Window>
     ensures { result ≡ narrowed window edge }
 {
@@ -80,8 +80,8 @@ fn with_word(window: Window, word: &[u8]) -> Option<Window>
     narrowed(window, edge_of(word)?)
 }
 
-/// Which steps words say, or the first word that says none: it is no such word, its key stood before,
-/// or the first step would be above the last.
+/// The bounds that words name, or the first word that is bad: it names no bound, its key was used
+/// before, or the first step would be after the last.
 pub(crate) fn window_of<'a>(words: &'a [&'a str]) -> Result<Window, &'a str>
     ensures said { IfOk result (λ window. window_of (map (λ word. word.now) words.now) ≡ Ok window) }
     ensures bad { IfErr result (λ word. window_of (map (λ word. word.now) words.now) ≡ Err word.now) }
@@ -109,7 +109,7 @@ fn step_of(edge: Edge) -> u32
     }
 }
 
-/// Whether a word says a step past the last of so many.
+/// Whether a word names a step past the last of `steps` steps.
 fn is_past(steps: usize, word: &[u8]) -> bool
     ensures { result ≡ is_past steps word.now }
 {
@@ -119,7 +119,7 @@ fn is_past(steps: usize, word: &[u8]) -> bool
     }
 }
 
-/// The first word that says a step past the last of so many.
+/// The first word that names a step past the last of `steps` steps.
 pub(crate) fn past_of<'a>(steps: usize, words: &'a [&'a str]) -> Option<&'a str>
     ensures { option_map (λ word. word.now) result ≡ past_of steps (map (λ word. word.now) words.now) }
 {
@@ -133,7 +133,7 @@ pub(crate) fn past_of<'a>(steps: usize, words: &'a [&'a str]) -> Option<&'a str>
     None
 }
 
-/// The steps that are shown, of so many.
+/// The selected rows, of `steps` steps.
 pub(crate) fn rows_in(window: Window, steps: usize) -> Rows
     ensures shown { AreShown window steps result }
     ensures within { result.end ≤ steps }

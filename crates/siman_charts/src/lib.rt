@@ -1,9 +1,11 @@
-//! The command `chart`: the picture of an exercise, in the order of a certificate.
+//! The command `chart`: the picture of an exercise, in the sequence of a certificate.
+//! [`chart_named`] works on the names of files over a `siman_answers::Outside`; the picture is that
+//! of `siman_pictures`, and words select its steps.
 //!
-//! It opens no file itself and ends no process: by the names of files [`chart_named`] works over what a
-//! program may do (`siman_answers::Outside`). The picture is that of `siman_pictures`, and words say
-//! which steps it shows. The contract gives the status, the file and the bytes on the writer of the
-//! answer (`ChartsNamed`).
+//! It opens no file itself and ends no process.
+//!
+//! The layer above may use its contract on the status, the made file and the bytes of the answer:
+//! `ChartsNamed`.
 #![tactic(auto)]
 
 mod chart;

@@ -22,11 +22,11 @@ block_at address b =
     named_line (codes "blocked") (Bare (codes "address") (Word (address_text address)) ∷ Keyed (codes "record") (Number b.entry)
     ∷ Keyed (codes "cause") (Number (cause_number b.cause)) ∷ Bare (codes "name") (Word (cause_text b.cause)) ∷ [])
 
--- with the address of its station
+-- the row of a block, with the address of its station
 abbrev pub block_line : PlainRecording → Block → Line
 block_line r b = block_at (station_at r b.station).address b
 
--- THE BLOCKED LIST: blocked stations=N, and a line for each block, in their order
+-- THE BLOCKED LIST: blocked stations=N, and a row for each block, in their order
 abbrev pub blocked_lines : PlainRecording → List Block → List Line
 blocked_lines r blocks = blocked_line (length blocks) ∷ map (block_line r) blocks
 

@@ -1,4 +1,4 @@
--- The lines that tell what contradicts what.
+-- The rows of conflicts and refusals.
 use Rattle.std.specs.Prelude.{ℕ, ◌<◌, ⊤, Bool, true, false, List, [], ◌∷◌, ◌++◌, map, length, codes, Option, Some, None}
 use Rattle.dis_records.specs.Address.{Pair}
 use Rattle.dis_records.specs.Entity.{pair_of}
@@ -31,7 +31,7 @@ use Rattle.siman_conflicts.specs.Rule.{rule_text}
 
 -- ---- fields
 
--- an entry, or none
+-- an entry number, or a missing value
 abbrev pub entry_value : Option ℕ → Value
 entry_value None = Missing
 entry_value (Some entry) = Number entry
@@ -40,7 +40,7 @@ entry_value (Some entry) = Number entry
 abbrev pub station_field : PlainRecording → List ℕ → ℕ → Field
 station_field r key s = Keyed key (Word (address_text (station_at r s).address))
 
--- from=ADDRESS, whose address stands in a datagram
+-- from=ADDRESS, the sender's address in a datagram
 abbrev pub from_field : EntityId → Field
 from_field id = Keyed (codes "from") (Word (address_text (pair_of id)))
 
@@ -48,12 +48,12 @@ from_field id = Keyed (codes "from") (Word (address_text (pair_of id)))
 abbrev pub entity_id : PlainRecording → ℕ → ℕ → EntityId
 entity_id r s n = record { site = (station_at r s).address.site; application = (station_at r s).address.application; entity = n }
 
--- a state, or none
+-- a state, or a missing value
 abbrev pub state_value : Option EntityState → Value
 state_value None = Missing
 state_value (Some state) = Word (state_text state)
 
--- in what two datagrams differ, or in nothing
+-- the name of the difference of two datagrams, or a missing value
 abbrev pub difference_value : Option Difference → Value
 difference_value None = Missing
 difference_value (Some field) = Word (field_text field)
@@ -62,7 +62,7 @@ abbrev pub unfit_text : Unfit → List ℕ
 unfit_text unfit.Kind = codes "kind"
 unfit_text unfit.Entity = codes "entity"
 
--- ---- lines
+-- ---- rows
 
 -- rule N TEXT
 abbrev pub rule_line : Cause → Line
@@ -95,7 +95,7 @@ abbrev pub send_fields : EntityId → Option ℕ → Option ℕ → Option Diffe
 send_fields from sent near differs =
     from_field from ∷ Keyed (codes "sent") (entry_value sent) ∷ Keyed (codes "near") (entry_value near) ∷ Keyed (codes "differs") (difference_value differs) ∷ []
 
--- the other side, by its cause
+-- the keys of the other side, which depend on the cause
 abbrev pub clash_fields : PlainRecording → Clash → List Field
 clash_fields r (clashes.WrongSender from s) = sender_fields r from s
 clash_fields r (clashes.ReusedIdentifier earlier differs) = differing_fields earlier (field_text differs)
@@ -107,7 +107,7 @@ clash_fields r (clashes.Stranger from) = from_field from ∷ []
 clash_fields r (clashes.NeverSent from sent near differs) = send_fields from sent near differs
 clash_fields r (clashes.WrongState s n state change) = state_fields (entity_id r s n) (Some state) change
 
--- the station of which it speaks is one of the recording
+-- the station that it names is one of the recording
 abbrev pub IsOfStations : PlainRecording → Clash → Type 0
 IsOfStations r (clashes.WrongSender from s) = s < length r.setting.stations
 IsOfStations r (clashes.Impossible earlier s n state change) = s < length r.setting.stations
@@ -143,12 +143,12 @@ order_fields place taken next =
 abbrev pub link_fields : Option ℕ → Option ℕ → List Field
 link_fields link right = Keyed (codes "link") (entry_value link) ∷ Keyed (codes "right") (entry_value right) ∷ []
 
--- step=STEP, of what was sent too late or never
+-- step=STEP, for a datagram that was sent too late or never
 abbrev pub step_fields : Clash → Option ℕ → List Field
 step_fields (clashes.NeverSent from sent near differs) step = Keyed (codes "step") (entry_value step) ∷ []
 step_fields clash step = []
 
--- clash - .., where no entry was judged
+-- clash - .., if no entry was judged
 abbrev pub step_line : List Field → Line
 step_line fields = named_line (codes "clash") (Bare (codes "entry") Missing ∷ fields)
 
@@ -156,11 +156,11 @@ step_line fields = named_line (codes "clash") (Bare (codes "entry") Missing ∷ 
 abbrev pub link_line : ℕ → Option ℕ → Option ℕ → Line
 link_line place link right = named_line (codes "clash") (Bare (codes "entry") (Number place) ∷ link_fields link right)
 
--- clash ENTRY .., of the event of a step
+-- clash ENTRY .., for the event of a step
 abbrev pub event_line : PlainRecording → ℕ → Clash → Option ℕ → Line
 event_line r entry clash step = named_line (codes "clash") (Bare (codes "entry") (Number entry) ∷ (clash_fields r clash ++ step_fields clash step))
 
--- clash ENTRY .. or clash - .., of a step of a certificate
+-- clash ENTRY .. or clash - .., for a step of a certificate
 abbrev pub step_clash_line : PlainRecording → StepClash → Line
 step_clash_line r (steps.CountDiffers count records missing twice) = step_line (count_fields count records missing twice)
 step_clash_line r (steps.NoSuchRecord place records) = step_line (place_fields place records)
@@ -168,7 +168,7 @@ step_clash_line r (steps.OutOfOrder place taken next) = step_line (order_fields 
 step_clash_line r (steps.BadLink place link right) = link_line place link right
 step_clash_line r (steps.Event entry clash step) = event_line r entry clash step
 
--- the station of which it speaks is one of the recording
+-- the station that it names is one of the recording
 abbrev pub IsOfStepStations : PlainRecording → StepClash → Type 0
 IsOfStepStations r (steps.Event entry clash step) = IsOfStations r clash
 IsOfStepStations r clash = ⊤
@@ -214,17 +214,17 @@ cycle_line r stations = named_line (codes "cycle") (Bare (codes "ring") (Ring (a
 abbrev pub repair_line : Repair → Line
 repair_line repair = named_line (codes "repair") (Keyed (codes "sends") (Number repair.sends) ∷ Keyed (codes "enough") (Word (enough_text repair.enough)) ∷ [])
 
--- right after a clash that nothing excuses: final ENTRY
+-- final ENTRY, right after a contradiction that no further entry can resolve
 abbrev pub final_lines : ℕ → Bool → List Line
 final_lines entry true = final_line entry ∷ []
 final_lines entry false = []
 
--- what a blocked station waits for; or what its entry contradicts
+-- the wait of a blocked station, or the contradiction of its entry
 abbrev pub way_lines : PlainRecording → Way → List Line
 way_lines r (ways.Waits w) = wait_line r w ∷ []
 way_lines r (ways.Clash entry clash final) = clash_line r entry clash ∷ final_lines entry final
 
--- the stations of which it speaks are some of the recording
+-- the stations that it names are some of the recording
 abbrev pub IsOfWayStations : PlainRecording → Way → Type 0
 IsOfWayStations r (ways.Waits w) = (w.station < length r.setting.stations) × (w.on < length r.setting.stations)
 IsOfWayStations r (ways.Clash entry clash final) = IsOfStations r clash

@@ -1,4 +1,4 @@
--- All that is told of a recording that no run explains, and of a certificate that is not good, and which entries that names.
+-- All rows of a recording that no run explains, and of a refused certificate, and the entries that they name.
 use Rattle.std.specs.Prelude.{◌<◌, ℕ, List, [], ◌∷◌, ◌++◌, map, length, slice_get, All, Option}
 use Rattle.std.specs.List.{flat_map}
 use Rattle.std.specs.Option.{option_map_or, option_to_list}
@@ -27,23 +27,23 @@ use Rattle.siman_conflicts.specs.Lines.{rule_line, way_lines, cycle_line, also_l
 abbrev pub station_at_entry : PlainRecording → ℕ → ℕ
 station_at_entry r i = option_map_or (λ e. station_of (event_of e)) (slice_get r.entries i) 0
 
--- what else the logs have against an entry
+-- the row of a further cause against an entry
 abbrev pub further_line : PlainRecording → Also → Line
 further_line r a = also_line r a.entry (station_at_entry r a.entry) a.cause
 
--- THE LINES OF WHAT CONTRADICTS WHAT in a recording: the blocked list; the rules that it breaks; by station what each waits for or contradicts; the cycles; what else stands against entries; what is missing, and whether that would do
+-- THE ROWS OF A CONFLICT: the blocked list; the rules that it breaks; by station the wait or contradiction; the cycles; the further causes; the missing sends, and whether adding these is enough
 unfoldable pub conflict_lines : PlainRecording → Conflict → List Line
 conflict_lines r c =
     blocked_lines r c.blocks.items ++ rule_lines c.blocks.items CAUSES ++ flat_map (way_lines r) c.ways.items
     ++ map (λ v. cycle_line r v.items) c.cycles.items ++ map (further_line r) c.also.items ++ map (missing_line r) c.lacks.items
     ++ repair_line c.repair ∷ []
 
--- THE LINES OF A CERTIFICATE that is not good: its first bad step, the rule that this breaks, what it contradicts, and whose fault that is
+-- THE ROWS OF A REFUSED CERTIFICATE: its first bad step, the rule that this breaks, its contradiction, and what is at fault
 unfoldable pub refusal_lines : PlainRecording → Refusal → List Line
 refusal_lines r f =
     no_line f.step f.cause ∷ rule_line f.cause ∷ (map (step_clash_line r) (option_to_list f.clash) ++ fault_line f.fault ∷ [])
 
--- ---- which entries these lines name
+-- ---- the entries that these rows name
 
 abbrev pub clash_entries : Clash → List ℕ
 clash_entries (clashes.WrongSender from s) = []
@@ -56,7 +56,7 @@ clash_entries (clashes.Stranger from) = []
 clash_entries (clashes.NeverSent from sent near differs) = option_to_list sent ++ option_to_list near
 clash_entries (clashes.WrongState s n state change) = option_to_list change
 
--- all but what stands as a link, and what is no entry of the recording
+-- all but those given as a link, and numbers that are no entry of the recording
 abbrev pub step_clash_entries : StepClash → List ℕ
 step_clash_entries (steps.CountDiffers count records missing twice) = option_to_list missing ++ option_to_list twice
 step_clash_entries (steps.NoSuchRecord place records) = []
@@ -71,7 +71,7 @@ way_entries (ways.Clash entry clash final) = entry ∷ clash_entries clash
 abbrev pub lack_entries : Lack → List ℕ
 lack_entries l = l.entry ∷ option_to_list l.missing.after
 
--- THE ENTRIES THAT ARE NAMED by the lines of a recording, and by those of a certificate
+-- THE ENTRIES THAT ARE NAMED by the rows of a conflict, and by those of a refused certificate
 unfoldable pub conflict_entries : Conflict → List ℕ
 conflict_entries c =
     map (λ (b : Block). b.entry) c.blocks.items ++ flat_map way_entries c.ways.items ++ map (λ (a : Also). a.entry) c.also.items
@@ -80,9 +80,9 @@ conflict_entries c =
 unfoldable pub refusal_entries : Refusal → List ℕ
 refusal_entries f = flat_map step_clash_entries (option_to_list f.clash)
 
--- ---- where they stand
+-- ---- their stations
 
--- THE STATIONS AND ENTRIES of which the lines speak are those of the recording
+-- THE STATIONS AND ENTRIES that the rows name are those of the recording
 pub record AreOfStations (r : PlainRecording) (c : Conflict) : Type 0 where
   pub blocks : All (λ (b : Block). b.station < length r.setting.stations) c.blocks.items
   pub ways : All (IsOfWayStations r) c.ways.items

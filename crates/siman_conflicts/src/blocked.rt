@@ -85,8 +85,8 @@ fn put_blocks<L: ExerciseLog>(
     Ok(())
 }
 
-/// The blocked list: how many stations can't go on, and `blocked ADDRESS record=N cause=N NAME` for
-/// each of them.
+/// The blocked list: the number of stations that cannot go on, and `blocked ADDRESS record=N
+/// cause=N NAME` for each of them.
 pub fn put_blocked<L: ExerciseLog>(
     alloc: Global,
     text: &mut String,
@@ -110,7 +110,7 @@ fn has_cause(blocks: &[Block], cause: Cause) -> bool
         .any(|block| block.cause.number() == cause.number())
 }
 
-/// The rules that the causes of a blocked list break, of these causes, each once.
+/// Those rules that the causes of a blocked list break, among the given causes, each once.
 pub(crate) fn put_rules(
     text: &mut String,
     spelling: Spelling,

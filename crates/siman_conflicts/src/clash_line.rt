@@ -1,4 +1,4 @@
-//! The line of what an entry contradicts.
+//! Rows of an entry's contradiction.
 
 ghost use Rattle.std.specs.Prelude.{◌≡◌, ◌<◌, ◌∷◌, [], ◌++◌, length, OnOk, IfOk, string_bytes};
 ghost use Rattle.dis_records.specs.Entity.{pair_of};
@@ -13,7 +13,7 @@ use exercise_model::ExerciseLog;
 use siman_texts::{Field, Spelling, Value, put_end, put_fields, put_opening};
 use std::alloc::{AllocError, Global};
 
-/// A state, or none.
+/// A state, or a missing value.
 fn state_value<'a>(state: Option<EntityState>) -> Value<'a>
     ensures { value_of result ≡ state_value state }
 {
@@ -23,7 +23,7 @@ fn state_value<'a>(state: Option<EntityState>) -> Value<'a>
     }
 }
 
-/// In what two datagrams differ, or in nothing.
+/// The name of the difference of two datagrams, or a missing value.
 fn difference_value<'a>(differs: Option<Difference>) -> Value<'a>
     ensures { value_of result ≡ difference_value differs }
 {
@@ -33,7 +33,7 @@ fn difference_value<'a>(differs: Option<Difference>) -> Value<'a>
     }
 }
 
-/// Why an answer does not answer a request, in one word.
+/// The word for why an answer does not answer a request.
 fn unfit_word(differs: Unfit) -> &'static str
     ensures { result.now ≡ unfit_text differs }
 {
@@ -184,7 +184,7 @@ fn put_send(
     put_fields(text, spelling, &fields)
 }
 
-/// The other side, by its cause.
+/// The keys of the other side, which depend on the cause.
 pub(crate) fn put_clash_fields<L: ExerciseLog>(
     alloc: Global,
     text: &mut String,
@@ -249,7 +249,7 @@ pub(crate) fn put_clash_fields<L: ExerciseLog>(
     }
 }
 
-/// `clash ENTRY ..`: an entry, and the other side of its cause.
+/// `clash ENTRY ..`: an entry and its contradiction.
 pub fn put_clash<L: ExerciseLog>(
     alloc: Global,
     text: &mut String,

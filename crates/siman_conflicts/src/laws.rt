@@ -1,4 +1,4 @@
-//! Laws of the lines that tell what contradicts what.
+//! Laws of the rows.
 
 ghost use Rattle.std.specs.Prelude.{◌≡◌, ℕ, List, true};
 ghost use Rattle.exercise_model.specs.declared.cause.Cause.{Cause};
@@ -15,7 +15,7 @@ ghost use Rattle.siman_reports.specs.Report.{yes_line, no_line};
 ghost use Rattle.siman_conflicts.specs.Blocked.{explained_line, blocked_line, block_line};
 ghost use Rattle.siman_conflicts.specs.Lines.{repair_line, step_clash_line, rule_line, clash_line, wait_line, final_line, also_line, missing_line, fault_line, cycle_line};
 
-/// The law of keys: in JSON none of these lines has a key twice.
+/// The law of keys: in JSON no row has a key twice.
 pub fn conflict_keys_come_once()
     ensures rules { (cause : Cause) → has_no_key_twice (rule_line cause) ≡ true }
     ensures clashes { (r : PlainRecording) (entry : ℕ) (clash : Clash) → has_no_key_twice (clash_line r entry clash) ≡ true }

@@ -1,9 +1,11 @@
-//! The lines that tell what contradicts what in a recording or in a certificate, in both spellings, as
-//! functions of what they tell.
+//! The rows of conflicts and refusals that `why` and `audit` print, as text and as JSON: functions
+//! that append a row, or all rows of a conflict or refusal, to a string.
 //!
-//! It opens no file, judges nothing and writes to no stream: a command above asks for the lines and puts
-//! them out. Each contract gives the text of one line to the byte, by the definitions of the pages `Rule`
-//! and `Lines`.
+//! The crate never opens a file, judges a recording or writes to a stream; a command above prints
+//! the rows.
+//!
+//! The commands rely on the contract of each function, which gives the exact bytes of its rows by
+//! the definitions of `Rule`, `Lines`, `Blocked` and `Told`.
 #![tactic(auto)]
 
 mod blocked;

@@ -1,4 +1,4 @@
-//! The lines of waits, cycles, further causes, missing sends and whose fault it is.
+//! Rows of waits, cycles, further causes, missing sends, repairs and faults.
 
 ghost use Rattle.std.specs.Prelude.{◌≡◌, ◌<◌, ◌++◌, length, IfOk, OnOk, All, string_bytes};
 ghost use Rattle.siman_texts.specs.Lent.{value_of};
@@ -11,7 +11,7 @@ use exercise_model::{Cause, ExerciseLog};
 use siman_texts::{Field, Spelling, Value, put_named};
 use std::alloc::{AllocError, Global};
 
-/// An entry, or none.
+/// An entry number, or a missing value.
 pub(crate) fn entry_value<'a>(entry: Option<usize>) -> Value<'a>
     ensures { value_of result ≡ entry_value entry }
 {
@@ -95,7 +95,7 @@ pub fn put_missing<L: ExerciseLog>(
     put_named(text, spelling, "missing", &fields)
 }
 
-/// Whose fault it is, in one word.
+/// The word for what is at fault.
 fn fault_word(fault: Fault) -> &'static str
     ensures { result.now ≡ fault_text fault }
 {

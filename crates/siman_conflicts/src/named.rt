@@ -1,4 +1,4 @@
-//! The entries that are named by what is told of a recording or a certificate.
+//! The entries that the rows of a conflict or a refusal name.
 
 ghost use Rattle.std.specs.Prelude.{◌≡◌, ◌++◌, map, IfOk, OnOk};
 ghost use Rattle.std.specs.List.{flat_map};
@@ -11,7 +11,7 @@ use exercise_audit::Block;
 use exercise_conflict::{Also, Clash, Conflict, Lack, Refusal, StepClash, Way};
 use std::alloc::{AllocError, Global};
 
-/// Adds an entry, if there is one.
+/// Appends an entry, if there is one.
 fn name_entry(entries: &mut Vec<usize>, entry: Option<usize>) -> Result<(), AllocError>
     ensures { OnOk result (entries.new.items ≡ entries.old.items ++ option_to_list entry) }
 {
@@ -21,7 +21,7 @@ fn name_entry(entries: &mut Vec<usize>, entry: Option<usize>) -> Result<(), Allo
     Ok(())
 }
 
-/// Adds the entries that a clash names.
+/// Appends the entries that a contradiction names.
 fn name_clash(entries: &mut Vec<usize>, clash: Clash) -> Result<(), AllocError>
     ensures { OnOk result (entries.new.items ≡ entries.old.items ++ clash_entries clash) }
 {
@@ -55,7 +55,7 @@ fn name_clash(entries: &mut Vec<usize>, clash: Clash) -> Result<(), AllocError>
     }
 }
 
-/// Adds the entries that the clash of a step names.
+/// Appends the entries that the contradiction of a step names.
 fn name_step_clash(entries: &mut Vec<usize>, clash: StepClash) -> Result<(), AllocError>
     ensures { OnOk result (entries.new.items ≡ entries.old.items ++ step_clash_entries clash) }
 {
@@ -80,7 +80,7 @@ fn name_step_clash(entries: &mut Vec<usize>, clash: StepClash) -> Result<(), All
     }
 }
 
-/// Adds the entries that a wait names, or what an entry contradicts.
+/// Appends the entries that a wait or a contradiction names.
 fn name_way(entries: &mut Vec<usize>, way: Way) -> Result<(), AllocError>
     ensures { OnOk result (entries.new.items ≡ entries.old.items ++ way_entries way) }
 {
@@ -135,7 +135,7 @@ fn name_lacks(entries: &mut Vec<usize>, lacks: &[Lack]) -> Result<(), AllocError
     Ok(())
 }
 
-/// Adds the entries that the lines of a recording name.
+/// Appends the entries that the rows of a conflict name.
 fn name_conflict(entries: &mut Vec<usize>, conflict: &Conflict) -> Result<(), AllocError>
     ensures { OnOk result (entries.new.items ≡ entries.old.items ++ conflict_entries conflict.now) }
 {
@@ -146,8 +146,7 @@ fn name_conflict(entries: &mut Vec<usize>, conflict: &Conflict) -> Result<(), Al
     Ok(())
 }
 
-/// The entries that are named by the lines of what contradicts what in a recording, in no order, some
-/// more than once.
+/// The entries that the rows of a conflict name, in no particular order, with repetitions.
 pub fn conflict_entries(alloc: Global, conflict: &Conflict) -> Result<Vec<usize>, AllocError>
     ensures { IfOk result (λ entries. entries.items ≡ conflict_entries conflict.now) }
 {
@@ -156,8 +155,7 @@ pub fn conflict_entries(alloc: Global, conflict: &Conflict) -> Result<Vec<usize>
     Ok(entries)
 }
 
-/// The entries that are named by the lines of a certificate that is not good, but for what stands there
-/// as a link.
+/// The entries that the rows of a refused certificate name, except those given as a link.
 #[tactic(auto, unfolding(crate::specs::Told::refusal_entries))]
 pub fn refusal_entries(alloc: Global, refusal: Refusal) -> Result<Vec<usize>, AllocError>
     ensures { IfOk result (λ entries. entries.items ≡ refusal_entries refusal) }

@@ -1,4 +1,4 @@
-//! The rule that a cause breaks.
+//! The rule that each cause breaks.
 
 ghost use Rattle.std.specs.Prelude.{◌≡◌, ◌++◌, OnOk, string_bytes};
 ghost use Rattle.siman_texts.specs.Spelled.{line_spelled};
@@ -9,7 +9,7 @@ use exercise_model::Cause;
 use siman_texts::{Field, Spelling, Value, put_named};
 use std::alloc::AllocError;
 
-/// What holds of every run, and not where the cause holds.
+/// What holds of every run, but not where the cause holds.
 fn rule_of(cause: Cause) -> &'static str
     ensures { result.now ≡ rule_text cause }
 {

@@ -1,4 +1,4 @@
-//! The line of what a step of a certificate contradicts.
+//! Rows of the contradiction of a certificate's step.
 
 ghost use Rattle.std.specs.Prelude.{◌≡◌, ◌++◌, OnOk, string_bytes};
 ghost use Rattle.siman_texts.specs.Spelled.{fields_spelled, line_spelled};
@@ -115,7 +115,7 @@ fn put_link(
     put_named(text, spelling, "clash", &fields)
 }
 
-/// `step=STEP`, of what was sent too late or never.
+/// `step=STEP`, for a datagram that was sent too late or never.
 fn put_step(
     text: &mut String,
     spelling: Spelling,
@@ -134,7 +134,7 @@ fn put_step(
     }
 }
 
-/// `clash ENTRY ..` of the event of a step.
+/// `clash ENTRY ..` for the event of a step.
 fn put_event<L: ExerciseLog>(
     alloc: Global,
     text: &mut String,
@@ -158,8 +158,8 @@ fn put_event<L: ExerciseLog>(
     put_end(text, spelling)
 }
 
-/// What a step of a certificate contradicts: `clash ENTRY ..` for the entry that is judged, `clash - ..`
-/// where none is.
+/// The contradiction of a certificate's step: `clash ENTRY ..` with the judged entry, or `clash -
+/// ..` if there is none.
 pub fn put_step_clash<L: ExerciseLog>(
     alloc: Global,
     text: &mut String,

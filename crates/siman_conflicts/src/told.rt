@@ -1,4 +1,4 @@
-//! All that is told of a recording that no run explains, and of a certificate that is not good.
+//! All rows of a recording that no run explains, and of a refused certificate.
 
 ghost use Rattle.std.specs.Prelude.{◌≡◌, ◌<◌, ◌++◌, length, map, OnOk, All, string_bytes};
 ghost use Rattle.std.specs.List.{flat_map};
@@ -20,7 +20,7 @@ use exercise_model::{Cause, ExerciseLog};
 use siman_texts::{Field, Spelling, Value, put_named};
 use std::alloc::{AllocError, Global};
 
-/// `final ENTRY`, where nothing excuses the clash of an entry.
+/// `final ENTRY`, if no further entry can resolve the contradiction of an entry.
 fn put_if_final(
     text: &mut String,
     spelling: Spelling,
@@ -36,7 +36,7 @@ fn put_if_final(
     }
 }
 
-/// What a blocked station waits for, or what its entry contradicts.
+/// The wait of a blocked station, or the contradiction of its entry.
 fn put_way<L: ExerciseLog>(
     alloc: Global,
     text: &mut String,
@@ -92,7 +92,7 @@ fn put_cycles<L: ExerciseLog>(
     Ok(())
 }
 
-/// What else the log of its station has against an entry.
+/// The further cause against an entry within its station's log.
 fn put_further<L: ExerciseLog>(
     alloc: Global,
     text: &mut String,
@@ -138,9 +138,9 @@ fn put_lacks<L: ExerciseLog>(
     Ok(())
 }
 
-/// All lines of what contradicts what in a recording that no run explains: the blocked list, the rules
-/// that it breaks, what each blocked station waits for or contradicts, the cycles, what else stands
-/// against entries, what the logs lack, and whether that would do.
+/// All rows of a recording that no run explains: the blocked list, the rules that it breaks, the
+/// wait or contradiction of each blocked station, the cycles, the further causes, the missing
+/// sends, and whether adding these is enough.
 pub fn put_conflict<L: ExerciseLog>(
     alloc: Global,
     text: &mut String,
@@ -196,7 +196,7 @@ fn put_no(
     put_named(text, spelling, "no", &fields)
 }
 
-/// What the first bad step contradicts, where there is something to tell.
+/// The contradiction of the first bad step, if there is one.
 fn put_step_clash_if<L: ExerciseLog>(
     alloc: Global,
     text: &mut String,
@@ -213,8 +213,8 @@ fn put_step_clash_if<L: ExerciseLog>(
     }
 }
 
-/// All lines of a certificate that is not good: its first bad step, the rule that this breaks, what it
-/// contradicts, and whose fault it is.
+/// All rows of a refused certificate: its first bad step, the rule that this breaks, its
+/// contradiction, and what is at fault.
 #[tactic(auto, unfolding(crate::specs::Told::refusal_lines))]
 pub fn put_refusal<L: ExerciseLog>(
     alloc: Global,

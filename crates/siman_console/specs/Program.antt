@@ -1,4 +1,4 @@
--- How the program ends, from the words of its command line to its status.
+-- The ending of the program, from the words of its command line to its exit status.
 use Rattle.std.specs.Prelude.{◌≡◌, ◌⊎◌, ℕ, List, [], Option, Some, None, Result, Ok, Err, map, string_bytes, Vec, String, Bool, true, false}
 use Rattle.std.specs.declared.alloc.Global.{Global}
 use Rattle.std.specs.Io.KnownBytes.{Keeps}
@@ -39,25 +39,25 @@ use Rattle.siman_plays.specs.Station.{EndsStation}
 use Rattle.siman_views.specs.Why.{WhyNamed}
 use Rattle.siman_plays.specs.World.{RunsFile, MakesWorld}
 
--- WHAT A COMMAND DOES: which files it opened and made, in their order, what it answered or the fault that it met, and what it left on the writer of answers
+-- WHAT A COMMAND DOES: the files that it opens and makes, in their order, its answer or fault, and its output
 abbrev pub DoesOne : OneWord → (word : List ℕ) → List Deed → Answered → Stream → Type 0
 DoesOne OneWord.Pdu hex deeds answered out = (deeds ≡ []) × IsSaid (said_of_hex hex) answered out.old out.new
 DoesOne OneWord.Show recording deeds answered out = SaysOfFile ShowsFile recording deeds answered out
 
--- a view of a recording, under the words that choose among its lines, in a spelling
+-- a view of a recording, under words that are to be filters, in a spelling
 abbrev pub DoesView : ViewWord → (recording : List ℕ) → (filters : List (List ℕ)) → Spelling → List Deed → Answered → Stream → Type 0
 DoesView ViewWord.Review recording filters spelling = ReviewsNamed spelling recording filters
 DoesView ViewWord.Log recording filters spelling = LogsNamed spelling recording filters
 
--- with this answer or fault, which is then told, and no recording stands begun
+-- the ending with this answer or fault, and with no recording begun
 abbrev pub EndsIn : Answered → Outcome → Type 0
 EndsIn answered o = Ends answered o.ended o.errors.old o.errors.new × (o.fault ≡ fault_in answered) × (o.begun ≡ None)
 
--- with the status of what was answered, or with that of the fault that was met, which is then told
+-- the ending of a command: the status of its answer, or of its fault, which is then written
 abbrev pub EndsAs : (Answered → Stream → Type 0) → Outcome → Type 0
 EndsAs Tells o = (answered : Answered) × Tells answered o.out × EndsIn answered o
 
--- how a command with two words ends
+-- the ending of a command with two words
 abbrev pub EndsTwo : {L : Type 0} → Telling L → TwoWords → (first second : List ℕ) → (force : Bool) → List Deed → Outcome → Type 0
 EndsTwo told TwoWords.Check recording certificate force deeds o = EndsAs (SaysOfFiles ChecksFiles recording certificate deeds) o
 EndsTwo told TwoWords.Audit recording certificate force deeds o = EndsAs (WorksSparing SearchesFile MakesFinding force recording certificate deeds) o
@@ -66,7 +66,7 @@ EndsTwo told TwoWords.Live script recording force deeds o = EndsLive told script
 EndsTwo told TwoWords.Convert old new force deeds o = EndsAs (WorksSparing CarriesFile MakesConverted force old new deeds) o
 EndsTwo told TwoWords.Mend old new force deeds o = EndsAs (WorksSparing MendsFile MakesMended force old new deeds) o
 
--- how a command ends that takes no words, and reads standard input, which has these bytes where they are known
+-- the ending of a command without words, which reads standard input with these bytes, if they are known
 abbrev pub EndsBare : NoWord → Option (List ℕ) → Outcome → Type 0
 EndsBare NoWord.Pdus input o = ((bytes : List ℕ) × Has input bytes × EndsLines (lines_of bytes) o) × (o.begun ≡ None)
 
@@ -82,38 +82,38 @@ EndsTask told (View view recording filters spelling) deeds input o = EndsAs (Doe
 EndsTask told (asks.Why recording certificate spelling) deeds input o = EndsAs (WhyNamed spelling recording certificate deeds) o
 EndsTask told (asks.Chart recording certificate picture words force) deeds input o = EndsAs (ChartsNamed recording certificate picture words force deeds) o
 
--- HOW WORDS END that ask for no task: with want of memory, with the help that they ask for, or as a fault of usage, which is told on the writer of faults
+-- HOW WORDS WITHOUT A TASK END: with lack of memory, with the help that they ask for, or with status 2 as a fault of usage, which writes nothing to the output
 abbrev pub EndsUsage : (helps : Bool) → Outcome → Type 0
 EndsUsage helps o =
     (Keeps o.out.old o.out.new × EndsIn (Err Memory) o)
     ⊎ ((helps ≡ true) × (EndsIn (Ok 0) o ⊎ EndsIn (Err Output) o))
     ⊎ ((helps ≡ false) × (o.ended.status ≡ 2) × (o.fault ≡ None) × Keeps o.out.old o.out.new)
 
--- WITH WANT OF MEMORY, before anything is done
+-- WITH LACK OF MEMORY, before anything is done
 abbrev pub EndsAtOnce : List Deed → Outcome → Type 0
 EndsAtOnce deeds o = (deeds ≡ []) × Keeps o.out.old o.out.new × EndsIn (Err Memory) o
 
--- Words that ask for nothing of the table ask for help or break the usage, and no file is opened.
+-- Words that give no task ask for help or break the usage, and no file is opened.
 abbrev pub EndsAsked : {L : Type 0} → Telling L → Option Asked → (helps : Bool) → List Deed → Option (List ℕ) → Outcome → Type 0
 EndsAsked told (Some task) helps deeds input o = EndsAtOnce deeds o ⊎ EndsTask told task deeds input o
 EndsAsked told None helps deeds input o = (deeds ≡ []) × EndsUsage helps o
 
--- the words, or why they could not be had
+-- the words, or the error on reading them
 abbrev pub words_by : {E : Type 0} → (E → ErrorKind) → Result (Vec (String Global) Global) E → Result (List (List ℕ)) ErrorKind
 words_by kind (Ok words) = Ok (map string_bytes words.items)
 words_by kind (Err error) = Err (kind error)
 
--- of the words of a command line, the program's name first
+-- the ending for the words of a command line, the program's name first
 abbrev pub EndsWords : {L : Type 0} → Telling L → List (List ℕ) → List Deed → Option (List ℕ) → Outcome → Type 0
 EndsWords told words deeds input o = EndsAsked told (asked words) (asks_help words) deeds input o
 
--- HOW THE PROGRAM ENDS whose words are these, the program's name first, or could not be had: for want of memory, or since a word is not UTF-8. Its lines tell what they tell.
+-- HOW THE PROGRAM ENDS for these words, the program's name first, or without words: for lack of memory, or since a word is not UTF-8. `told` holds what its links report: datagrams, failed calls and strangers.
 abbrev pub EndsProgram : {L : Type 0} → Telling L → Result (List (List ℕ)) ErrorKind → List Deed → Option (List ℕ) → Outcome → Type 0
 EndsProgram told (Ok words) deeds input o = EndsWords told words deeds input o
 EndsProgram told (Err kind) deeds input o =
     (deeds ≡ []) × (Keeps o.out.old o.out.new × ((fault : Fault) × IsToldAs kind Words fault × EndsIn (Err fault) o))
 
--- HOW IT ENDS WITH A REASON: so, and behind the first line of its fault the second one is told, and how the recording is mended that it began; or else what there is to warn of
+-- HOW IT ENDS WITH A REASON: after that ending, the second line of a fault is written behind its first line, and the line that mends the recording that the command began; or else a warning
 abbrev pub EndsExplained : (Outcome → Type 0) → Ended → (out errors reasons : Stream) → Type 0
 EndsExplained Ends ended out errors reasons =
     (fault : Option Fault) × (begun : Option (List ℕ)) × (warning : Option Warning)

@@ -1,4 +1,4 @@
--- The second line of a fault: what a person needs to know of it (profile).
+-- The second line of a fault, which explains it to a person (profile).
 use Rattle.std.specs.Prelude.{◌≡◌, ◌⊎◌, ⊤, ℕ, zero, suc, ◌-◌, ◌==◌, List, [], ◌++◌, codes, decimal, Option, Some, None, Result, Ok, Err, if◌then◌else◌}
 use Rattle.std.specs.Io.KnownBytes.{Keeps}
 use Rattle.byte_files.specs.Writing.{Writes}
@@ -41,11 +41,11 @@ pieces a b c d e = record { first = a; second = b; third = c; fourth = d; fifth 
 
 -- Of a move that cannot be made.
 
--- a line of a script, and what there is to say of it
+-- the number of a script's line, and words behind it
 abbrev pub line_text : (line : ℕ) → (told : List ℕ) → List ℕ
 line_text line told = five (codes "line ") (decimal line) told [] []
 
--- which datagrams a delivery may name, where so many were sent before it
+-- the datagrams that a delivery may name, after this number of sends
 abbrev pub known_text : (line sends : ℕ) → List ℕ
 known_text line sends =
     if sends == 0 then line_text line (codes ": no datagram was sent before it")
@@ -66,12 +66,12 @@ move_words (moves.Order orders.IdsSpent) = codes ": no request identifier is lef
 move_words (moves.Order orders.TooLong) = codes ": its PDU would have more than 8192 bytes: ask for fewer data"
 move_words (moves.Order orders.Memory) = codes ": memory ran out"
 
--- in which line of the script it stands, and why it cannot be made, or what would do
+-- the line of a move in its script, and why it cannot be made, or which would do
 abbrev pub move_text : MovePlace → MoveFault → List ℕ
 move_text place moves.NoSuchSend = sent_text place.line place.sends
 move_text place fault = line_text place.line (move_words fault)
 
--- Of a word that says a step past the last one.
+-- Of a word that names a step past the last one.
 
 abbrev pub step_text : ℕ → List ℕ
 step_text zero = five (codes "there are no steps") [] [] [] []
@@ -84,11 +84,11 @@ reason_words (reasons.Script why) = reason_text why
 reason_words (reasons.Line trouble) = line_trouble_text trouble
 reason_words (reasons.Text pieces) = pieces_text pieces
 
--- a file that is no script looks like one of another kind
+-- The text says that a file is no script and looks like one of another kind.
 abbrev pub IsForeign : (text : List ℕ) → Type 0
 IsForeign text = (name kind : List ℕ) × (text ≡ five name (codes " is no script: it looks like ") kind [] [])
 
--- THE REASON OF A FAULT, where what was read decides it: why a line of a script is refused, or what the file looks like that is none, where a move stands and what would do, which step is the last. What the system said stands in no contract.
+-- THE REASON OF A FAULT, if the input determines it: why a line of a script is refused or what kind of file it looks like, the place of a move and which would do, or the last step. The text for any other fault is in no contract.
 abbrev pub IsReason : Fault → (text : List ℕ) → Type 0
 IsReason (Script fault (Some why)) text = (text ≡ reason_text why) ⊎ IsForeign text
 IsReason (World (worlds.Move number fault) (Some place)) text = text ≡ move_text place fault
@@ -99,23 +99,23 @@ IsReason other text = ⊤
 abbrev pub second_line : (text : List ℕ) → List ℕ
 second_line text = codes "  " ++ (text ++ line_end)
 
--- mend REC NEW, with the name of the recording that was begun in the place of REC; the word NEW stands as it is
+-- the line `mend REC NEW`, where REC is the name of the begun recording and NEW is the word itself
 abbrev pub mend_line : (begun : Option (List ℕ)) → List ℕ
 mend_line None = []
 mend_line (Some name) = (codes "mend " ++ name) ++ (codes " NEW" ++ line_end)
 
--- whether all that was to be told is written
+-- whether all of it is written
 abbrev pub Wrote : Type 0
 Wrote = Result (Unit {0}) WriteFailed
 
--- Of what there is to warn of.
+-- Of warnings.
 
--- none of the datagrams of a recording means anything in its exercise
+-- No datagram of a recording means anything in its exercise.
 abbrev pub meant_text : (datagrams exercise : ℕ) → List ℕ
 meant_text datagrams exercise =
     five (codes "none of the ") (decimal datagrams) (codes " datagrams is a management PDU of exercise ") (decimal exercise) (codes ": see why= of siman log")
 
--- an order is for a station that its script has not
+-- An order is for a station that its script does not have.
 abbrev pub nobody_text : (line site application : ℕ) → List ℕ
 nobody_text line site application =
     five (codes "line ") (decimal line) (codes ": the script has no station ") (decimal site ++ (codes ":" ++ decimal application)) (codes ", so nobody gets this order")
@@ -124,7 +124,7 @@ abbrev pub warning_text : Warning → List ℕ
 warning_text (warnings.NothingMeant datagrams exercise) = meant_text datagrams exercise
 warning_text (warnings.NoSuchStation line site application) = nobody_text line site application
 
--- warning: TEXT
+-- the line `warning: TEXT`
 abbrev pub warning_line : Warning → List ℕ
 warning_line warning = codes "warning: " ++ (warning_text warning ++ line_end)
 
@@ -132,7 +132,7 @@ abbrev pub Warns : Option Warning → (old new : Option (List ℕ)) → Type 0
 Warns None old new = Keeps old new
 Warns (Some warning) old new = (wrote : Wrote) × Writes wrote old new (warning_line warning)
 
--- BEHIND THE FIRST LINE OF A FAULT its second one is told, and how the recording is mended that was begun before, or a prefix of that, where the writer failed; nothing, where the first line was not written whole. Where there was no fault, it is told what there is to warn of.
+-- BEHIND THE FIRST LINE OF A FAULT its second line is written, and the line that mends the recording begun before it, or a prefix of both if the writer fails; nothing, if the first line was not written whole. Without a fault, the warning is written, if there is a warning.
 abbrev pub Explains : (first : Wrote) → Option Fault → (begun : Option (List ℕ)) → Option Warning → (old new : Option (List ℕ)) → Type 0
 Explains first None begun warning old new = Warns warning old new
 Explains (Err failed) (Some fault) begun warning old new = Keeps old new

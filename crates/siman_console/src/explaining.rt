@@ -1,4 +1,4 @@
-//! Telling the reason of a fault, behind its first line.
+//! Writing the reason of a fault behind its first line, and warnings.
 
 ghost use Rattle.std.specs.Prelude.{◌≡◌, ◌++◌, Some, option_map};
 ghost use Rattle.byte_files.specs.Writing.{Writes};
@@ -43,7 +43,7 @@ fn put_second<W: Write>(writer: &mut W, reason: Reason<'_>) -> Result<(), WriteF
     put_ended(writer, reason)
 }
 
-/// Writes how the recording of a name is mended: `mend NAME NEW`.
+/// Writes the line `mend NAME NEW`, the command that mends the recording of a name.
 fn put_mend<W: Write>(writer: &mut W, name: &str) -> Result<(), WriteFailed>
     ensures { Writes result (W.contents writer.old) (W.contents writer.new) (mend_line (Some name.now)) }
 {
@@ -51,7 +51,8 @@ fn put_mend<W: Write>(writer: &mut W, name: &str) -> Result<(), WriteFailed>
     put(writer, b" NEW\n")
 }
 
-/// Writes the second line of a fault, and how the recording is mended that was begun before it.
+/// Writes the second line of a fault, and the line that mends the recording begun before it, if
+/// there was such a recording.
 fn put_explained<W: Write>(
     writer: &mut W,
     reason: Reason<'_>,
@@ -66,7 +67,7 @@ fn put_explained<W: Write>(
     }
 }
 
-/// Writes what there is to warn of.
+/// Writes the line of a warning.
 fn put_warning<W: Write>(writer: &mut W, warning: Warning) -> Result<(), WriteFailed>
     ensures { Writes result (W.contents writer.old) (W.contents writer.new) (warning_line warning) }
 {
@@ -74,7 +75,7 @@ fn put_warning<W: Write>(writer: &mut W, warning: Warning) -> Result<(), WriteFa
     put_ended(writer, Reason::Text(warning_pieces(warning)))
 }
 
-/// Tells what there is to warn of, if there is something.
+/// Writes a warning, if there is a warning; a failed write is ignored.
 fn warn<W: Write>(warning: Option<Warning>, reasons: &mut W)
     ensures { Warns warning (W.contents reasons.old) (W.contents reasons.new) }
 {
@@ -83,9 +84,10 @@ fn warn<W: Write>(warning: Option<Warning>, reasons: &mut W)
     }
 }
 
-/// Tells the reason of the fault that a command met, if it met one and its first line is written, and
-/// how the recording is mended that it began, and else what there is to warn of; gives how the command
-/// ended.
+/// Writes the reason of a command's fault, if it has a fault whose first line was written, and the
+/// line that mends the recording that it began; for a command without a fault writes its warning.
+/// Failed writes are ignored. Returns the exit status and whether the first line was written, as
+/// they are in `ending`.
 pub(crate) fn explained<'a, E: Write>(
     ending: Ending<'a>,
     named: Named<'a>,

@@ -1,9 +1,9 @@
-//! Which words choose among the lines of a view, and among the steps of a picture.
+//! Reasons for words that are no filter of a view, or select no steps of a picture.
 
 use crate::pieces::{Pieces, words};
 use siman_words::ViewWord;
 
-/// What a word with this key says in each view, if it is one of both.
+/// The values of a key that both views have, if the word begins with one.
 fn shared_words(word: &str) -> Option<&'static str> {
     let bytes = word.as_bytes();
     if bytes.starts_with(b"station=") {
@@ -18,7 +18,7 @@ fn shared_words(word: &str) -> Option<&'static str> {
     None
 }
 
-/// Which filters `review` has, or which values the key of this word.
+/// The filters of `review`, or the values of the key of this word.
 fn review_words(word: &str) -> &'static str {
     if word.as_bytes().starts_with(b"fate=") {
         return "fate= is done, answered, refused, pending, unheard, unanswered, lost, unknown or nobody";
@@ -26,7 +26,7 @@ fn review_words(word: &str) -> &'static str {
     "the filters of review are station=S:A, entity=S:A:E, request=S:A/N and fate=WORD"
 }
 
-/// Which filters `log` has, or which values the key of this word.
+/// The filters of `log`, or the values of the key of this word.
 fn log_words(word: &str) -> &'static str {
     if word.as_bytes().starts_with(b"kind=") {
         return "kind= is create-entity, remove-entity, start-resume, stop-freeze, acknowledge, \
@@ -36,7 +36,7 @@ fn log_words(word: &str) -> &'static str {
     "the filters of log are station=S:A, entity=S:A:E, request=S:A/N and kind=NAME"
 }
 
-/// What there is to say of a word that asks for no filter of a view, or for no steps of a picture.
+/// The reason for a word that is no filter of a view, or selects no steps of a picture.
 pub(crate) fn filter_pieces(word: &str, view: Option<ViewWord>) -> Pieces<'static> {
     let own = match view {
         Some(ViewWord::Review) => review_words(word),

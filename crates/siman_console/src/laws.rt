@@ -10,10 +10,10 @@ ghost use Rattle.siman_reports.specs.Report.{report_text};
 ghost use Rattle.siman_files.specs.Check.{IsDue};
 ghost use Rattle.siman_views.specs.Audit.{blocked_text, IsListOf};
 
-/// The law of conversion: of a recording and its conversion the report is the same text (`report`),
-/// and so is each blocked list (`blocked`); what `check` is to say of one of the first form with some
-/// certificate it is to say of its conversion with that certificate (`checked`), and a text is the
-/// blocked list of the one exactly where it is that of the other (`listed`).
+/// The law of conversion: a recording and its conversion have equal reports (`report`) and equal
+/// blocked lists (`blocked`); the answer of `check` about a recording of the first form and some
+/// certificate is that about its conversion and that certificate (`checked`), and a text is the
+/// blocked list of the one exactly if it is that of the other (`listed`).
 pub fn conversion_keeps_answers()
     ensures report { (r : PlainRecording) → report_text (converted r) ≡ report_text r }
     ensures blocked { (r : PlainRecording) (blocks : List Block) → blocked_text (converted r) blocks ≡ blocked_text r blocks }

@@ -1,16 +1,19 @@
-//! The commands of the program `siman`, as functions over readers and writers that answer the
-//! status to exit with, and the texts that they print.
+//! The program `siman` as functions over readers and writers that return an exit status, with the
+//! texts that they print. [`run`] leads from the words of a command line to the status, over the
+//! files and links of an [`Outside`]. Over readers and writers there are [`pdu_command`] and
+//! [`pdus_command`] for datagrams in hex text, [`show_command`] for recordings, [`check_command`]
+//! for a recording and its certificate, [`audit_command`] for the search of a recording,
+//! [`review_command`] and [`log_command`] for views of a recording, [`why_command`] and
+//! [`why_not_command`] for its contradictions, [`world_command`] for a script and the recording of
+//! its world, and [`trial`] for a script and the report of its world. The commands are in
+//! `siman_files`, `siman_views`, `siman_charts` and `siman_plays`, their common parts in
+//! `siman_answers`; this crate leads from words to commands and writes the reasons of faults.
 //!
-//! It opens no file and ends no process. [`run`] is the whole way from the words of a command line to
-//! the status, over what a program may do [`Outside`]. Over readers and writers there are
-//! [`pdu_command`] and [`pdus_command`] for datagrams in hex text, [`show_command`] for recordings,
-//! [`check_command`] for a recording and its certificate, [`audit_command`] for the search of a
-//! recording, [`review_command`] and [`log_command`] for views of a recording, [`why_command`] and
-//! [`why_not_command`] for what contradicts what, [`world_command`] for a script and the recording of
-//! its world, and [`trial`] for a script and the report of its world. The commands themselves stand in
-//! `siman_files`, `siman_views`, `siman_charts` and `siman_plays`, what they share in `siman_answers`;
-//! here is what leads from words to them. The contracts of the commands give the status and the bytes
-//! on the writer of the answer; the writer of faults gets bytes only where the status is 2 or 3.
+//! It opens no file itself and ends no process.
+//!
+//! The layer above may use the contract of [`run`] (`EndsExplained`, `EndsProgram`) and those of
+//! the commands on the exit status and the bytes on the writer of the answer; the writer of faults
+//! gets bytes only with status 2 or 3.
 #![tactic(auto)]
 
 mod explaining;

@@ -1,27 +1,27 @@
-//! What the words of a command line name, by which a fault is explained.
+//! The names in a command line, which explain a fault.
 
 use siman_words::{Task, TwoWords, ViewWord};
 
-/// What the words of a command line name. An empty name stands for none.
+/// The names in a command line; a missing name is empty.
 #[derive(Clone, Copy)]
 pub(crate) struct Named<'a> {
     /// The file that is read, or read first.
     pub(crate) first: &'a str,
-    /// The file that is read second; of `station` its address.
+    /// The file that is read second; the address for `station`.
     pub(crate) second: &'a str,
     /// The file that is made.
     pub(crate) made: &'a str,
-    /// Where a socket is to be.
+    /// The endpoint of the socket for `station`.
     pub(crate) socket: &'a str,
-    /// Whether `--force` may stand behind the command.
+    /// Whether the command takes `--force`.
     pub(crate) may_force: bool,
-    /// Whether the command mends.
+    /// Whether the command is `mend`.
     pub(crate) mends: bool,
-    /// The view that is asked for, if one is.
+    /// The view, for a command that is one.
     pub(crate) view: Option<ViewWord>,
 }
 
-/// Words that name nothing.
+/// No names.
 pub(crate) fn nothing_named() -> Named<'static> {
     Named {
         first: "",
@@ -34,7 +34,7 @@ pub(crate) fn nothing_named() -> Named<'static> {
     }
 }
 
-/// What two words name behind a command.
+/// The names of a command with two words.
 fn two_named<'a>(command: TwoWords, first: &'a str, second: &'a str) -> Named<'a> {
     let (mut read, mut made) = ("", second);
     if let TwoWords::Check = command {
@@ -51,7 +51,7 @@ fn two_named<'a>(command: TwoWords, first: &'a str, second: &'a str) -> Named<'a
     }
 }
 
-/// What a task names.
+/// The names of a task.
 pub(crate) fn named_by<'a>(task: &Task<'a, &'a str>) -> Named<'a> {
     let nothing = nothing_named();
     match task {

@@ -1,4 +1,4 @@
-//! A text in pieces: words, names and numbers, one after the other.
+//! Texts of five pieces: words, names and numbers, one after another.
 
 ghost use Rattle.std.specs.Prelude.{◌≡◌, ◌++◌, [], codes, decimal};
 ghost use Rattle.byte_files.specs.Writing.{Writes};
@@ -11,9 +11,9 @@ use std::io::Write;
 /// A piece of a text.
 #[derive(Clone, Copy)]
 pub(crate) enum Piece<'a> {
-    /// A name or a word that the command line has.
+    /// A name or a word of the command line.
     Name(&'a str),
-    /// Words that are the same each time.
+    /// Constant words.
     Words(&'static str),
     Number(u64),
     /// A site and an application, `S:A`.
@@ -21,7 +21,7 @@ pub(crate) enum Piece<'a> {
     Nothing,
 }
 
-/// A text in five pieces.
+/// A text of five pieces.
 #[derive(Clone, Copy)]
 pub(crate) struct Pieces<'a> {
     pub(crate) first: Piece<'a>,
@@ -31,7 +31,7 @@ pub(crate) struct Pieces<'a> {
     pub(crate) fifth: Piece<'a>,
 }
 
-/// A text of these words alone.
+/// The text of `words` alone.
 pub(crate) fn words(words: &'static str) -> Pieces<'static>
     ensures { pieces_text result ≡ texts words.now [] [] [] [] }
 {
@@ -44,7 +44,7 @@ pub(crate) fn words(words: &'static str) -> Pieces<'static>
     )
 }
 
-/// A text of a name, and of words behind it.
+/// The text of a name and the words behind it.
 pub(crate) fn named<'a>(name: &'a str, words: &'static str) -> Pieces<'a> {
     five(
         Piece::Name(name),
@@ -55,7 +55,7 @@ pub(crate) fn named<'a>(name: &'a str, words: &'static str) -> Pieces<'a> {
     )
 }
 
-/// A text of a name, and of two words behind it.
+/// The text of a name and two groups of words behind it.
 pub(crate) fn named_twice<'a>(
     name: &'a str,
     first: &'static str,
@@ -72,7 +72,7 @@ pub(crate) fn named_twice<'a>(
     )
 }
 
-/// A text of a name, of words behind it, and of another name.
+/// The text of a name, words, and another name.
 pub(crate) fn two_named<'a>(first: &'a str, words: &'static str, second: &'a str) -> Pieces<'a> {
     five(
         Piece::Name(first),

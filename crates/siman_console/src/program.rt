@@ -1,4 +1,4 @@
-//! The whole way from the words of a command line to the status.
+//! The program, from the words of its command line to its exit status.
 
 ghost use Rattle.std.specs.Prelude.{List, string_bytes, map};
 ghost use Rattle.std.specs.IoError.{error_kind};
@@ -27,7 +27,7 @@ use std::alloc::{AllocError, Global};
 use std::io;
 use std::io::{Read, Write};
 
-/// Does what a command with one word asks for.
+/// Runs a command with one word, and returns its status.
 fn do_one<'a, O: Outside, W: Write>(
     alloc: Global,
     command: OneWord,
@@ -45,7 +45,7 @@ fn do_one<'a, O: Outside, W: Write>(
     }
 }
 
-/// Does what a command with two words asks for, and ends as that asks for.
+/// Runs a command with two words, and ends it.
 fn end_two<'a, O: Outside, W: Write, E: Write>(
     alloc: Global,
     command: TwoWords,
@@ -86,8 +86,8 @@ fn end_two<'a, O: Outside, W: Write, E: Write>(
     }
 }
 
-/// Does what a view of a recording asks for: the file of that, and the words that choose among its
-/// lines.
+/// Runs a view of a recording, `words.0` being its file and `words.1` its filters, and returns the
+/// status.
 fn do_view<'a, O: Outside, W: Write>(
     alloc: Global,
     view: ViewWord,
@@ -107,7 +107,7 @@ fn do_view<'a, O: Outside, W: Write>(
     }
 }
 
-/// Does what the words ask for, and ends as that asks for.
+/// Runs a task, and ends it.
 fn end_task<'a, O: Outside, R: Read + Drop, W: Write, E: Write>(
     alloc: Global,
     task: Task<'a, &'a str>,
@@ -157,8 +157,8 @@ fn end_task<'a, O: Outside, R: Read + Drop, W: Write, E: Write>(
     }
 }
 
-/// Does what the words of a command line ask for, and ends as that asks for, with the reason of its
-/// fault behind the first line of that.
+/// Reads the words of a command line, runs their task or writes the help or the fault of usage, and
+/// writes the reason of a fault behind its first line.
 fn end_words<O: Outside, R: Read + Drop, W: Write, E: Write, S: Write>(
     alloc: Global,
     words: &[String],
@@ -196,12 +196,12 @@ fn end_words<O: Outside, R: Read + Drop, W: Write, E: Write, S: Write>(
     }
 }
 
-/// Runs the program: does what the words of its command line ask for, the program's name first, and
-/// answers the status to exit with, and whether what was to be told on `errors` was written. Files
-/// to be read are opened in the order of the words before any of them is read; the file that a
-/// command writes is made when there is something to write; answers and help go to `out`, the first
-/// lines of faults to `errors`, and the reason of the fault that ended the command to `reasons`, behind
-/// its first line: a line that begins with two blanks.
+/// Runs the program on the words of its command line, the program's name first. Returns the exit
+/// status, and whether all output to `errors` was written. The files to be read are opened in the
+/// order of the words before any of them is read; the file that a command writes is made once there
+/// is something to write. Answers and help are written to `out`, the first lines of faults to
+/// `errors`, and the reason of the fault that ended the command to `reasons`, behind its first
+/// line: a line that begins with two blanks. `reasons` also gets warnings.
 pub fn run<O: Outside, R: Read + Drop, W: Write, E: Write, S: Write>(
     alloc: Global,
     words: io::Result<Vec<String>>,

@@ -1,4 +1,4 @@
-//! The reason of a fault: what a person needs to know of it, behind its first line.
+//! The reason of a fault: the line behind its first line that explains it to a person.
 
 ghost use Rattle.std.specs.Prelude.{◌≡◌, ℕ, List, None, IfSome};
 ghost use Rattle.siman_console.specs.Reasons.{IsForeign, line_text, known_text, sent_text, move_words, move_text, step_text, pieces_text, reason_words, IsReason};
@@ -22,13 +22,13 @@ use siman_worlds::{MoveFault, WorldFault};
 pub(crate) enum Reason<'a> {
     /// Why a line of a script is refused.
     Script(LineReason),
-    /// What a line of a station said of a call that failed.
+    /// A failed call of a station's link, as the link reported it.
     Line(LineTrouble),
     /// A text in pieces.
     Text(Pieces<'a>),
 }
 
-/// A line of a script, and what there is to say of it.
+/// The number of a script's line, and words behind it.
 fn line_pieces(line: usize, told: &'static str) -> Pieces<'static>
     ensures { pieces_text result ≡ line_text line told.now }
 {
@@ -41,7 +41,7 @@ fn line_pieces(line: usize, told: &'static str) -> Pieces<'static>
     )
 }
 
-/// Which datagrams a delivery may name, where so many were sent before it.
+/// The datagrams that a delivery may name, after `sends` datagrams were sent.
 fn known_pieces(line: usize, sends: usize) -> Pieces<'static>
     ensures { pieces_text result ≡ known_text line sends }
 {
@@ -57,7 +57,7 @@ fn known_pieces(line: usize, sends: usize) -> Pieces<'static>
     )
 }
 
-/// Which datagrams a delivery may name, where it is known how many were sent before it.
+/// The datagrams that a delivery may name, if it is known how many were sent before it.
 fn sent_pieces(line: usize, sends: Option<usize>) -> Pieces<'static>
     ensures { pieces_text result ≡ sent_text line sends }
 {
@@ -87,7 +87,7 @@ fn move_words(fault: MoveFault) -> &'static str
     }
 }
 
-/// In which line of its script a move stands, and why it cannot be made, or what would do.
+/// The line of a move in its script, and why the move cannot be made, or which would do.
 fn move_pieces(place: MovePlace, fault: MoveFault) -> Pieces<'static>
     ensures { pieces_text result ≡ move_text place fault }
 {
@@ -97,7 +97,7 @@ fn move_pieces(place: MovePlace, fault: MoveFault) -> Pieces<'static>
     line_pieces(place.line, move_words(fault))
 }
 
-/// How many steps there are, and which one is the last.
+/// The number of steps, and the last step.
 fn step_pieces(steps: usize) -> Pieces<'static>
     ensures { pieces_text result ≡ step_text steps }
 {
@@ -113,7 +113,7 @@ fn step_pieces(steps: usize) -> Pieces<'static>
     )
 }
 
-/// Which limit pieces pass together.
+/// The limit that pieces pass together.
 fn limit_pieces(limit: JoinLimit) -> Pieces<'static> {
     match limit {
         JoinLimit::Stations => words("a recording has at most 256 stations"),
@@ -128,7 +128,7 @@ fn limit_pieces(limit: JoinLimit) -> Pieces<'static> {
     }
 }
 
-/// What there is to say of a station that an earlier piece has.
+/// The reason for a station that an earlier piece has too.
 fn twice_pieces(site: u16, application: u16) -> Pieces<'static> {
     five(
         Piece::Words("an earlier piece has station "),
@@ -139,7 +139,7 @@ fn twice_pieces(site: u16, application: u16) -> Pieces<'static> {
     )
 }
 
-/// Which socket a call failed of: the one that the words say, or one of the loopback.
+/// Name of the socket on which a call failed: as the command line has it, or one of the loopback.
 fn socket_name<'a>(names: Named<'a>, known: Known) -> &'a str {
     match known.failed {
         Some(
@@ -152,7 +152,7 @@ fn socket_name<'a>(names: Named<'a>, known: Known) -> &'a str {
     }
 }
 
-/// What the system said of a socket.
+/// The system's error on a socket, in words.
 fn socket_words(known: Known) -> &'static str {
     match known.failed {
         Some(failed) => system_words(failed.kind),
@@ -160,7 +160,7 @@ fn socket_words(known: Known) -> &'static str {
     }
 }
 
-/// What the system said of sockets.
+/// The reason for a socket that was not bound.
 fn socket_pieces<'a>(names: Named<'a>, known: Known) -> Pieces<'a> {
     five(
         Piece::Words("binding "),
@@ -171,7 +171,7 @@ fn socket_pieces<'a>(names: Named<'a>, known: Known) -> Pieces<'a> {
     )
 }
 
-/// What there is to say of a file that stands where one is to be made.
+/// The reason for an existing file under the name of the one to be made.
 fn standing_pieces(names: Named<'_>) -> Pieces<'_> {
     if names.may_force {
         return named(
@@ -182,7 +182,7 @@ fn standing_pieces(names: Named<'_>) -> Pieces<'_> {
     named(names.made, " is there already: give another name")
 }
 
-/// What there is to say of the world of a script.
+/// The reason for a world that does not run.
 fn world_pieces(fault: WorldFault) -> Pieces<'static> {
     match fault {
         WorldFault::Stations => words("a station opens with at most 4096 entities"),
@@ -191,7 +191,7 @@ fn world_pieces(fault: WorldFault) -> Pieces<'static> {
     }
 }
 
-/// What there is to say of a fault, of whose reason no contract speaks.
+/// The reason for a fault, a text that no contract specifies; it may depend on the system's errors.
 fn other_pieces<'a>(fault: Fault<'a>, names: Named<'a>, known: Known) -> Pieces<'a> {
     match fault {
         Fault::NotBytePairs | Fault::HexLine(_) => {
@@ -231,7 +231,7 @@ fn other_pieces<'a>(fault: Fault<'a>, names: Named<'a>, known: Known) -> Pieces<
     }
 }
 
-/// The reason of a fault, of which what was read decides nothing.
+/// The reason for a fault that the input does not determine.
 fn other_reason<'a>(
     fault: Fault<'a>,
     names: Named<'a>,
@@ -244,7 +244,7 @@ fn other_reason<'a>(
     }
 }
 
-/// The reason of a fault, where what was read decides it.
+/// The reason for a fault, if the input determines it.
 fn read_reason(fault: Fault<'_>) -> Option<Reason<'static>>
     ensures some { IfSome result (λ reason. IsReason fault.entry (reason_words reason)) }
     ensures none { result ≡ None → (text : List ℕ) → IsReason fault.entry text }
@@ -259,7 +259,7 @@ fn read_reason(fault: Fault<'_>) -> Option<Reason<'static>>
     }
 }
 
-/// What a file looks like that is no script, where that is another kind of file.
+/// The reason for a script that is a file of another kind, if it looks like such a file.
 fn foreign_script<'a>(name: &'a str, kind: FileKind) -> Option<Reason<'a>>
     ensures { IfSome result (λ reason. IsForeign (reason_words reason)) }
 {
@@ -272,7 +272,7 @@ fn foreign_script<'a>(name: &'a str, kind: FileKind) -> Option<Reason<'a>>
     }
 }
 
-/// What the file looks like that is no script, where the fault is that it is none.
+/// The reason for a refused script that looks like a file of another kind.
 fn foreign_reason<'a>(fault: Fault<'a>, names: Named<'a>, known: Known) -> Option<Reason<'a>>
     ensures { IfSome result (λ reason. IsReason fault.entry (reason_words reason)) }
 {

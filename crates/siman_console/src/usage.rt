@@ -1,4 +1,4 @@
-//! What is told of words that gave no task, and of none at a terminal.
+//! The ending of command lines without a task, and of one without words at a terminal.
 
 ghost use Rattle.std.specs.Prelude.{ℕ, List, false, Option};
 ghost use Rattle.siman_answers.specs.declared.fault.Fault.{Fault};
@@ -11,9 +11,9 @@ use siman_words::terminal_text;
 use std::alloc::{AllocError, Global};
 use std::io::Write;
 
-/// Tells the text of words that gave no task. Status 0 is the help that they asked for, on `out`; 2 a fault of
-/// usage, told on `errors`, or a failed write of the help (`output: write`); 3 want of memory
-/// (`memory`).
+/// Writes the text for words that give no task, and ends. Status 0: the help that they ask for, on
+/// `out`; 2: a fault of usage on `errors`, or a failed write of the help (`output: write`); 3: lack
+/// of memory (`memory`).
 pub(crate) fn end_usage<W: Write, E: Write>(
     asks_help: bool,
     text: Result<String, AllocError>,
@@ -47,8 +47,9 @@ pub(crate) fn end_usage<W: Write, E: Write>(
     }
 }
 
-/// Ends a program without words whose standard input is a terminal, on which nobody means to write a
-/// script: as a fault of usage, told on `errors` with status 2, or for want of memory (`memory`, 3).
+/// Ends a program without words whose standard input is a terminal, on which nobody means to write
+/// a script: as a fault of usage on `errors` with status 2, or for lack of memory (`memory`) with
+/// status 3.
 pub fn end_at_terminal<W: Write, E: Write>(alloc: Global, out: &mut W, errors: &mut E) -> Ended
     ensures { (fault : Option Fault) × (begun : Option (List ℕ)) × (let o : Outcome = record { ended = result; fault = fault; begun = begun; out = record { old = W.contents out.old; new = W.contents out.new }; errors = record { old = E.contents errors.old; new = E.contents errors.new } } in
         EndsUsage false o) }

@@ -1,4 +1,4 @@
-//! What there is to warn of, in words.
+//! Texts of warnings.
 
 ghost use Rattle.std.specs.Prelude.{◌≡◌};
 ghost use Rattle.siman_console.specs.Reasons.{pieces_text, meant_text, nobody_text, warning_text};
@@ -6,7 +6,7 @@ ghost use Rattle.siman_console.specs.Reasons.{pieces_text, meant_text, nobody_te
 use crate::pieces::{Piece, Pieces, five};
 use siman_answers::Warning;
 
-/// Of a recording of so many datagrams of which none means anything in this exercise.
+/// The warning about a recording with datagrams none of which means anything in this exercise.
 fn meant_pieces(datagrams: u64, exercise: u8) -> Pieces<'static>
     ensures { pieces_text result ≡ meant_text datagrams exercise }
 {
@@ -19,7 +19,7 @@ fn meant_pieces(datagrams: u64, exercise: u8) -> Pieces<'static>
     )
 }
 
-/// Of the order of a line for a station that its script has not.
+/// The warning about the order in a line for a station that its script does not have.
 fn nobody_pieces(line: usize, site: u16, application: u16) -> Pieces<'static>
     ensures { pieces_text result ≡ nobody_text line site application }
 {
@@ -32,7 +32,7 @@ fn nobody_pieces(line: usize, site: u16, application: u16) -> Pieces<'static>
     )
 }
 
-/// What there is to warn of, in words.
+/// The text of a warning.
 pub(crate) fn warning_pieces(warning: Warning) -> Pieces<'static>
     ensures { pieces_text result ≡ warning_text warning }
 {

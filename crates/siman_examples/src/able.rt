@@ -13,9 +13,9 @@ ghost use Rattle.siman_pdus.specs.declared.pdu.Pdu.{Pdu};
 
 use exercise_model::{Recording, changes_are_known};
 
-/// Whoever received an Able from a recorded station may rely on it: in every run that explains the
-/// recording some entry of the sender is the change behind it, the change could be made, and no other
-/// entry of the sender is a change under the same key.
+/// An Able that was received from a recorded station is reliable: in every run that explains the
+/// recording some entry of the sender is the change behind it, that change could be made, and no
+/// other entry of the sender is a change with this key.
 pub fn may_be_relied_on(recording: &Recording)
     ensures { (h before : History) (s : ℕ) (b : List ℕ) (p : Pdu) (i : ℕ) → IsRecording recording.now → Explains recording.now h
         → Contains h before (Get s b) → StandsFor recording.now i before (Get s b) → meaning recording.now.setting.exercise b ≡ Some p

@@ -1,4 +1,4 @@
-//! The order of addresses.
+//! How addresses are sorted.
 
 ghost use Rattle.std.specs.Prelude.{IsTrue, ◌↔◌};
 ghost use Rattle.dis_records.specs.Address.{IsBefore};
@@ -6,8 +6,8 @@ ghost use Rattle.dis_records.specs.Address.{IsBefore};
 use dis_records::{Address, addresses_are_ordered};
 use std::cmp::Ordering;
 
-/// Stations stand in a recording by rising addresses: one comes before another exactly where its site
-/// is lower, or its site is the same and its application is lower.
+/// Whether an address is before another in a recording, where stations are sorted by site, and
+/// within a site by application.
 pub fn comes_before(a: Address, b: Address) -> bool
     ensures { IsTrue result ↔ IsBefore a b }
 {

@@ -1,4 +1,4 @@
-//! The request that an answer answers.
+//! The request of an answer.
 
 ghost use Rattle.std.specs.Prelude.{List, Some, true, ℕ, ◌≡◌};
 ghost use Rattle.exercise_model.specs.Account.{pair_of};
@@ -11,8 +11,8 @@ ghost use Rattle.siman_pdus.specs.declared.pdu.Pdu.{Pdu};
 
 use exercise_model::{Recording, accounts_are_whole, logs_suffice};
 
-/// An answer has one request, whoever asks: two runs that explain the recording may differ in order, but
-/// the entry that the answer takes up in the one it takes up in the other.
+/// An answer has one request: in all runs that explain the recording, however they differ in order,
+/// it answers one entry.
 pub fn has_one_request(recording: &Recording)
     ensures { (h k before other : History) (s : ℕ) (b : List ℕ) (p : Pdu) (i : ℕ) → Explains recording.now h → Explains recording.now k
         → Contains h before (Send s b) → StandsFor recording.now i before (Send s b)

@@ -1,4 +1,4 @@
-//! Recordings of the first format that are kept in the second.
+//! Recordings of the first format that are archived in the second.
 
 ghost use Rattle.std.specs.Prelude.{Ok, length, ℕ, ◌+◌, ◌↔◌, ◌≡◌, ◌≤◌};
 ghost use Rattle.exercise_model.specs.Account.{change_behind, pair_of};
@@ -13,9 +13,9 @@ ghost use Rattle.exercise_recording.specs.Text.{recording_text};
 use exercise_model::{Recording, conversion_keeps_runs};
 use exercise_recording::conversions_are_read;
 
-/// Nothing is lost by conversion: what explained the recording explains its conversion, and the other
-/// way round (`explained`), and an answer has the same request, and an Able the same change behind it
-/// (`pairs`, `changes`).
+/// Conversion loses nothing: a run explains the recording exactly if it explains its conversion
+/// (`explained`), and the request of each answer (`pairs`) and the change behind each Able
+/// (`changes`) are unchanged.
 pub fn may_be_converted(recording: &Recording)
     ensures explained { recording.now.setting.form ≡ First → (h : History) → Explains recording.now h ↔ Explains (converted recording.now) h }
     ensures pairs { (i : ℕ) → pair_of recording.now i ≡ pair_of (converted recording.now) i }
@@ -24,7 +24,7 @@ pub fn may_be_converted(recording: &Recording)
     conversion_keeps_runs();
 }
 
-/// An archive with room for the old file and one byte more has room for the new one, and reads it.
+/// A limit of one byte more than the old file is large enough for the new one, which is then read.
 pub fn need_one_byte_more(recording: &Recording)
     ensures { (limit : ℕ) → recording.now.setting.form ≡ First → IsRecording recording.now → length (recording_text recording.now) + 1 ≤ limit
         → (length (recording_text (converted recording.now)) ≤ limit) × (recording_at limit (recording_text (converted recording.now)) ≡ Ok (converted recording.now)) }

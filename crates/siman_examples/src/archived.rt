@@ -12,9 +12,9 @@ use exercise_findings::Account;
 use exercise_model::{ExerciseLog, Recording};
 use std::alloc::{AllocError, Global};
 
-/// A certificate of a recording is one of its conversion: after a yes it need not be checked again, since
-/// its steps are good there too (`yes`), and after a no they are refused there too, at the same step for
-/// the same cause (`no`).
+/// Checks a certificate, for the recording and for its conversion at once: after a yes its steps
+/// are good for the conversion too (`yes`), and after a no they are refused there at that step for
+/// that cause (`no`).
 pub fn need_no_second_check(
     alloc: Global,
     recording: &Recording,
@@ -27,8 +27,7 @@ pub fn need_no_second_check(
     check(alloc, recording, certificate)
 }
 
-/// What a search says of a recording it may say of its conversion: so an archive need not be searched
-/// again.
+/// Searches a recording, and its conversion at once: the result is valid for both.
 pub fn need_no_second_search(alloc: Global, recording: &Recording) -> Result<Audit, AllocError>
     ensures { recording.now.setting.form ≡ First → IfOk result (IsAuditOf (converted recording.now)) }
 {

@@ -1,4 +1,4 @@
-//! What an auditor found, and what others hold against it.
+//! One auditor's results, and those of others.
 
 ghost use Rattle.std.specs.Prelude.{List, OnOk, ◌≡◌};
 ghost use Rattle.exercise_check.specs.Goodness.{IsGood};
@@ -15,8 +15,8 @@ use exercise_model::{ExerciseLog, Recording};
 use exercise_review::{Review, ReviewFault, conversion_keeps_views, review_of};
 use std::alloc::Global;
 
-/// What one auditor found is what any other certificate says: after a yes, every other good certificate
-/// of the recording has the same steps, with the same links, in another order at most.
+/// Checks a certificate. After a yes, every other good certificate of the recording has these steps
+/// and links, at most in another order.
 pub fn found_what_others_find(
     alloc: Global,
     recording: &Recording,
@@ -29,8 +29,8 @@ pub fn found_what_others_find(
     check(alloc, recording, certificate)
 }
 
-/// A review of a recording of the first format is one of its conversion: an archive need not be
-/// reviewed again.
+/// Reviews a recording of the first format, and its conversion at once: the review is valid for
+/// both.
 pub fn reviewed_the_archive<L: ExerciseLog>(
     alloc: Global,
     findings: Findings<'_, L>,

@@ -8,8 +8,8 @@ use exercise_conflict::{made_since, states_are_made};
 use exercise_findings::Findings;
 use exercise_model::ExerciseLog;
 
-/// The entry that made the state which an entity has before an entry: it is a change, and nothing after
-/// it changed that state (`made`). Where there is none the entity has the state of the start (`start`).
+/// The entry that made the state of an entity before an entry: it is a change, and nothing after it
+/// changed that state (`made`). `None`: the entity has its state from the start (`start`).
 pub fn made_the_state<L: ExerciseLog>(
     findings: &Findings<'_, L>,
     station: u16,

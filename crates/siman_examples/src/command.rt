@@ -1,4 +1,4 @@
-//! Commands, and what they say.
+//! Answers of commands.
 
 ghost use Rattle.std.specs.Prelude.{List, length, ℕ, ◌≡◌, ◌≤◌};
 ghost use Rattle.exercise_check.specs.declared.certificate.Step.{Step};
@@ -15,8 +15,8 @@ use exercise_model::Recording;
 use siman_console::conversion_keeps_answers;
 use siman_files::answers_follow_the_grammar;
 
-/// What the commands say of a recording they say of its conversion: its report is the same text
-/// (`report`), and what `check` is to say of it with some certificate is the same too (`checked`).
+/// Commands answer alike for a recording and its conversion: the report is equal (`report`), and so
+/// is the required output of `check` with any certificate (`checked`).
 pub fn say_the_same_of_the_archive(recording: &Recording)
     ensures report { report_text (converted recording.now) ≡ report_text recording.now }
     ensures checked { recording.now.setting.form ≡ First → (steps : List Step) (text : List ℕ) → IsDue recording.now steps text
@@ -25,7 +25,7 @@ pub fn say_the_same_of_the_archive(recording: &Recording)
     conversion_keeps_answers();
 }
 
-/// A datagram may be given in hex digits: one that spells a PDU is answered for as that PDU.
+/// A datagram may be given in hex digits: if it spells a PDU, the answer is the one for that PDU.
 pub fn take_hex_digits()
     ensures { (pdu : Pdu) (b : List ℕ) → Spells pdu b → IsBytes b → length b ≤ 32768 → said_of_hex (encode_lower b) ≡ said_of_pdu pdu }
 {

@@ -21,8 +21,9 @@ use exercise_conflict::{
 use exercise_findings::Findings;
 use exercise_model::{Cause, ExerciseLog};
 
-/// Whether the log of its station has a cause against an entry that no search is needed for. Then no run
-/// explains the recording (`never`), nor whatever is sent besides (`sends`), but for Ables.
+/// Whether the log of its own station has a cause against an entry, so that no search is needed.
+/// Then no run explains the recording (`never`), with any further sends either, except Ables
+/// (`sends`).
 pub fn is_against_its_own_log<L: ExerciseLog>(findings: &Findings<'_, L>, entry: usize) -> bool
     ensures never { result ≡ true → (h : History) → Explains findings.now h → ⊥ }
     ensures sends { result ≡ true → (wide : PlainRecording) (h : History) → HasFurtherSends findings.now wide → Explains wide h → ⊥ }
@@ -35,7 +36,7 @@ pub fn is_against_its_own_log<L: ExerciseLog>(findings: &Findings<'_, L>, entry:
     }
 }
 
-/// Whether an entry is a stranger's. Then nothing that the logs might lack mends the recording.
+/// Whether an entry is from a stranger. Then no further entries make the recording explainable.
 pub fn is_beyond_mending<L: ExerciseLog>(findings: &Findings<'_, L>, entry: usize) -> bool
     ensures { result ≡ true → (wide : PlainRecording) (h : History) → IsWider findings.now wide → Explains wide h → ⊥ }
 {
@@ -46,8 +47,9 @@ pub fn is_beyond_mending<L: ExerciseLog>(findings: &Findings<'_, L>, entry: usiz
     }
 }
 
-/// The entry that an entry contradicts. Where it sends another order under an identifier that was used
-/// there is one, and after that one alone it has this cause: nothing else need be shown.
+/// The earlier entry that an entry contradicts. If the entry sends another order with a used
+/// identifier, there is such an earlier entry (`there`), and the cause holds after that one alone,
+/// so that nothing else need be shown (`shown`).
 pub fn is_shown_by_two_entries<L: ExerciseLog>(
     findings: &Findings<'_, L>,
     entry: usize,
@@ -59,8 +61,8 @@ pub fn is_shown_by_two_entries<L: ExerciseLog>(
     earlier_of(findings, entry)
 }
 
-/// The other side of an entry. Where it tells a wrong state there is one (`there`), and the state that the
-/// other side names is the one that the entity has (`right`).
+/// The clash of an entry. If the entry tells a wrong state, there is a clash (`there`), and it
+/// names the state that the entity has (`right`).
 pub fn is_set_right<L: ExerciseLog>(findings: &Findings<'_, L>, entry: usize) -> Option<Clash>
     ensures there { own_cause findings.now entry ≡ Some WrongState → is_some result ≡ true }
     ensures right { own_cause findings.now entry ≡ Some WrongState → (s n : ℕ) (state : EntityState) (change : Option ℕ)
@@ -70,8 +72,9 @@ pub fn is_set_right<L: ExerciseLog>(findings: &Findings<'_, L>, entry: usize) ->
     clash_of(findings, entry)
 }
 
-/// Whether the cause against the first bad step of a certificate is one that its entry has by the log of
-/// its station. Then another order does not mend that, but for what was sent too late.
+/// Whether the entry of the first bad step of a certificate has this cause by the log of its
+/// station alone. Then another sequence does not remove the cause, except for a datagram that was
+/// sent too late.
 pub fn is_the_cause_of_its_entry<L: ExerciseLog>(
     findings: &Findings<'_, L>,
     certificate: &Certificate,

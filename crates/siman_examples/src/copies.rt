@@ -7,9 +7,9 @@ ghost use Rattle.siman_pdus.specs.declared.pdu.Pdu.{Pdu};
 
 use siman_application::{Application, requests_are_told_once};
 
-/// An application answers as if each request had come once: what comes under a key that is known, or is
-/// meant for somebody else, changes no later answer, wherever it stood (`copy`); and the distinct
-/// requests alone would have given the same answers (`once`).
+/// An application answers as if each request had arrived once: a request with a known key, or for
+/// another station, changes no later answer, wherever it arrived (`copy`); and the distinct
+/// requests alone would have had these answers (`once`).
 pub fn change_no_answer(application: &Application)
     ensures copy { let a = application.now.outfit in (q p : Pdu) (newer older : List Pdu) (stamp : ℕ)
         → (is_for a q && is_none (first_under q (distinct a older))) ≡ false

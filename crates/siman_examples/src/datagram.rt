@@ -9,8 +9,9 @@ use siman_pdus::{
     Pdu, encoded_size, numbers_are_in_range, ranges_and_texts_agree, spellings_are_apart,
 };
 
-/// How long the datagram of a PDU is, where it is not too long: so many bytes are written, and what
-/// is read of them is the PDU, with the status that its version carries. Nothing else of it is lost.
+/// Length of the datagram of a PDU in bytes; `None` if it is too long. That many bytes are written
+/// (`length`), and they are read as the PDU, with the status only if its version carries one
+/// (`read`). Nothing else is lost.
 pub fn length_that_is_read(pdu: &Pdu) -> Option<u16>
     ensures length { IfSome result (λ size. length (pdu_text pdu.now) ≡ size) }
     ensures read { IfSome result (λ size. reading (pdu_text pdu.now) ≡ Some (carried pdu.now)) }
@@ -20,8 +21,8 @@ pub fn length_that_is_read(pdu: &Pdu) -> Option<u16>
     encoded_size(pdu)
 }
 
-/// Where the datagram of a PDU ends nothing is left to guess: what begins with it and is a datagram too
-/// goes on by no byte, and spells the same PDU.
+/// A datagram says where its PDU ends: if a longer datagram begins with the bytes of a PDU, it adds
+/// no byte and spells that PDU.
 pub fn end_of_one_pdu(bytes: &[u8])
     ensures { (pdu other : Pdu) (more : List ℕ) → Spells pdu bytes.now → Spells other (bytes.now ++ more) → (more ≡ []) × (pdu ≡ other) }
 {

@@ -10,8 +10,9 @@ ghost use Rattle.siman_pdus.specs.declared.pdu.Pdu.{Pdu};
 
 use exercise_model::{Station, first_answers_change_states};
 
-/// What becomes of an entity when its station answers a request, at once: a first Able makes the change
-/// that the request asks for (`done`), and every other answer leaves the entity as it was (`refused`).
+/// What the first answer of a station to a request, given at once, does to an entity: an Able makes
+/// the change that the request asks for (`done`), and every other answer leaves the entity as it
+/// was (`refused`).
 pub fn changes_by_an_able_alone(station: &Station)
     ensures done { (x : ℕ) (log : History) (s t : ℕ) (b c : List ℕ) (q p : Pdu) → IsFirstAnswer x station.now log b c q p → responds able p ≡ true
         → (e : ℕ) → is_entity e ≡ true → state_after x station.now (Send s c ∷ Get t b ∷ log) e ≡ changed e (state_after x station.now log e) (change_of p q) }

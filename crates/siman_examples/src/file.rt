@@ -8,9 +8,10 @@ ghost use Rattle.exercise_recording.specs.declared.format_fault.FormatFault.{For
 use byte_files::are_bytes;
 use exercise_recording::{refusals_hold, text_and_reading_agree};
 
-/// What a file says does not depend on who reads it: what is read within one limit is read within every
-/// limit that has room for the file (`same`); and a file that is refused within a limit that has room
-/// for it is the text of no recording, so that no other reader reads it (`never`).
+/// The content of a file does not depend on its reader: what is read within one limit is read
+/// within every limit that has room for the file (`same`); and a file that is refused within a
+/// limit that has room for it is the text of no recording, so that no other reader reads it
+/// (`never`).
 pub fn says_one_thing(bytes: &[u8])
     ensures same { (limit other : ℕ) (r : PlainRecording) → recording_at limit bytes.now ≡ Ok r → length bytes.now ≤ other → recording_at other bytes.now ≡ Ok r }
     ensures never { (limit other : ℕ) (fault : FormatFault) (r : PlainRecording) → recording_at limit bytes.now ≡ Err fault → length bytes.now ≤ limit

@@ -1,4 +1,4 @@
-//! What the logs lack.
+//! Entries that the logs lack.
 
 ghost use Rattle.std.specs.Prelude.{IfOk, IfSome, length, ◌+◌, ◌≡◌, ◌≤◌};
 ghost use Rattle.exercise_conflict.specs.Further.{HasMissingSends};
@@ -18,9 +18,8 @@ use exercise_model::ExerciseLog;
 use exercise_review::{Missing, Register, missing_at};
 use std::alloc::{AllocError, Global};
 
-/// What is missing by an entry: the send of the datagram that it receives. The log of the sender does not
-/// have it, and whatever else is handed in later, the log of the sender has it once some run explains
-/// the whole.
+/// The missing send of an entry that receives a datagram. The log of the sender does not have it,
+/// and whatever is added to the recording, some run explains the whole only if that log has it.
 pub fn must_be_filled<L: ExerciseLog>(findings: &Register<'_, L>, entry: usize) -> Option<Missing>
     ensures { IfSome result (λ m. (wide : PlainRecording) (h : History) → IsRecording wide → IsWider findings.now wide → Explains wide h
         → IsNeeded findings.now wide entry m) }
@@ -29,9 +28,9 @@ pub fn must_be_filled<L: ExerciseLog>(findings: &Register<'_, L>, entry: usize) 
     missing_at(findings, entry)
 }
 
-/// Whether the sends that the logs lack are enough. Where they are, a run explains the recording with
-/// them (`yes`), and nobody need look for fewer entries (`fewer`); where they are not, nobody need look
-/// for other places of them (`no`).
+/// Whether the sends that the logs lack are enough. If so, a run explains the recording with them
+/// (`yes`). No recording with fewer additional entries is explained (`fewer`). If they are not
+/// enough, they are not at other places either (`no`).
 pub fn ends_the_search<L: ExerciseLog>(
     alloc: Global,
     findings: &Findings<'_, L>,

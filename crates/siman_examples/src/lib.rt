@@ -1,9 +1,10 @@
-//! What a reader can learn from the laws of siman: short functions, each of which makes a use of one law
-//! or more that a reader would have, and is proved by it.
+//! What a reader can conclude from the laws of siman: short functions, each of which applies one
+//! law or more and is proved by it. It never does any work for siman: nothing else is built on this
+//! crate. A reader may use each contract, and the laws in the way shown here: a law is a function
+//! without effect, whose contract is a theorem over the definitions in `specs/`, and a function
+//! that calls it may conclude what that contract says.
 //!
-//! Nothing of siman rests on this crate. A law is a function without a body, whose contract is a theorem
-//! over the definitions in `specs/`; a function calls it, and may then conclude what it says. Each file
-//! has one noun of the field, each function the name of what is learned of it.
+//! Each file is named for one noun of the field, each function for the conclusion.
 #![tactic(auto)]
 
 mod able;

@@ -1,4 +1,4 @@
-//! Lines of a log.
+//! Rows of a log.
 
 ghost use Rattle.std.specs.List.{flat_map};
 ghost use Rattle.std.specs.Prelude.{[], List, length, true, ℕ, ◌≡◌, ◌≤◌};
@@ -15,14 +15,14 @@ ghost use Rattle.siman_texts.specs.declared.spelling.Spelling.TheVariants.{Json,
 
 use siman_logs::{filters_take_away, json_says_the_same, log_keys_come_once};
 
-/// A filter adds no line to a log.
+/// A filter adds no row to a log.
 pub fn grows_by_no_filter()
     ensures { (r : PlainRecording) (filters : List Filter) → length (log_lines r filters) ≤ length (log_lines r []) }
 {
     filters_take_away();
 }
 
-/// A program that reads a log in JSON reads the lines that a person reads in its text.
+/// A log in JSON has exactly the rows of the log as text.
 pub fn is_read_by_programs()
     ensures { (r : PlainRecording) (filters : List Filter) → (lines : List Line)
         × (log_spelled Text r filters ≡ flat_map line_text lines) × (log_spelled Json r filters ≡ flat_map line_json lines) }
@@ -30,8 +30,8 @@ pub fn is_read_by_programs()
     json_says_the_same();
 }
 
-/// Whoever reads the records of a log in JSON into a table loses no field: no line of a datum, or of an
-/// identifier that is asked for, has a key twice.
+/// No row of a datum, or of an identifier in a Data Query, has a key twice, so that a table made of
+/// the JSON rows loses no field.
 pub fn names_each_datum_once()
     ensures fixed { (entry : ℕ) (datum : FixedDatum) → has_no_key_twice (fixed_logged entry datum) ≡ true }
     ensures variable { (entry : ℕ) (datum : Datum) → has_no_key_twice (variable_logged entry datum) ≡ true }

@@ -1,4 +1,4 @@
-//! Orders, and what becomes of them.
+//! Orders and their fates.
 
 ghost use Rattle.std.specs.List.{list_any};
 ghost use Rattle.std.specs.Prelude.{IfSome, None, Some, false, ℕ, ◌≡◌};
@@ -16,8 +16,8 @@ use exercise_review::{
     one_side_is_not_enough,
 };
 
-/// The fate of an order at a party. Where its maker was not recorded it is none of those that ask both
-/// logs: nobody can say that it was done, refused, answered or unheard.
+/// The fate of an order at a party. If its sender was not recorded, it is no fate that needs both
+/// logs: nobody can say that the order was done, refused, answered or unheard.
 pub fn fate_told<L: ExerciseLog>(
     findings: &Register<'_, L>,
     order: &Order<'_>,
@@ -29,8 +29,9 @@ pub fn fate_told<L: ExerciseLog>(
     fate_of(findings, order, party)
 }
 
-/// The entry at which a station changed something by an order. Where there is one the order was carried
-/// out there in every run that explains the recording, whether its maker heard of it or not.
+/// The entry in which a station changed something by an order. If there is such an entry, the order
+/// was carried out there in every run that explains the recording, whether its sender heard of it
+/// or not.
 pub fn change_carried_out<L: ExerciseLog>(
     findings: &Register<'_, L>,
     order: &Order<'_>,
@@ -42,8 +43,8 @@ pub fn change_carried_out<L: ExerciseLog>(
     change_of_order(findings, order, station)
 }
 
-/// The review tells no maker more than it could know: where nothing came to it after its order that
-/// answers and settles it, the review tells of no party that an answer was heard which settles.
+/// A review claims no more than the sender of an order could know: if the sender received no answer
+/// behind its order that settles it, the review shows for no party that such an answer was heard.
 pub fn is_known_to_its_maker(recording: &Recording)
     ensures { (h : History) (i s j : ℕ) (o : OrderData) → IsRecording recording.now → Explains recording.now h → order_at recording.now i ≡ Some o → o.maker ≡ Some s
         → list_any (settles_order o.request) (came_after recording.now s o.head) ≡ false → IsHeardSettled recording.now o j → ⊥ }

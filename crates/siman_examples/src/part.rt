@@ -1,4 +1,4 @@
-//! Recordings of some stations of an exercise alone.
+//! Recordings of only some stations of an exercise.
 
 ghost use Rattle.std.specs.Prelude.{ℕ};
 ghost use Rattle.exercise_model.specs.History.{History};
@@ -8,8 +8,8 @@ ghost use Rattle.exercise_model.specs.Run.{Explains};
 
 use exercise_model::{Recording, parts_are_explained};
 
-/// Who recorded some stations alone need not wait for the others: where no run explains their part,
-/// read as open, none explains the whole, whatever the others recorded.
+/// A part of a recording can be judged without the rest: if no run explains the part, read as open,
+/// then none explains the whole, whatever the other stations recorded.
 pub fn may_be_blamed_alone(part: &Recording)
     ensures { (whole : PlainRecording) (index : ℕ → ℕ) → IsRecording part.now → IsPartOf part.now whole index
         → ((g : History) → Explains (read_open part.now) g → ⊥) → (h : History) → Explains whole h → ⊥ }

@@ -1,4 +1,4 @@
-//! What a picture of an exercise shows.
+//! Content of the picture of an exercise.
 
 ghost use Rattle.std.specs.Prelude.{◌≡◌, ◌<◌, ◌≤◌, ◌-◌, ℕ, List, All, length, map, true};
 ghost use Rattle.exercise_chart.specs.Marks.{marks_of};
@@ -13,8 +13,8 @@ ghost use Rattle.exercise_model.specs.Recording.{IsRecording, PlainRecording};
 
 use exercise_chart::pictures_are_runs;
 
-/// Who goes down the picture of a good certificate goes through its steps: there is a row for each, in
-/// their order, and none besides.
+/// The picture of a good certificate has one row for each step in its range, in order, and no other
+/// row.
 pub fn has_a_row_for_each_step()
     ensures { (r : PlainRecording) (steps : List Step) (w : Rows) → IsGood r steps → w.end ≤ length steps
         → map row_fact (marks_of r steps w).rows ≡ values_below (step_fact steps w) (w.end - w.first) }
@@ -22,7 +22,7 @@ pub fn has_a_row_for_each_step()
     pictures_are_runs();
 }
 
-/// What a station received is drawn below what was sent: no arrow points upwards.
+/// Each receipt is drawn below its send: no arrow points upwards.
 pub fn points_no_arrow_upwards()
     ensures { (r : PlainRecording) (steps : List Step) (w : Rows) → IsRecording r → IsGood r steps
         → All (λ (a : Arrow). a.from.step < a.to.step) (marks_of r steps w).arrows }
@@ -30,7 +30,7 @@ pub fn points_no_arrow_upwards()
     pictures_are_runs();
 }
 
-/// The colour of a bar is the state that its entity has there: after each step that it covers.
+/// The colour of a bar is the state of its entity after each step that the bar covers.
 pub fn shows_each_state()
     ensures { (r : PlainRecording) (steps : List Step) (w : Rows) → IsRecording r → IsGood r steps
         → All (λ (b : Bar). (k : ℕ) → k < length steps → bar_covers b k ≡ true → state_at_step r steps b.station b.entity.entity k ≡ b.state) (marks_of r steps w).bars }

@@ -1,4 +1,4 @@
-//! Pieces of one exercise, each recorded somewhere else, that are brought together.
+//! Pieces of one exercise, recorded at different places and joined.
 
 ghost use Rattle.std.specs.Prelude.{Some, [], length, slice_get, ℕ, ◌<◌, ◌↔◌, ◌∷◌, ◌≡◌};
 ghost use Rattle.exercise_model.specs.History.{History};
@@ -16,7 +16,8 @@ use exercise_recording::{
     logs_are_kept, one_piece_is_converted, order_of_pieces_says_nothing, pieces_are_explained,
 };
 
-/// Nobody has to agree who hands in first: the same pieces in two orders are explained by the same runs.
+/// It does not matter which piece is joined first: the runs that explain one arrangement of the
+/// pieces are those that explain any other.
 pub fn come_in_any_order(pieces: &[Recording], again: &[Recording])
     ensures { (word : FormWord) (h : History) → ArePieces pieces.now → ArePieces again.now → AreSamePieces pieces.now again.now
         → Explains (joined word pieces.now) h ↔ Explains (joined word again.now) h }
@@ -24,8 +25,8 @@ pub fn come_in_any_order(pieces: &[Recording], again: &[Recording])
     order_of_pieces_says_nothing();
 }
 
-/// Nothing that was handed in is lost: there are as many entries as in all pieces together, and each
-/// station of a piece has exactly the entries there that the piece has of it.
+/// Joining loses no entry: the joined recording has as many entries as all pieces together
+/// (`count`), and each station has as many there as in its piece (`logs`).
 pub fn lose_no_entry(pieces: &[Recording])
     ensures count { (word : FormWord) → length (joined word pieces.now).entries ≡ entry_total pieces.now }
     ensures logs { (word : FormWord) (k s : ℕ) (r : PlainRecording) → let i = index_among (stations_of pieces.now) r.setting s in
@@ -35,8 +36,8 @@ pub fn lose_no_entry(pieces: &[Recording])
     logs_are_kept();
 }
 
-/// Who hands in alone loses nothing either: the piece, brought together with no other, is explained by
-/// the runs that explain it.
+/// Joining a single piece changes nothing: exactly the runs that explain the piece explain the
+/// result.
 pub fn may_be_one(piece: &Recording)
     ensures { (h : History) → IsRecording piece.now → piece.now.setting.form ≡ First → Explains piece.now h ↔ Explains (joined Unsaid (piece.now ∷ [])) h }
 {
@@ -44,8 +45,8 @@ pub fn may_be_one(piece: &Recording)
     conversion_keeps_runs();
 }
 
-/// Who hands in a contradiction is found at once: where no run explains a piece that is brought together
-/// with no other, as open, none explains what it gives with the others, whoever they are.
+/// A contradiction in one piece is final: if no run explains that piece, joined alone as open, then
+/// none explains it joined with any others.
 pub fn are_blamed_one_by_one(pieces: &[Recording])
     ensures { (word : FormWord) (k : ℕ) (r : PlainRecording) → ArePieces pieces.now → slice_get pieces.now k ≡ Some r → IsRecording r
         → ((g : History) → Explains (joined Open (r ∷ [])) g → ⊥) → (h : History) → Explains (joined word pieces.now) h → ⊥ }

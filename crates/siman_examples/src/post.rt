@@ -1,4 +1,4 @@
-//! One station at its post, after whatever lines of text.
+//! One station at its post, after any lines of text.
 
 ghost use Rattle.std.specs.Prelude.{◌≡◌, List, Option, Some, ℕ, length, true};
 ghost use Rattle.exercise_model.specs.Entry.{Entry};
@@ -14,7 +14,7 @@ ghost use Rattle.siman_posts.specs.Explained.{GoOn, HearsOwnSent, IsStarted};
 use siman_lines::what_is_kept_stands;
 use siman_posts::{own_recordings_are_explained, posts_keep_their_recordings};
 
-/// Whenever a post stops, in the middle of a line too, what it wrote so far is the beginning of a
+/// Whenever a post stops, even in the middle of a line, what it wrote so far is the beginning of a
 /// recording.
 pub fn leaves_what_can_be_mended<L: Drop>()
     ensures { (before : List ℕ) (start : Option (List ℕ)) (w : SettingData) (a : PostState L) (bs : List (PostState L)) (c : PostState L)
@@ -24,9 +24,9 @@ pub fn leaves_what_can_be_mended<L: Drop>()
     what_is_kept_stands();
 }
 
-/// What a post wrote whole in an open recording of its own is explained by itself, whoever else hands
-/// in: where nobody wrote in its name, and no site and application used one request identifier for two
-/// orders.
+/// The whole entries that a post wrote to an open recording of its own explain themselves, whoever
+/// else recorded, if nobody wrote in its name, and no site and application used one request
+/// identifier for two orders.
 pub fn is_judged_alone<L: Drop>()
     ensures { (before start : Option (List ℕ)) (w : SettingData) (a : PostState L) (bs : List (PostState L)) (c : PostState L)
         → is_open w.form ≡ true → length w.stations ≡ 1 → a.station.index ≡ 0 → IsStarted before start w a → GoOn a bs c

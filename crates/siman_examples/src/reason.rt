@@ -1,4 +1,4 @@
-//! Reasons: why a datagram is "other", and why a line of a script is refused.
+//! Reasons why a datagram is other, and why a line of a script is refused.
 
 ghost use Rattle.std.specs.Prelude.{[], List, None, ℕ, is_none, is_some, false, ◌≡◌};
 ghost use Rattle.std.specs.List.{All};
@@ -22,22 +22,21 @@ use siman_scripts::{
     a_text_has_a_reason_or_is_a_script, words_stand_at_their_columns,
 };
 
-/// Whoever asks why a datagram means nothing is given a reason.
+/// A datagram that means nothing always has a reason.
 pub fn is_always_given()
     ensures { (exercise : ℕ) (datagram : List ℕ) → is_some (meaning exercise datagram) ≡ false → is_none (why_other exercise datagram) ≡ false }
 {
     others_have_reasons();
 }
 
-/// A review whose first line has no line of a reason behind it is of a recording in which every datagram
-/// means something.
+/// If a review has no row with such a reason, every datagram of the recording means something.
 pub fn is_told_of_every_other()
     ensures { (r : PlainRecording) → others_told r ≡ [] → others_of r ≡ 0 }
 {
     others_are_counted();
 }
 
-/// A text of which no reason is told is a script.
+/// A text for which no reason is given is a script.
 pub fn is_none_of_a_script(text: &[u8])
     requires { reason_at text.now ≡ None }
     ensures { result_err (script_at text.now) ≡ None }
@@ -45,7 +44,7 @@ pub fn is_none_of_a_script(text: &[u8])
     a_text_has_a_reason_or_is_a_script(text);
 }
 
-/// Of each line of no form there is a reason, whatever stands before it.
+/// Each line that has no valid form has a reason, whatever lines are before it.
 pub fn is_given_for_each_line(line: &[u8])
     requires { statement_of line.now ≡ None }
     ensures { is_none (line_reason line.now) ≡ false }
@@ -53,7 +52,7 @@ pub fn is_given_for_each_line(line: &[u8])
     a_line_is_refused_for_a_reason(line);
 }
 
-/// And of each line typed for a station that asks it for nothing.
+/// Each line that is typed for a station and is no command has a reason.
 pub fn is_given_for_each_typed_line(line: &[u8])
     requires { command_of line.now ≡ None }
     ensures { is_none (command_reason line.now) ≡ false }
@@ -61,7 +60,7 @@ pub fn is_given_for_each_typed_line(line: &[u8])
     a_line_has_a_reason_or_is_an_order(line);
 }
 
-/// The word that a reason points at stands in its column.
+/// The word that a reason points at is in its column.
 pub fn points_at_its_word(line: &[u8])
     ensures { All (StandsAt line.now) (placed_words_of line.now) }
 {

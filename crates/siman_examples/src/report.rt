@@ -1,4 +1,4 @@
-//! Lines that are printed of a recording.
+//! Rows that are printed for a recording.
 
 ghost use Rattle.std.specs.List.{flat_map};
 ghost use Rattle.std.specs.Prelude.{Bool, IfOk, List, string_bytes, true, ℕ, ◌≡◌};
@@ -28,8 +28,8 @@ use siman_reviews::{
 use siman_texts::Spelling;
 use std::alloc::{AllocError, Global};
 
-/// A review in JSON: it has a line for each line of the text, of the same fields, so a program that reads
-/// it misses nothing.
+/// A review in JSON. It has a row for each row of the text, with equal fields, so that a program
+/// that reads it misses nothing.
 pub fn says_in_json_what_the_text_says<L: ExerciseLog>(
     alloc: Global,
     log: &L,
@@ -44,8 +44,8 @@ pub fn says_in_json_what_the_text_says<L: ExerciseLog>(
     review_text(alloc, Spelling::Json, log, explained, filters, review)
 }
 
-/// Whoever reads the lines in JSON into a table loses no field: no line of a PDU, of an entry, of a
-/// review or of what an entry contradicts has a key twice.
+/// No row of a PDU, of an entry, of a review or of a clash has a key twice, so that a table made of
+/// the JSON rows loses no field.
 pub fn names_each_field_once()
     ensures pdus { (pdu : Pdu) → has_no_key_twice (head_line pdu) ≡ true }
     ensures entries { (exercise index : ℕ) (entry : Entry) → has_no_key_twice (entry_line exercise index entry) ≡ true }
@@ -57,7 +57,7 @@ pub fn names_each_field_once()
     conflict_keys_come_once();
 }
 
-/// The lines of an archive under a filter are those of the recording that it was made from.
+/// With any filter the rows of a recording are those of its conversion.
 pub fn says_the_same_of_the_archive(recording: &Recording)
     ensures { recording.now.setting.form ≡ First → (filters : List Filter) → kept_lines (converted recording.now) filters ≡ kept_lines recording.now filters }
 {

@@ -1,4 +1,4 @@
-//! Scripts, and the recordings that they make.
+//! Scripts, and their recordings.
 
 ghost use Rattle.std.specs.Prelude.{List, None, ◌≡◌};
 ghost use Rattle.exercise_model.specs.History.{past};
@@ -9,8 +9,8 @@ ghost use Rattle.siman_worlds.specs.WorldLaw.{AreMovesInRange, IsWorldInRange};
 
 use siman_worlds::worlds_are_runs;
 
-/// Whatever a script says, its recording explains itself, and needs no certificate but the order of its
-/// own entries: where its moves can be made, they are a run that explains the recording.
+/// The recording of a script needs no certificate: if the moves can be made, the entries, in order
+/// of the file, are a run that explains it.
 pub fn explain_themselves()
     ensures { (w : WorldData) (moves : List Move) → IsWorldInRange w → AreMovesInRange moves → world_refusal w moves ≡ None
         → Explains (world_recording w moves) (past (world_recording w moves).entries) }

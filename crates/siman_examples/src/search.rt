@@ -7,10 +7,10 @@ ghost use Rattle.exercise_model.specs.Run.{Explains, IsStuck};
 
 use exercise_model::{Recording, allowed_stays_allowed, ends_are_one};
 
-/// A search may let any station go on that can: what one station may do next it may still do after
-/// another did something (`later`). So where some run explains the recording, whatever was tried until
-/// no station could go on is an explanation too (`found`), and where none does, the entries that are
-/// left, and the causes against them, are the same whatever was tried (`left`, `causes`).
+/// A search may choose any station that can go on: what one station may do next it may still do
+/// after another did something (`later`). So if some run explains the recording, every run that
+/// can't be extended does too (`found`); and if none does, the entries that are left (`left`) and
+/// the causes against them (`causes`) do not depend on the choices.
 pub fn no_luck_is_needed(recording: &Recording)
     ensures later { (h : History) (v u : Event) → (station_of u == station_of v) ≡ false → IsAllowed recording.now.setting h v
         → IsAllowed recording.now.setting (u ∷ h) v }

@@ -11,8 +11,8 @@ ghost use Rattle.siman_stations.specs.Deeds.{DeedsStand};
 
 use siman_stations::{Node, deeds_of_stations_stand, halves_follow_logs};
 
-/// A station that began, and took one request at once, cannot be blamed for its answer: nothing stands
-/// against what its log sends.
+/// A newly begun station that took one request at once can't be blamed for its answer: its log
+/// gives no cause against what it sends.
 pub fn answers_rightly(node: &Node)
     ensures { let a = node.now.application.outfit in let k = node.now.manager in (s : ℕ) (b : List ℕ) (q : Pdu) (stamp : ℕ)
         → k.orders ≡ [] → IsOutfitInRange a → k.settings.address ≡ a.station.address → IsRead b q → stamp < 2 ^ 32

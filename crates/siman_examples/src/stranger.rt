@@ -10,8 +10,8 @@ ghost use Rattle.siman_pdus.specs.declared.pdu.Pdu.{Pdu};
 
 use exercise_model::{ExerciseLog, Form, Recording, forms_decide_who_is_heard};
 
-/// Whether a station may hear strangers. Where it may, what comes from one is allowed whatever happened
-/// before; where it may not, that is the cause against it.
+/// Whether stations may hear strangers. If so, a datagram from a stranger is allowed after any
+/// history (`heard`); if not, the stranger is the cause against it (`stranger`).
 pub fn may_be_heard(recording: &Recording) -> bool
     ensures heard { result ≡ true → (h : History) (s : ℕ) (b : List ℕ) (p : Pdu) → meaning recording.now.setting.exercise b ≡ Some p
         → is_recorded recording.now.setting p ≡ false → IsAllowed recording.now.setting h (Get s b) }

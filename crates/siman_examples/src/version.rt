@@ -1,12 +1,11 @@
-//! The version of a PDU, and what it says of the status in a header.
+//! Versions of a PDU, and the status in its header.
 
 ghost use Rattle.std.specs.Prelude.{◌≡◌};
 ghost use Rattle.dis_records.specs.Header.{has_status};
 
 use dis_records::{Version, versions_are_known};
 
-/// Headers have a PDU status from version 7 on, so the number of a version tells whether its headers
-/// have one.
+/// Whether the headers of a version have a PDU status: they do from version 7 on.
 pub fn has_status(version: Version) -> bool
     ensures { result ≡ has_status version }
 {

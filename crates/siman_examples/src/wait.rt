@@ -16,8 +16,8 @@ use exercise_findings::Findings;
 use exercise_model::{ExerciseLog, Recording};
 use std::alloc::{AllocError, Global};
 
-/// What the stations of a blocked list wait for. Whoever follows them from any station comes to an end:
-/// to a station that waits on nobody, whose block says what is wrong, or to a ring that is told.
+/// The waits of the stations with blocked entries. Followed from any station they end at a station
+/// that waits for none, whose blocked entry says what is wrong, or in a cycle that is reported.
 pub fn lead_to_an_end<L: ExerciseLog>(
     alloc: Global,
     findings: &Findings<'_, L>,
@@ -31,8 +31,8 @@ pub fn lead_to_an_end<L: ExerciseLog>(
     waits_of(alloc, findings, blocks)
 }
 
-/// The ring of stations at a station. Where there is one no run explains the recording, which whoever
-/// reads the entries of the ring can see without a search.
+/// The cycle of stations that wait for one another, at a station. If there is one, no run explains
+/// the recording, as the entries of the cycle show without a search.
 pub fn block_in_a_ring(
     alloc: Global,
     recording: &Recording,
@@ -46,7 +46,8 @@ pub fn block_in_a_ring(
     cycle_at(alloc, waits, station)
 }
 
-/// What a station of a blocked list comes to: there is always something.
+/// Why a station with a blocked entry can't go on: it waits for another such station, or it
+/// contradicts something. There always is a reason, so the result is never `None`.
 pub fn comes_to_something<L: ExerciseLog>(
     findings: &Findings<'_, L>,
     blocks: &[Block],

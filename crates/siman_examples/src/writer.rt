@@ -12,8 +12,8 @@ use exercise_model::Station;
 use exercise_recording::{RecordingWriter, WriterFault, calls_write_the_text};
 use std::io::Write;
 
-/// A recording of one datagram, which the first station sends, is written by three calls: what stands in
-/// the file then is the text of that recording, and nothing else.
+/// Writes a recording of one datagram, which the first station sends, by three calls. They append
+/// exactly the text of that recording.
 pub fn record_one_datagram<W: Write + Drop>(
     file: W,
     exercise: u8,

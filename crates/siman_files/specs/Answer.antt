@@ -1,4 +1,4 @@
--- What the command `pdu` answers, and how it ends.
+-- The answer of the command `pdu`, and its ending.
 use Rattle.std.specs.Prelude.{◌≡◌, ℕ, codes, ◌≤◌, List, [], ◌∷◌, take, Option, Some, None, Result, Ok, Err}
 use Rattle.std.specs.Io.KnownBytes.{Appends, Keeps}
 use Rattle.dis_records.specs.Header.{header_at}
@@ -15,7 +15,7 @@ use Rattle.siman_texts.specs.Line.{Number, Phrase, Bare, Line, named_line}
 use Rattle.siman_texts.specs.Spelled.{line_text, lines_spelled}
 use Rattle.siman_reports.specs.Records.{pdu_lines}
 
--- a status, and the text that goes out before
+-- an exit status, and the text that is printed
 pub record Said : Type 0 where
   pub status : ℕ
   pub text : List ℕ
@@ -23,7 +23,7 @@ pub record Said : Type 0 where
 abbrev pub said_of_pdu : Pdu → Said
 said_of_pdu pdu = record { status = 0; text = lines_spelled Text (pdu_lines pdu) }
 
--- refused NUMBER NAME
+-- the line `refused NUMBER NAME`
 abbrev pub refusal_line : PduFault → Line
 refusal_line fault = named_line (codes "refused") (Bare (codes "number") (Number (refusal_number fault)) ∷ Bare (codes "fault") (Phrase (pdu_fault_text fault)) ∷ [])
 
@@ -45,11 +45,11 @@ abbrev pub said_of_bytes : Option (List ℕ) → Said
 said_of_bytes None = not_byte_pairs
 said_of_bytes (Some b) = answer_to b
 
--- what is answered to a word, hex text or not
+-- the answer for a word, hex text or not
 abbrev pub said_of_hex : List ℕ → Said
 said_of_hex text = said_of_bytes (bytes_of text)
 
--- An answer was written whole, or of its text a prefix, and none of it where memory ran out or there is none to give.
+-- An answer was written whole, or a prefix of it; nothing of it if memory ran out or the word is no hex text.
 abbrev pub IsSaid : Said → Result ℕ Fault → Option (List ℕ) → Option (List ℕ) → Type 0
 IsSaid said (Ok status) old new = (status ≡ said.status) × (status ≤ 1) × Appends old new said.text
 IsSaid said (Err NotBytePairs) old new = (said ≡ not_byte_pairs) × Keeps old new
@@ -57,6 +57,6 @@ IsSaid said (Err Output) old new = (n : ℕ) × Appends old new (take n said.tex
 IsSaid said (Err Memory) old new = Keeps old new
 IsSaid said (Err other) old new = ⊥
 
--- HOW `pdu` ENDS that had to say this: what it told is out, and it ends as that asks for
+-- HOW `pdu` ENDS with this answer: its text is on the output, and its status and fault are those of the answer
 abbrev pub EndsPdu : Said → (status : ℕ) → (old new : Option (List ℕ)) → (errors_old errors_new : Option (List ℕ)) → Type 0
 EndsPdu said status old new errors_old errors_new = (answered : Result ℕ Fault) × IsSaid said answered old new × EndsWith answered status errors_old errors_new

@@ -1,4 +1,4 @@
--- What `convert` does with a recording, and how it ends.
+-- What `convert` makes of a recording, and its ending.
 use Rattle.std.specs.Prelude.{◌≡◌, ◌⊎◌, ℕ, Bool, List, length, codes, Option, Result, Ok, Err, string_bytes}
 use Rattle.exercise_model.specs.Recording.{PlainRecording}
 use Rattle.exercise_model.specs.Conversion.{converted}
@@ -15,25 +15,25 @@ use Rattle.siman_answers.specs.Outside.{Has, Stream, Deed}
 use Rattle.siman_answers.specs.Making.{MakesFile, PutsBoth}
 use Rattle.siman_texts.specs.Spelled.{line_text}
 
--- converted records=N
+-- the line `converted records=N`
 abbrev pub converted_text : (entries : ℕ) → List ℕ
 converted_text entries = line_text (counted (codes "converted") (codes "records") entries)
 
--- NOTHING IS CARRIED OVER: the file has a bad field, a read failed, memory ran out, or it is a recording of the second format already
+-- NOTHING IS CONVERTED: the file has a bad field, a read failed, memory ran out, or it has the second format already
 abbrev pub IsUncarried : Recorded → Fault → Type 0
 IsUncarried recorded fault = IsUnsearched recorded fault ⊎ (IsAlready recorded × (fault ≡ Already))
 
--- the texts of a recording that is carried over: that of its conversion, and its line
+-- the texts of a converted recording: that of the conversion, and the line
 pub record CarriesTexts (r : PlainRecording) (text line : List ℕ) : Type 0 where
   pub text_is : text ≡ recording_text (converted r)
   pub line_is : line ≡ converted_text (length r.entries)
 
--- what is carried over, with its texts
+-- the conversion with its texts, or the fault
 abbrev pub Carries : Recorded → Result Carried Fault → Type 0
 Carries recorded (Ok carried) = (r : PlainRecording) × IsOld recorded r × CarriesTexts r carried.conversion.text (string_bytes carried.line)
 Carries recorded (Err fault) = IsUncarried recorded fault
 
--- WHAT COMES OF A FILE for `convert` that has these bytes, where they are known; and a file of the conversion is made: its text, whole, and then its line, with status 0
+-- THE RESULT OF A FILE for `convert` with these bytes, if they are known, and the file made of it: the text of the conversion, whole, and then the line, with status 0
 abbrev pub CarriesFile : (known : Option (List ℕ)) → Result Carried Fault → Type 0
 CarriesFile known carried = (bytes : List ℕ) × Has known bytes × Carries (recording_at LARGEST_OLD_RECORDING bytes) carried
 

@@ -1,4 +1,4 @@
--- What `join` does with pieces of a recording, and how it ends.
+-- What `join` makes of pieces of a recording, and its ending.
 use Rattle.std.specs.Prelude.{◌≡◌, ◌⊎◌, ℕ, Bool, List, [], ◌∷◌, ◌++◌, map, codes, false, Option, Some, None, Result, Ok, Err, Vec, string_bytes, if◌then◌else◌}
 use Rattle.std.specs.List.{flat_map}
 use Rattle.std.specs.declared.alloc.Global.{Global}
@@ -27,19 +27,19 @@ use Rattle.siman_answers.specs.Making.{Answered, MakesFile, PutsBoth}
 use Rattle.siman_answers.specs.Opening.{OpensApart, Spares, looks_into}
 use Rattle.siman_answers.specs.Outside.{Has, Stream, Deed, Opens, Compares, Reads}
 
--- the form that words ask for, if they ask for one
+-- the form that the words ask for, if they do
 abbrev pub word_of : Option JoinForm → FormWord
 word_of None = Unsaid
 word_of (Some asked.Open) = Open
 word_of (Some asked.Closed) = Closed
 
--- ---- what is told
+-- ---- lines and faults
 
 -- the name of a form of the second format
 abbrev pub form_word : Form → List ℕ
 form_word form = if is_open form then codes "open" else codes "closed"
 
--- joined pieces=N stations=N records=N form=FORM
+-- the line `joined pieces=N stations=N records=N form=FORM`
 abbrev pub joined_line : Joined → Line
 joined_line told =
     named_line (codes "joined") (Keyed (codes "pieces") (Number told.pieces) ∷ Keyed (codes "stations") (Number told.stations)
@@ -48,7 +48,7 @@ joined_line told =
 abbrev pub joined_text : Joined → List ℕ
 joined_text told = line_text (joined_line told)
 
--- HOW IT IS TOLD that pieces are not joined: of a piece that was not taken, its fault and its name as it was given
+-- THE FAULT for pieces that are not joined; that of a single piece has its name as it was given
 abbrev pub IsToldOf : JoinFault → (name : List ℕ) → Fault → Type 0
 IsToldOf (joins.Recording why) name fault = fault_text fault ≡ codes "recording: " ++ join_fault_text (joins.Recording why) ++ codes " in " ++ name
 IsToldOf joins.Exercise name fault = fault_text fault ≡ codes "join: exercise in " ++ name
@@ -61,16 +61,16 @@ IsToldOf joins.Memory name fault = fault ≡ Memory
 
 -- ---- opening
 
--- a piece that was opened: its name, and its bytes where they are known
+-- an opened piece: its name, and its bytes if they are known
 pub record Seen : Type 0 where
   pub name : List ℕ
   pub bytes : Option (List ℕ)
 
--- it as it is held
+-- an opened piece, as contracts see it
 abbrev pub seen_by : {F : Type 0} → (F → Option (List ℕ)) → OpenPiece F → Seen
 seen_by bytes piece = record { name = piece.name.now; bytes = bytes piece.file }
 
--- the pieces that were opened, or why one was not
+-- the opened pieces, or the fault of one that was not opened
 abbrev pub Opening : Type 0
 Opening = Result (List Seen) Fault
 
@@ -78,24 +78,24 @@ abbrev pub opened_by : {F : Type 0} → (F → Option (List ℕ)) → Result (Ve
 opened_by bytes (Ok pieces) = Ok (map (seen_by bytes) pieces.items)
 opened_by bytes (Err fault) = Err fault
 
--- each was opened, and is not the file to be made
+-- the calls for one piece, which is not the file to be made
 abbrev pub opening_deeds : (made : List ℕ) → Seen → List Deed
 opening_deeds made piece = Opens piece.name (Ok piece.bytes) ∷ Compares made false ∷ []
 
--- Why no further piece is opened: memory ran out, or one is not opened, or is the file to be made.
+-- No further piece is opened: memory ran out, or a piece could not be opened or is the file to be made.
 abbrev pub StopsAt : (left : List (List ℕ)) → (made : List ℕ) → List Deed → Fault → Type 0
 StopsAt left made deeds fault =
     ((deeds ≡ []) × (fault ≡ Memory))
     ⊎ ((name : List ℕ) × (more : List (List ℕ)) × (left ≡ name ∷ more) × OpensApart name made deeds (Err fault))
 
--- PIECES ARE OPENED in the order of the words, none of which is the file to be made; or some are, and then no other
+-- PIECES ARE OPENED in the order of the words, none of which is the file to be made; or some are, up to a fault
 abbrev pub OpensPieces : (names : List (List ℕ)) → (made : List ℕ) → List Deed → Opening → Type 0
 OpensPieces names made deeds (Ok pieces) = (names ≡ map (λ (piece : Seen). piece.name) pieces) × (deeds ≡ flat_map (opening_deeds made) pieces)
 OpensPieces names made deeds (Err fault) =
     (pieces : List Seen) × (left : List (List ℕ)) × (last : List Deed) × (names ≡ map (λ (piece : Seen). piece.name) pieces ++ left)
     × (deeds ≡ flat_map (opening_deeds made) pieces ++ last) × StopsAt left made last fault
 
--- and none stands under the name of that one, unless it is to be replaced
+-- PIECES ARE OPENED, and the name of the file to be made has no file to replace, or `force` is set
 abbrev pub OpensPiecesSpared : (names : List (List ℕ)) → (force : Bool) → (made : List ℕ) → List Deed → Opening → Type 0
 OpensPiecesSpared names force made deeds (Ok pieces) =
     (names ≡ map (λ (piece : Seen). piece.name) pieces) × (deeds ≡ flat_map (opening_deeds made) pieces ++ looks_into force made)
@@ -106,17 +106,17 @@ OpensPiecesSpared names force made deeds (Err fault) =
 
 -- ---- reading
 
--- a piece that was read is taken behind the others, or it is told why not
+-- A piece that was read is appended to the others, or its fault is returned.
 abbrev pub TellsTaken : Recorded → (name : List ℕ) → (old : JoiningData) → Result (Unit {0}) Fault → (new : JoiningData) → Type 0
 TellsTaken recorded name old (Ok u) new = Takes recorded (Ok u) old new
 TellsTaken recorded name old (Err fault) new = (why : JoinFault) × Takes recorded (Err why) old new × IsToldOf why name fault
 
--- WHAT READING A PIECE DOES
+-- HOW A PIECE IS READ and appended
 abbrev pub TakesPiece : Seen → (old : JoiningData) → List Deed → Result (Unit {0}) Fault → (new : JoiningData) → Type 0
 TakesPiece piece old deeds result new =
     (bytes : List ℕ) × Has piece.bytes bytes × (deeds ≡ Reads piece.bytes ∷ []) × TellsTaken (recording_at LARGEST_RECORDING bytes) piece.name old result new
 
--- what becomes of pieces behind those that were taken: each is read and taken, or the first that is not is told, and no other is read
+-- More pieces behind those appended: each is read and appended, up to the first fault, after which no other is read.
 abbrev pub ReadsBehind : JoiningData → List Seen → List Deed → Result JoiningData Fault → Type 0
 ReadsBehind j [] deeds result = (deeds ≡ []) × (result ≡ Ok j)
 ReadsBehind j (piece ∷ pieces) deeds result =
@@ -127,9 +127,9 @@ ReadsBehind j (piece ∷ pieces) deeds result =
 abbrev pub ReadsPieces : FormWord → List Seen → List Deed → Result JoiningData Fault → Type 0
 ReadsPieces word pieces deeds result = ReadsBehind (record { word = word; pieces = [] }) pieces deeds result
 
--- ---- what is made
+-- ---- the made file
 
--- WHAT PIECES GIVE that were taken, with the line that tells of it; or why they give nothing
+-- THE JOINED FILE OF PIECES, with its line, or the fault
 abbrev pub Gives : JoiningData → Result JoinedFile Fault → Type 0
 Gives j (Ok file) = Ends LARGEST_RECORDING j (Ok file.joint) × (string_bytes file.line ≡ joined_text file.joint.told)
 Gives j (Err fault) = (why : JoinFault) × Ends LARGEST_RECORDING j (Err why) × IsToldOf why [] fault
@@ -139,7 +139,7 @@ ReadsAndGives word pieces deeds result =
     ((fault : Fault) × ReadsPieces word pieces deeds (Err fault) × (result ≡ Err fault))
     ⊎ ((j : JoiningData) × ReadsPieces word pieces deeds (Ok j) × Gives j result)
 
--- WHAT `join` DOES: all pieces are opened before any is read, and the file is made when all are read: its text, whole, and then the line, with status 0
+-- WHAT `join` DOES: all pieces are opened before any is read, and the file is made after all are read: its text, whole, and then the line, with status 0
 abbrev pub JoinsPieces : (names : List (List ℕ)) → (force : Bool) → (made : List ℕ) → FormWord → List Deed → Answered → Stream → Type 0
 JoinsPieces names force made word deeds answered out =
     ((fault : Fault) × OpensPiecesSpared names force made deeds (Err fault) × (answered ≡ Err fault) × Keeps out.old out.new)

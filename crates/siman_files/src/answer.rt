@@ -1,4 +1,4 @@
-//! What `pdu` answers for a datagram.
+//! The answer of `pdu` for a datagram.
 
 ghost use Rattle.std.specs.Prelude.{◌≡◌, ℕ, ◌<◌, ◌≤◌, List, length, IfOk, string_bytes};
 ghost use Rattle.hex.specs.Hex.{IsBytes, encode_lower};
@@ -17,10 +17,10 @@ use std::marker::Model;
 /// The status of an answer that shows a PDU.
 const SHOWN: u8 = 0;
 
-/// The status of an answer that tells a refusal.
+/// The status of an answer that reports a refusal.
 const REFUSED: u8 = 1;
 
-/// What a command answers: the status to exit with, and the text that goes out before.
+/// The answer of a command: its exit status, and the text that is printed.
 #[derive(Drop)]
 pub struct Answer {
     status: u8,
@@ -36,7 +36,7 @@ impl Model for Answer {
     ghost view = { λ a. record { status = a.status; text = string_bytes a.text } };
 }
 
-/// The line of a refusal, with its number and what was found or where.
+/// The line of a refusal: its number, and its text with what was found or where.
 fn refusal_line(alloc: Global, fault: PduFault) -> Result<String, AllocError>
     ensures { IfOk result (λ line. string_bytes line ≡ line_text (refusal_line fault)) }
 {
@@ -49,8 +49,8 @@ fn refusal_line(alloc: Global, fault: PduFault) -> Result<String, AllocError>
 }
 
 impl Answer {
-    /// The answer for a datagram: the lines of the PDU that it spells with status 0, or else the line of its
-    /// refusal with status 1.
+    /// The answer for a datagram: the lines of the PDU that it spells, with status 0, or else the
+    /// line of its refusal, with status 1.
     pub fn to(alloc: Global, datagram: &[u8]) -> Result<Answer, AllocError>
         ensures { IfOk result (λ answer. answer ≡ answer_to datagram.now) }
     {
@@ -66,7 +66,7 @@ impl Answer {
         }
     }
 
-    /// 0 or 1.
+    /// The exit status, 0 or 1.
     pub fn status(&self) -> u8
         ensures { result ≡ self.now.status }
     {
@@ -80,8 +80,9 @@ impl Answer {
     }
 }
 
-/// Laws of the answers: a datagram that spells a PDU is shown as that PDU, and any other is refused;
-/// the hex text of a datagram is answered for as the datagram, as a word and as a line among others.
+/// Laws of the answers: a datagram that spells a PDU is shown as that PDU, and any other is
+/// refused; the answer for the hex text of a datagram is that for the datagram, both as a word and
+/// as a line among others.
 pub fn answers_follow_the_grammar()
     ensures spelled { (pdu : Pdu) (b : List ℕ) → Spells pdu b → answer_to b ≡ said_of_pdu pdu }
     ensures not_spelled { (b : List ℕ) → ((pdu : Pdu) → ¬ Spells pdu b) → (answer_to b).status ≡ 1 }

@@ -1,4 +1,4 @@
-//! The command `check`: a recording, judged by a certificate.
+//! The command `check`: judges a recording by a certificate.
 
 ghost use Rattle.std.specs.Prelude.{◌≡◌, ◌≤◌, ℕ, List, Ok};
 ghost use Rattle.std.specs.Io.KnownBytes.{Keeps};
@@ -19,14 +19,14 @@ use siman_reports::{no_line, report_text};
 use std::alloc::Global;
 use std::io::{Read, Write};
 
-/// Judges the recording that the first reader has by the certificate that the second one has, and
-/// writes what is to be said: true is a yes with the report of the recording, false a no with the
-/// line of its first bad step. The recording is read first, whole, then the certificate, whole; the
-/// answer is made whole before any of it is written.
+/// Judges a recording by a certificate and writes the answer: true is a yes, with the report of the
+/// recording, false a no, with the line of its first bad step. The recording is read first, whole,
+/// then the certificate, whole; the whole answer is made before any of it is written.
 ///
-/// A recording that is none, has more than 268,435,456 bytes or can't be read gives Recording, a
-/// certificate that is none, has more than 1,048,576 steps or can't be read Certificate, want of
-/// memory Memory, all with nothing out. After Write a prefix of the answer is out.
+/// `Recording`: the first file is no recording, has more than 268,435,456 bytes or cannot be read.
+/// `Certificate`: the second is no certificate, has more than 1,048,576 steps or cannot be read.
+/// `Memory`: memory ran out. All three write nothing. After `Write` a prefix of the answer is
+/// written.
 pub fn check_files<R: Read + Drop, C: Read + Drop, W: Write>(
     alloc: Global,
     recording: R,
@@ -40,7 +40,7 @@ pub fn check_files<R: Read + Drop, C: Read + Drop, W: Write>(
     check_noting(alloc, recording, certificate, out, &mut Notes::nothing())
 }
 
-/// As [`check_files`], and notes what there is to warn of.
+/// As [`check_files`], and notes warnings.
 fn check_noting<R: Read + Drop, C: Read + Drop, W: Write>(
     alloc: Global,
     recording: R,
@@ -56,7 +56,7 @@ fn check_noting<R: Read + Drop, C: Read + Drop, W: Write>(
     check_bytes(alloc, &bytes, certificate, out, notes)
 }
 
-/// As [`check_files`], of the recording whose file these bytes are.
+/// As [`check_files`], with the recording of a file's bytes.
 fn check_bytes<C: Read + Drop, W: Write>(
     alloc: Global,
     bytes: &[u8],
@@ -73,9 +73,9 @@ fn check_bytes<C: Read + Drop, W: Write>(
     judge(alloc, &log, certificate, out)
 }
 
-/// As [`check_files`], and tells a fault on `errors`: status 0 is a yes, 1 a no, 2 a fault with its
-/// line (`recording: NAME at N`, `recording: read`, `certificate: NAME at N`, `certificate: read`
-/// with nothing on `out`; `output: write` with a prefix of the answer there), 3 want of memory
+/// As [`check_files`], with an exit status and a fault's line on `errors`: 0 is a yes, 1 a no, 2 a
+/// fault (`recording: NAME at N`, `recording: read`, `certificate: NAME at N`, `certificate: read`
+/// with nothing on `out`; `output: write` with a prefix of the answer there), 3 lack of memory
 /// (`memory`) with nothing on `out`.
 pub fn check_command<R: Read + Drop, C: Read + Drop, W: Write, E: Write>(
     alloc: Global,
@@ -97,7 +97,7 @@ pub fn check_command<R: Read + Drop, C: Read + Drop, W: Write, E: Write>(
     .status
 }
 
-/// The command, which judges the recording of a file by the certificate of another.
+/// The command `check`, which judges the recording of one file by the certificate of another.
 pub struct CheckCommand;
 
 impl OfFiles for CheckCommand {
@@ -117,7 +117,8 @@ impl OfFiles for CheckCommand {
     }
 }
 
-/// Writes what is to be said of a log and a certificate, which is given back before the text is made.
+/// Judges a log by a certificate and writes the answer. The memory of the certificate is freed
+/// before the text is made.
 #[tactic(auto, using(siman_answers::proofs::Offered::not_good))]
 fn judge<L: ExerciseLog, W: Write>(
     alloc: Global,
@@ -148,7 +149,7 @@ fn judge<L: ExerciseLog, W: Write>(
     }
 }
 
-/// The status of what was judged: 0 is a yes, 1 a no.
+/// The exit status of a judgement: 0 for a yes, 1 for a no.
 fn status_of(judged: Result<bool, FilesFault>) -> Result<u8, Fault<'static>>
     ensures { result ≡ judged_status judged }
 {

@@ -1,4 +1,4 @@
-//! The command `convert`: a recording of the first format as one of the second.
+//! The command `convert`: converts a recording of the first format to the second.
 
 ghost use Rattle.std.specs.Prelude.{ℕ, List};
 ghost use Rattle.exercise_recording.specs.Reading.{recording_at};
@@ -12,18 +12,18 @@ use siman_reports::counted;
 use std::alloc::Global;
 use std::io::{Read, Write};
 
-/// The size in bytes of the largest recording that is carried over to the second format: the new one
-/// is a byte longer, so each that is made can be read.
+/// Size in bytes of the largest recording that is converted. The result is one byte longer, so each
+/// converted recording can be read.
 pub const LARGEST_OLD_RECORDING: u64 = 268_435_455;
 
-/// A recording that is to be written in the second format, and its line.
+/// A recording to be written in the second format, and the line of the answer.
 #[derive(Drop)]
 pub struct Carried {
     pub conversion: Conversion,
     pub line: String,
 }
 
-/// Reads the recording that a reader has, to be written in the second format.
+/// Reads a recording, to be written in the second format.
 fn carry<R: Read + Drop>(alloc: Global, old: R) -> Result<Carried, Fault<'static>>
     ensures { (bytes : List ℕ) × Has (R.remaining old) bytes × Carries (recording_at LARGEST_OLD_RECORDING bytes) result }
 {
@@ -56,7 +56,7 @@ impl Making for Carried {
     }
 }
 
-/// What comes of a recording: the file of its conversion.
+/// The file of a conversion, made from a recording.
 impl Product for Carried {
     ghost use Rattle.siman_files.specs.Convert.{CarriesFile, MakesConverted};
 

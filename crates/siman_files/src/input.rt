@@ -1,16 +1,16 @@
-//! The lines that a reader has, and how many of them were read.
+//! Reading and counting the lines of an input.
 
 ghost use Rattle.std.specs.Prelude.{◌<◌, ◌≡◌, ◌+◌, length, IfOk, OnErr};
 ghost use Rattle.siman_sessions.specs.Reading.{ReadsNext};
 
 use std::io::Read;
 
-/// A read of a line that failed. Only the functions here make one, so who has one has tried to read.
+/// Evidence of a failed read. Only the functions of this module make one.
 #[derive(Clone, Copy)]
 pub(crate) struct Unread(());
 
-/// Reads the next line of a reader, which a line feed ends that the last may lack, and answers how
-/// many bytes of it the buffer has: all, or as many as it holds. None is the end.
+/// Reads the next line, up to a line feed, which the last line may lack, and returns how many bytes
+/// of it are in `buffer`: all, or as many as fit. `None` is the end of the input.
 pub(crate) fn read_line<R: Read>(reader: &mut R, buffer: &mut [u8]) -> Result<Option<usize>, Unread>
     requires { 0 < length buffer.old }
     ensures { IfOk result (ReadsNext (R.remaining reader.old) (R.remaining reader.new) buffer.new) }
@@ -21,22 +21,22 @@ pub(crate) fn read_line<R: Read>(reader: &mut R, buffer: &mut [u8]) -> Result<Op
     }
 }
 
-/// How many lines were read of a reader so far.
+/// Number of the lines read so far.
 #[derive(Drop)]
 pub(crate) struct Count {
     so_far: usize,
 }
 
 impl Count {
-    /// None.
+    /// No lines yet.
     pub(crate) fn new() -> Count
         ensures { result.so_far ≡ 0 }
     {
         Count { so_far: 0 }
     }
 
-    /// One more, and how many these are. More than 2^64 − 1 no reader has: what would be the next is a
-    /// failed read.
+    /// Counts one more line and returns the new number. After 2^64 − 1 lines, more than any input
+    /// has, the next one is a failed read.
     pub(crate) fn one_more(&mut self) -> Result<usize, Unread>
         ensures counted { IfOk result (λ n. n ≡ self.old.so_far + 1) }
         ensures kept { IfOk result (λ n. self.new.so_far ≡ n) }

@@ -1,4 +1,4 @@
-//! The command `join`: pieces of a recording, brought together.
+//! The command `join`: puts pieces of a recording together.
 
 ghost use Rattle.std.specs.Prelude.{◌≡◌, ℕ, List, Option, IfOk, map, string_bytes};
 ghost use Rattle.std.specs.List.{All};
@@ -17,22 +17,22 @@ use std::alloc::{AllocError, Global};
 use std::convert::AsStr;
 use std::io::{Read, Write};
 
-/// A piece that was opened.
+/// An opened piece.
 #[derive(Drop)]
 pub(crate) struct OpenPiece<'a, F> {
-    /// How the words call it.
+    /// Name of the piece, as it was given.
     pub name: &'a str,
     pub file: F,
 }
 
-/// Pieces that were brought together, to be written, and the line that tells of them.
+/// The joined pieces, to be written, and the line of the answer.
 #[derive(Drop)]
 pub(crate) struct JoinedFile {
     pub joint: Joint,
     pub line: String,
 }
 
-/// The form that words ask for, if they ask for one.
+/// The form that the words ask for, if they do.
 pub fn word_of(form: Option<JoinForm>) -> FormWord
     ensures { result ≡ word_of form }
 {
@@ -43,7 +43,7 @@ pub fn word_of(form: Option<JoinForm>) -> FormWord
     }
 }
 
-/// How it is told that pieces are not joined: of a piece, by its name.
+/// The fault for pieces that are not joined; the fault of a single piece has its name.
 fn told_of(fault: JoinFault, name: &str) -> Fault<'_>
     ensures { IsToldOf fault name.now result }
 {
@@ -61,7 +61,7 @@ fn told_of(fault: JoinFault, name: &str) -> Fault<'_>
     }
 }
 
-/// The name of the form of a recording of the second format.
+/// Name of a form of the second format.
 fn form_word(form: Form) -> &'static str
     ensures { result.now ≡ form_word form }
 {
@@ -71,7 +71,7 @@ fn form_word(form: Form) -> &'static str
     }
 }
 
-/// The line that tells what was joined.
+/// The line of the answer: numbers of pieces, stations and records, and the form.
 fn joined_line(alloc: Global, told: Joined) -> Result<String, AllocError>
     ensures { IfOk result (λ line. string_bytes line ≡ joined_text told) }
 {
@@ -84,7 +84,7 @@ fn joined_line(alloc: Global, told: Joined) -> Result<String, AllocError>
     named_line(alloc, "joined", &fields)
 }
 
-/// Opens pieces in the order of their names. None of them may be the file that is to be made.
+/// Opens pieces in the order of their names. `SameAs` if one is the file to be made.
 fn open_pieces<'a, S: AsStr, O: Outside>(
     alloc: Global,
     names: &'a [S],
@@ -105,7 +105,8 @@ fn open_pieces<'a, S: AsStr, O: Outside>(
     Ok(pieces)
 }
 
-/// Opens pieces, where no file stands that the one to be made would replace, unless that is asked for.
+/// Opens pieces as [`open_pieces`] does; `Exists` if the name of the file to be made has a file to
+/// replace, unless `force` is set.
 fn open_spared<'a, S: AsStr, O: Outside>(
     alloc: Global,
     names: &'a [S],
@@ -120,7 +121,7 @@ fn open_spared<'a, S: AsStr, O: Outside>(
     Ok(pieces)
 }
 
-/// Reads a piece that was opened, and takes it behind the others.
+/// Reads an opened piece and appends it to the others.
 fn take_piece<'a, O: Outside>(
     alloc: Global,
     joining: &mut Joining,
@@ -136,7 +137,7 @@ fn take_piece<'a, O: Outside>(
     }
 }
 
-/// Reads pieces that were opened one after the other, and keeps them.
+/// Reads opened pieces one after the other and joins them.
 fn read_pieces<'a, O: Outside>(
     alloc: Global,
     word: FormWord,
@@ -154,7 +155,7 @@ fn read_pieces<'a, O: Outside>(
     Ok(joining)
 }
 
-/// What pieces give together, with its line.
+/// The joined file of all pieces, with the line of the answer.
 fn give(alloc: Global, joining: Joining) -> Result<JoinedFile, Fault<'static>>
     ensures { Gives joining result }
 {
@@ -166,7 +167,7 @@ fn give(alloc: Global, joining: Joining) -> Result<JoinedFile, Fault<'static>>
     Ok(JoinedFile { joint, line })
 }
 
-/// The file of what pieces give together.
+/// The file of the joined pieces.
 impl Making for JoinedFile {
     ghost use Rattle.std.specs.Prelude.{string_bytes};
     ghost use Rattle.siman_answers.specs.Making.{PutsBoth};
@@ -189,7 +190,7 @@ impl Making for JoinedFile {
     }
 }
 
-/// Reads the pieces that were opened, and brings them together.
+/// Reads the opened pieces and joins them.
 fn read_and_give<'a, O: Outside>(
     alloc: Global,
     word: FormWord,
@@ -202,8 +203,9 @@ fn read_and_give<'a, O: Outside>(
     give(alloc, joining)
 }
 
-/// Opens pieces in the order of their names, reads them one after the other, and makes a file of what
-/// they give together, in the form that is asked for, in the place of one that stands or not.
+/// Opens pieces in the order of their names, reads them one after the other, and makes a file of
+/// all of them, in the form that the word asks for; the file replaces an existing one (`force`) or
+/// not.
 pub fn join_pieces<'a, S: AsStr, O: Outside, W: Write>(
     alloc: Global,
     names: &'a [S],

@@ -1,11 +1,13 @@
-//! The commands over datagrams in hex text, `pdu` and `pdus`, and those over files of recordings that
-//! look into no history: `show`, `check`, `convert`, `mend` and `join`.
+//! The commands over datagrams in hex text, `pdu` and `pdus`, and those over files of recordings
+//! that show no history: `show`, `check`, `convert`, `mend` and `join`. Over readers and writers
+//! there are [`pdu_command`], [`pdus_command`], [`show_command`], [`check_command`] and
+//! [`check_files`]; [`Carried`], [`MendedFile`] and [`join_pieces`] make the files of `convert`,
+//! `mend` and `join` over a `siman_answers::Outside`.
 //!
-//! It opens no file itself and ends no process. Over readers and writers there are [`pdu_command`],
-//! [`pdus_command`], [`show_command`], [`check_command`] and [`check_files`]; [`Carried`],
-//! [`MendedFile`] and [`join_pieces`] are the files that `convert`, `mend` and `join` make, over what a
-//! program may do (`siman_answers::Outside`). The contracts give the status and the bytes on the writer
-//! of the answer (`EndsPdu`, `EndsLines`, `EndsShow`, `EndsCheck`, `Carries`, `Mends`, `JoinsPieces`).
+//! It opens no file itself and ends no process.
+//!
+//! The layer above may use its contracts on the status and the bytes of the answer: `EndsPdu`,
+//! `EndsLines`, `EndsShow`, `EndsCheck`, `Carries`, `Mends` and `JoinsPieces`.
 #![tactic(auto)]
 
 mod answer;

@@ -1,4 +1,4 @@
-//! The command `mend`: what of a torn recording stands whole, with an end.
+//! The command `mend`: the whole entries of a torn recording, with an end.
 
 ghost use Rattle.std.specs.Prelude.{◌≡◌, ℕ, List, IfOk, string_bytes};
 ghost use Rattle.exercise_recording.specs.Mending.{mended_at};
@@ -14,18 +14,18 @@ use siman_texts::{Field, Value, named_line};
 use std::alloc::{AllocError, Global};
 use std::io::{Read, Write};
 
-/// The size in bytes of the largest recording that is mended: the new one is at most five bytes
-/// longer, so each that is made can be read.
+/// Size in bytes of the largest recording that is mended. The result is at most five bytes longer,
+/// so each mended recording can be read.
 pub(crate) const LARGEST_TORN_RECORDING: u64 = 268_435_451;
 
-/// What of a recording stands whole, to be written with an end, and the line that tells of it.
+/// The whole part of a recording, to be written with an end, and the line of the answer.
 #[derive(Drop)]
 pub struct MendedFile {
     pub mending: Mending,
     pub line: String,
 }
 
-/// The line of a recording that was torn, with its fault.
+/// The line about a torn recording: its entries, the bytes that were taken over, and its fault.
 fn torn_line(alloc: Global, told: Mended, fault: FormatFault) -> Result<String, AllocError>
     ensures { IfOk result (λ line. string_bytes line ≡ line_text (torn_line told fault)) }
 {
@@ -38,7 +38,7 @@ fn torn_line(alloc: Global, told: Mended, fault: FormatFault) -> Result<String, 
     named_line(alloc, "mended", &fields)
 }
 
-/// The line that tells what was mended.
+/// The line of the answer, for a torn or a whole recording.
 fn mended_line(alloc: Global, told: Mended) -> Result<String, AllocError>
     ensures { IfOk result (λ line. string_bytes line ≡ mended_text told) }
 {
@@ -48,7 +48,7 @@ fn mended_line(alloc: Global, told: Mended) -> Result<String, AllocError>
     }
 }
 
-/// Reads the recording that a reader has, of which what stands whole is to be written.
+/// Reads a recording whose whole part is to be written.
 fn read_torn<R: Read + Drop>(alloc: Global, old: R) -> Result<MendedFile, Fault<'static>>
     ensures { (bytes : List ℕ) × Has (R.remaining old) bytes × Mends (mended_at LARGEST_TORN_RECORDING bytes) result }
 {
@@ -57,7 +57,7 @@ fn read_torn<R: Read + Drop>(alloc: Global, old: R) -> Result<MendedFile, Fault<
     Ok(MendedFile { mending, line })
 }
 
-/// The file of what stands whole.
+/// The file of the whole part of a recording.
 impl Making for MendedFile {
     ghost use Rattle.std.specs.Prelude.{string_bytes};
     ghost use Rattle.siman_answers.specs.Making.{PutsBoth};
@@ -80,7 +80,7 @@ impl Making for MendedFile {
     }
 }
 
-/// What comes of a recording: the file of what stands whole.
+/// The file of the whole part, made from a recording.
 impl Product for MendedFile {
     ghost use Rattle.siman_files.specs.Mend.{MendsFile, MakesMended};
 

@@ -1,4 +1,4 @@
-//! The command `pdu`: a datagram in hex text, shown.
+//! The command `pdu`: shows a datagram given as hex text.
 
 ghost use Rattle.std.specs.Prelude.{◌≡◌, ◌≤◌};
 ghost use Rattle.std.specs.Io.KnownBytes.{Keeps};
@@ -14,9 +14,9 @@ use std::io::Write;
 /// Shows the datagram that a word spells in hex: prints the PDU, one line for its head and one for
 /// each record, with status 0, or `refused NUMBER NAME` with status 1.
 ///
-/// Status 2 with a line on `errors` tells that the word is not pairs of hex digits (`hex: not byte
-/// pairs`), or that a write to `out` failed (`output: write`), after which a prefix of the text is
-/// out. Status 3 is want of memory (`memory`), and nothing is out.
+/// Status 2 with a line on `errors` reports a word that is not pairs of hex digits (`hex: not byte
+/// pairs`), or a failed write to `out` (`output: write`), after which a prefix of the text is
+/// written. Status 3 is lack of memory (`memory`), with nothing written.
 pub fn pdu_command<W: Write, E: Write>(alloc: Global, hex: &str, out: &mut W, errors: &mut E) -> u8
     ensures ends { EndsPdu (said_of_hex hex.now) result (W.contents out.old) (W.contents out.new) (E.contents errors.old) (E.contents errors.new) }
     ensures silent { result ≤ 1 → Keeps (E.contents errors.old) (E.contents errors.new) }
@@ -24,14 +24,14 @@ pub fn pdu_command<W: Write, E: Write>(alloc: Global, hex: &str, out: &mut W, er
     end(tell_word(alloc, hex, out), errors).status
 }
 
-/// Writes the answer for a word, and gives its status.
+/// Writes the answer for a word, and returns its status.
 pub fn tell_word<W: Write>(alloc: Global, hex: &str, out: &mut W) -> Result<u8, Fault<'static>>
     ensures { IsSaid (said_of_hex hex.now) result (W.contents out.old) (W.contents out.new) }
 {
     tell(alloc, hex.as_bytes(), out)
 }
 
-/// Writes the answer for hex text, and gives its status.
+/// Writes the answer for hex text, and returns its status.
 pub(crate) fn tell<W: Write>(alloc: Global, hex: &[u8], out: &mut W) -> Result<u8, Fault<'static>>
     ensures { IsSaid (said_of_hex hex.now) result (W.contents out.old) (W.contents out.new) }
 {

@@ -1,4 +1,4 @@
-//! The command `pdus`: datagrams in hex text, one a line, shown.
+//! The command `pdus`: shows datagrams given as hex text, one in each line.
 
 ghost use Rattle.std.specs.Prelude.{◌≡◌, ◌+◌, List, ℕ, None, length, IfOk};
 ghost use Rattle.std.specs.Io.Buffered.{reader_remaining};
@@ -18,14 +18,14 @@ use siman_answers::{Ended, Ending, Fault, conclude, end, tell as tell_fault};
 use std::alloc::{AllocError, Global};
 use std::io::{BufReader, Read, Write};
 
-/// Why the lines of an input were not all told.
+/// Why `pdus` stopped before the end of its input.
 #[derive(Clone, Copy)]
 pub(crate) enum Stop {
     /// Memory ran out, or an answer could not be written whole.
     Fault(Fault<'static>),
     /// A read failed.
     Unread(Unread),
-    /// The line that tells of a bad line could not be written whole.
+    /// The fault of a bad line could not be written whole.
     Untold(WriteFailed),
 }
 
@@ -45,16 +45,16 @@ impl From<Unread> for Stop {
     }
 }
 
-/// Shows the datagrams that a reader has in hex text, one a line, each in its turn as
-/// [`pdu_command`](crate::pdu_command) does; an empty line is passed over. A line that is not pairs
-/// of hex digits, or of more than 65,536 bytes, is told with its number, from 1, on `errors`
-/// (`hex: not byte pairs at line N`), and the rest goes on. A line ends with a line feed, which the
-/// last may lack; a carriage return is no hex digit.
+/// Shows the datagrams of an input in hex text, one in each line, each as
+/// [`pdu_command`](crate::pdu_command) does; empty lines are skipped. A line that is not pairs of
+/// hex digits, or has more than 65,536 bytes, is reported on `errors` with its number, from 1
+/// (`hex: not byte pairs at line N`), and the rest is still shown. A line ends with a line feed,
+/// which the last may lack; a carriage return is no hex digit.
 ///
-/// The status is the worst of the lines: 0, 1 where a datagram was refused, 2 where a line was bad.
-/// A failed read (`file: -`) or write (`output: write`) ends it with status 2, want of memory
-/// (`memory`) with status 3; what was told of the lines before stands. No more than 65,537 bytes of
-/// a line are held.
+/// The status is the worst of the lines: 0, 1 if a datagram was refused, 2 if a line was bad. A
+/// failed read (`file: -`) or write (`output: write`) ends the command with status 2, lack of
+/// memory (`memory`) with status 3; the output for the lines before is complete. At most 65,537
+/// bytes of a line are buffered.
 pub fn pdus_command<R: Read + Drop, W: Write, E: Write>(
     alloc: Global,
     input: R,
@@ -67,7 +67,7 @@ pub fn pdus_command<R: Read + Drop, W: Write, E: Write>(
     end_lines(alloc, input, out, errors).ended.status
 }
 
-/// As [`pdus_command`].
+/// As [`pdus_command`], but returns the whole ending.
 pub fn end_lines<R: Read + Drop, W: Write, E: Write>(
     alloc: Global,
     input: R,
@@ -82,7 +82,7 @@ pub fn end_lines<R: Read + Drop, W: Write, E: Write>(
     end_at(tell_input(alloc, input, out, errors), errors)
 }
 
-/// Ends the command that told all lines, or stopped.
+/// Ends the command, at the end of its input or where it stopped.
 fn end_at<E: Write>(answered: Result<u8, Stop>, errors: &mut E) -> Ending<'static>
     ensures ends { EndsAt answered result.ended (E.contents errors.old) (E.contents errors.new) }
     ensures begun { begun_by result ≡ None }
@@ -90,7 +90,7 @@ fn end_at<E: Write>(answered: Result<u8, Stop>, errors: &mut E) -> Ending<'stati
     match answered {
         Ok(status) => Ending {
             ended: end(Ok(status), errors),
-            // What is expected of lines is told once.
+            // The reason for bad lines is printed once.
             fault: (status == 2).then_some(Fault::NotBytePairs),
             begun: None,
             trouble: None,
@@ -111,7 +111,7 @@ fn end_at<E: Write>(answered: Result<u8, Stop>, errors: &mut E) -> Ending<'stati
     }
 }
 
-/// Tells the lines that a reader has, and gives the worst status.
+/// Shows all lines of an input, and returns the worst status.
 fn tell_input<R: Read + Drop, W: Write, E: Write>(
     alloc: Global,
     input: R,
@@ -127,7 +127,7 @@ fn tell_input<R: Read + Drop, W: Write, E: Write>(
     tell_lines(alloc, &mut reader, &mut line, out, errors)
 }
 
-/// A reader that reads ahead.
+/// A reader with a buffer of its own.
 fn buffered<R: Read + Drop>(alloc: Global, input: R) -> Result<BufReader<R>, AllocError>
     ensures { IfOk result (λ reader. reader_remaining R.remaining reader ≡ R.remaining input) }
 {
@@ -137,8 +137,7 @@ fn buffered<R: Read + Drop>(alloc: Global, input: R) -> Result<BufReader<R>, All
     }
 }
 
-/// Tells the lines that are left of a reader, each of which is held in a buffer while it is told,
-/// and gives the worst status.
+/// Shows the rest of the lines, each read into `buffer`, and returns the worst status.
 fn tell_lines<R: Read, W: Write, E: Write>(
     alloc: Global,
     reader: &mut R,
@@ -163,7 +162,7 @@ fn tell_lines<R: Read, W: Write, E: Write>(
     }
 }
 
-/// Tells a line, and gives its status.
+/// Shows a line, and returns its status: 0 for an empty one.
 fn tell_line<W: Write, E: Write>(
     alloc: Global,
     number: usize,
@@ -187,7 +186,7 @@ fn tell_line<W: Write, E: Write>(
     }
 }
 
-/// Tells that the line of a number is bad, and gives the status of that.
+/// Reports a bad line by its number, and returns its status, 2.
 fn tell_bad<E: Write>(number: usize, errors: &mut E) -> Result<u8, Stop>
     ensures { let errors : Stream = record { old = E.contents errors.old; new = E.contents errors.new } in
         TellsBad number result errors }

@@ -1,28 +1,28 @@
-//! Readers and writers whose calls are few bytes long, or fail.
+//! Readers and writers whose calls move few bytes, or fail.
 
 use std::alloc::Global;
 use std::io;
 use std::io::{ErrorKind, Read, Write};
 
-/// How the calls of a reader or a writer go.
+/// Limits and the failure of the calls of a reader or writer.
 #[derive(Clone, Copy)]
 pub struct Calls {
-    /// How many bytes a call takes at most.
+    /// Largest number of bytes that one call moves.
     pub most: usize,
-    /// The number of the call that fails, from 1; 0 where none does.
+    /// Number of the call that fails, from 1; 0 if none fails.
     pub fails_at: u64,
-    /// How it fails; where it does not say, it takes no byte.
+    /// Error of the failing call. `None`: that call moves no byte and succeeds.
     pub kind: Option<ErrorKind>,
 }
 
-/// All calls go well.
+/// Calls without a limit that never fail.
 pub const WELL: Calls = Calls {
     most: usize::MAX,
     fails_at: 0,
     kind: None,
 };
 
-/// Bytes that are read by such calls.
+/// Reader of bytes in memory, with limited calls.
 #[derive(Drop)]
 pub struct Given<'a> {
     left: &'a [u8],
@@ -30,7 +30,7 @@ pub struct Given<'a> {
     made: u64,
 }
 
-/// These bytes, read by such calls.
+/// Reader of these bytes, with limited calls.
 pub fn read_from(left: &[u8], calls: Calls) -> Given<'_> {
     Given {
         left,
@@ -56,7 +56,7 @@ impl Read for Given<'_> {
     }
 }
 
-/// What was written by such calls.
+/// Writer into memory, with limited calls.
 #[derive(Drop)]
 pub struct Written {
     pub bytes: Vec<u8>,
@@ -64,7 +64,7 @@ pub struct Written {
     made: u64,
 }
 
-/// A writer of such calls, to which nothing was written.
+/// Empty writer into memory, with limited calls.
 pub fn write_to(alloc: Global, calls: Calls) -> Written {
     Written {
         bytes: Vec::new(alloc),

@@ -1,4 +1,4 @@
-//! A case, as its lines fill it.
+//! A case, built line by line from its text.
 
 use crate::calls::{Calls, WELL};
 use crate::file::{File, Stream, empty};
@@ -7,59 +7,63 @@ use std::alloc::{AllocError, Global};
 use std::io::{ErrorKind, Write};
 use std::{io, mem};
 
-/// A call of a station at its line, or what is asked of it.
+/// A call of a station, or a question to it.
 #[derive(Clone, Copy)]
 pub struct Call {
     pub asked: Asked,
-    /// The time, or the number of what is asked for.
+    /// The time, or the number that the question is about.
     pub number: u64,
-    /// For how many turns it serves.
+    /// Number of turns that `serve` runs.
     pub turns: u64,
 }
 
-/// What the program is given, and what it must leave.
+/// One case: the input of the program, and the results expected of it.
 pub struct Case {
     alloc: Global,
     pub name: String,
-    /// The words behind the program's name, each as bytes of UTF-8.
+    /// The words behind the program's name, as UTF-8 bytes.
     pub words: Vec<Stream>,
     pub unread: Option<ErrorKind>,
     pub files: Vec<File>,
     pub input: Stream,
     pub out: Stream,
     pub errors: Stream,
-    /// The second line of the fault, where the case says it.
+    /// Expected second line of the fault, if `is_reason` is set.
     pub reason: Stream,
     pub is_reason: bool,
-    /// What must stand behind that line, where the case does not say the line itself.
+    /// Expected text behind the second line, in a case that does not give that line itself.
     pub behind: Stream,
     pub left: Stream,
-    /// Whether a file must be left.
+    /// Whether the program must make a file, with the bytes of `left`.
     pub is_left: bool,
-    /// Whether one must be discarded, with the bytes that would else be left.
+    /// Whether the program must make a file and discard it; `left` holds the bytes it must have
+    /// had.
     pub is_discarded: bool,
-    /// The name under which the file that is left stands for the cases behind, whatever it holds.
+    /// Name under which later cases find the file that this case makes, whatever it holds.
     pub keep: Option<String>,
-    /// Which files must be opened or made, a line each, where the case says it.
+    /// Names of the files that must be opened or made, in order, one a line, if `is_asked` is set.
     pub asked: Vec<u8>,
     pub is_asked: bool,
     pub status: u64,
     pub half_told: bool,
-    /// The index in the script of the station at a line over memory. `None`: the case is of the
-    /// program.
+    /// Index in the script of the station that runs over a link in memory. `None`: the case runs
+    /// the program.
     pub station: Option<u64>,
-    /// What comes on the line.
+    /// Datagrams that arrive on the link.
     pub coming: Vec<Stream>,
-    /// Before which of them, by their numbers from 0, a receive finds nothing, once for each.
+    /// Numbers of datagrams in `coming`, from 0: each occurrence of a number makes one receive
+    /// before that datagram find nothing.
     pub pauses: Vec<usize>,
-    /// The number of the line's call that fails, from 1.
+    /// Number of the call of the link that fails, from 1.
     pub fails_at: Option<u64>,
     pub calls: Vec<Call>,
-    /// What must be on the line: each datagram in hex digits, with a line end.
+    /// Expected datagrams on the link: each in hex digits, with a line end.
     pub sent: Stream,
-    /// How many calls of the line are to fail in turn.
+    /// The case runs again once for each of the first `each_call` calls of the link, with that call
+    /// failing.
     pub each_call: u64,
-    /// Whether each byte is to fail in turn that is written.
+    /// Whether the case runs again once for each byte of `left`, with the write of that byte
+    /// failing.
     pub each_byte: bool,
     part: Part,
 }
@@ -100,8 +104,7 @@ impl Drop for Case {
     }
 }
 
-/// A case of a name with these files, of which nothing else is said so far; before the first there
-/// is one without a name.
+/// An empty case with this name and these files. The case before the first has the empty name.
 pub fn begin_case(alloc: Global, name: String, files: Vec<File>) -> Case {
     Case {
         alloc,
@@ -135,7 +138,7 @@ pub fn begin_case(alloc: Global, name: String, files: Vec<File>) -> Case {
     }
 }
 
-/// Puts a text so many times, each with its end.
+/// Appends `text` and `end`, `times` times.
 fn put_times(out: &mut Vec<u8>, times: u64, text: &str, end: &str) -> Result<(), AllocError> {
     for _ in 0..times {
         out.extend_from_slice(text.as_bytes())?;
@@ -144,8 +147,8 @@ fn put_times(out: &mut Vec<u8>, times: u64, text: &str, end: &str) -> Result<(),
     Ok(())
 }
 
-/// Puts the text of a line and a line end for each of its numbers, which stands in the place of each
-/// `%`.
+/// Appends the text of `line` and a line end for each number from its first to its last, with the
+/// number in place of each `%`.
 fn put_each(out: &mut Vec<u8>, line: Line<'_>) -> io::Result<()> {
     for number in line.first..=line.last {
         for byte in line.text.as_bytes() {
@@ -160,7 +163,8 @@ fn put_each(out: &mut Vec<u8>, line: Line<'_>) -> io::Result<()> {
     Ok(())
 }
 
-/// Puts bytes that stand as pairs of hex digits, with spaces between some; whether they stand so.
+/// Appends the bytes that `text` spells: pairs of hex digits, optionally with spaces between pairs.
+/// Returns false if it spells no such bytes.
 fn put_hex(out: &mut Vec<u8>, text: &str) -> io::Result<bool> {
     let (mut high, mut is_half) = (0u32, false);
     for letter in text.chars() {
@@ -175,7 +179,7 @@ fn put_hex(out: &mut Vec<u8>, text: &str) -> io::Result<bool> {
     Ok(!is_half)
 }
 
-/// How many bytes a call takes, which fails, and how.
+/// The limits and the failure that a `calls` line sets; `None` if it names no kind of failure.
 fn calls_of(line: Line<'_>) -> Option<Calls> {
     let kind = match line.text {
         "other" => Some(ErrorKind::Other),
@@ -191,7 +195,7 @@ fn calls_of(line: Line<'_>) -> Option<Calls> {
 }
 
 impl Case {
-    /// The next case, with the files of this one.
+    /// Begins the next case, which inherits the files of this one.
     fn next(&mut self, name: &str) -> Result<(), AllocError> {
         let name = String::from_str(self.alloc, name)?;
         let files = mem::replace(&mut self.files, Vec::new(self.alloc));
@@ -199,7 +203,7 @@ impl Case {
         Ok(())
     }
 
-    /// What the lines behind it fill.
+    /// The bytes that the following lines fill.
     fn filled(&mut self) -> Option<&mut Stream> {
         match self.part {
             Part::Word => self.words.last_mut(),
@@ -218,9 +222,9 @@ impl Case {
         }
     }
 
-    /// Takes what a line says of what is filled; false where it can't stand here.
+    /// Takes a line that fills bytes. Returns false if the line is invalid here.
     fn fill(&mut self, line: Line<'_>) -> io::Result<bool> {
-        // Words and what goes over a line are no files: no call of theirs fails so.
+        // Words and datagrams are no streams that calls read or write: `calls` is invalid for them.
         if matches!(line.says, Says::Calls)
             && matches!(self.part, Part::Word | Part::Coming | Part::Sent)
         {
@@ -273,7 +277,7 @@ impl Case {
         Ok(self.calls.push(call)?)
     }
 
-    /// Adds the file that was left, if it is to be kept.
+    /// Adds the file that the program made to the files of later cases, if the case names it.
     pub fn keep_left(&mut self, left: Option<Vec<u8>>) -> Result<(), AllocError> {
         if let (Some(name), Some(bytes)) = (self.keep.take(), left) {
             let stream = Stream { bytes, calls: WELL };
@@ -299,7 +303,7 @@ impl Case {
         Ok(())
     }
 
-    /// Takes what a line says in one value.
+    /// Takes a line that sets one value.
     fn set(&mut self, line: Line<'_>) {
         match line.says {
             Says::Unread(kind) => self.unread = Some(kind),
@@ -314,7 +318,7 @@ impl Case {
         }
     }
 
-    /// Takes what a line adds to the case, or the next case.
+    /// Takes a line that adds an item to the case, or begins the next case.
     fn enter(&mut self, line: Line<'_>) -> Result<(), AllocError> {
         match line.says {
             Says::Case => self.next(line.text),
@@ -333,7 +337,7 @@ impl Case {
         }
     }
 
-    /// Takes a line; false where it can't be read, or can't stand here.
+    /// Takes a line. Returns false if it can't be read, or is invalid here.
     pub fn take(&mut self, line: &str) -> io::Result<bool> {
         if line.is_empty() || line.starts_with('#') {
             return Ok(true);

@@ -1,17 +1,17 @@
-//! Bytes, and files that stand under a name.
+//! Bytes, and named files.
 
 use crate::calls::{Calls, WELL};
 use std::alloc::Global;
 use std::io::ErrorKind;
 
-/// Bytes that are given or must be left, and how the calls go that read or write them.
+/// Bytes of an input or an expected output, with the limits of the calls that read or write them.
 #[derive(Drop)]
 pub struct Stream {
     pub bytes: Vec<u8>,
     pub calls: Calls,
 }
 
-/// No bytes, whose calls go well.
+/// No bytes, with unlimited calls.
 pub(crate) fn empty(alloc: Global) -> Stream {
     Stream {
         bytes: Vec::new(alloc),
@@ -19,16 +19,16 @@ pub(crate) fn empty(alloc: Global) -> Stream {
     }
 }
 
-/// A file that stands under a name.
+/// A named file.
 #[derive(Drop)]
 pub struct File {
     pub name: String,
     pub stream: Stream,
-    /// Why it can't be opened or made.
+    /// The error of opening or making it. `None`: both succeed.
     pub shut: Option<ErrorKind>,
 }
 
-/// The last file of a name.
+/// The last file with this name.
 pub fn found<'a>(files: &'a [File], name: &[u8]) -> Option<&'a File> {
     let mut last = None;
     for file in files {

@@ -2,19 +2,19 @@
 
 use std::alloc::{AllocError, Global};
 
-/// The number that stands for all entities.
+/// The entity number that means all entities.
 pub const ALL: u8 = 0xFF;
 
-/// What a PDU says; all numbers are below 256.
+/// The content of a PDU; each number is one byte.
 #[derive(Clone, Copy)]
 pub struct Letter {
-    /// The PDU type: 11 to 14 and 16 for a request, 15 and 17 for an answer, 22 for a Comment, and
-    /// 99 for what is no PDU of the protocol.
+    /// PDU type: 11 to 14 and 16 for a request, 15 and 17 for an answer, 22 for a Comment, and 99
+    /// for a datagram that is no PDU of the protocol.
     pub kind: u8,
-    /// The sites that it comes from and goes to, station 0 being site 1.
+    /// Originating and receiving station; station 0 is site 1.
     pub from: usize,
     pub to: usize,
-    /// The entity that it comes from and goes to; [`ALL`] is 0xFFFF.
+    /// Originating and receiving entity; [`ALL`] is written as 0xFFFF.
     pub origin: u8,
     pub target: u8,
     pub request: u8,
@@ -23,7 +23,7 @@ pub struct Letter {
     pub stamp: u8,
 }
 
-/// The bytes of a site, of its application 1, and of an entity of theirs.
+/// The six bytes of an entity identifier: site, application 1, entity.
 fn id(station: usize, entity: u8) -> [u8; 6] {
     let site = (station % 200) as u8;
     let high = if entity == ALL { 0xFF } else { 0 };
@@ -31,7 +31,7 @@ fn id(station: usize, entity: u8) -> [u8; 6] {
 }
 
 impl Letter {
-    /// Its length, and the place of the last byte of its request identifier.
+    /// Length of the PDU, and offset of the last byte of its request identifier.
     fn sizes(&self) -> (u8, usize) {
         match self.kind {
             11 | 12 => (28, 27),
@@ -42,7 +42,7 @@ impl Letter {
         }
     }
 
-    /// The datagram.
+    /// The bytes of the PDU.
     pub fn datagram(&self, alloc: Global) -> Result<Vec<u8>, AllocError> {
         let (length, place) = self.sizes();
         let mut bytes = [0; 44];

@@ -1,8 +1,7 @@
-//! What the programs that try siman share, and what stands below all that they try: cases as lines of
-//! text say them, readers and writers that fail, and scenes that are made up.
-//!
-//! It calls nothing of siman but addresses and clocks, so it is proved beside the crates that it helps
-//! to try.
+//! Fixtures of the programs that test siman: cases read from lines of text, readers and writers
+//! that fail, and random scenes of stations. It never calls a crate of siman except `dis_records`,
+//! so it is proved beside the crates that it helps to test. Its functions have no contracts: the
+//! layers above rely on what they do when they run.
 #![tactic(auto)]
 
 mod calls;

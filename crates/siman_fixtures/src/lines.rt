@@ -2,7 +2,7 @@
 
 use std::io::ErrorKind;
 
-/// What the lines behind it fill.
+/// The part of a case that the following lines fill.
 #[derive(Clone, Copy)]
 pub(crate) enum Part {
     Word,
@@ -18,26 +18,26 @@ pub(crate) enum Part {
     Sent,
 }
 
-/// What a case has its station do, or asks of it.
+/// A call of a station, or a question to it.
 #[derive(Clone, Copy)]
 pub enum Asked {
-    /// It serves its line, at a time, for so many turns.
+    /// Serves the link at a time, for a number of turns.
     Serve,
-    /// It issues the next order of the script, at a time.
+    /// Issues the next order of the script at a time.
     Issue,
-    /// It sends the repeat that is due at a time.
+    /// Sends the repeat that is due at a time.
     Nudge,
-    /// How the order of a request identifier stands.
+    /// Asks for the status of the order with a request identifier.
     Order,
-    /// How an entity stands.
+    /// Asks for the state of an entity.
     Entity,
-    /// Which value the fixed datum of an identifier has.
+    /// Asks for the value of the fixed datum with an identifier.
     Datum,
-    /// How many orders are given up.
+    /// Asks how many orders are given up.
     GivenUp,
 }
 
-/// What the word of a line says.
+/// Meaning of the first word of a line.
 #[derive(Clone, Copy)]
 pub(crate) enum Says {
     Case,
@@ -64,8 +64,8 @@ pub(crate) enum Says {
     EachByteFails,
 }
 
-/// A line: what its word says, the first and the last of the numbers behind the word, and the text
-/// behind those.
+/// A parsed line: the meaning of its word, the first and the last number behind the word, and the
+/// text behind the numbers.
 #[derive(Clone, Copy)]
 pub(crate) struct Line<'a> {
     pub(crate) says: Says,
@@ -74,7 +74,7 @@ pub(crate) struct Line<'a> {
     pub(crate) text: &'a str,
 }
 
-/// Each word, how many numbers stand behind it, and whether a text may stand behind those.
+/// Each word with its meaning, the count of its numbers, and whether a text may follow them.
 static WORDS: [(&str, Says, usize, bool); 42] = [
     ("case", Says::Case, 0, true),
     ("words", Says::Words, 0, true),
@@ -135,7 +135,7 @@ static WORDS: [(&str, Says, usize, bool); 42] = [
     ("each-byte-fails", Says::EachByteFails, 0, false),
 ];
 
-/// What stands before the first space, and behind it.
+/// Splits a text at its first space; without a space the second part is empty.
 fn split(text: &str) -> (&str, &str) {
     match text.split_once(' ') {
         Some(parts) => parts,
@@ -143,7 +143,7 @@ fn split(text: &str) -> (&str, &str) {
     }
 }
 
-/// The largest number that may stand last behind a word.
+/// Largest value of the last number behind a word.
 fn largest(says: Says) -> u64 {
     match says {
         Says::Status => 255,
@@ -155,7 +155,8 @@ fn largest(says: Says) -> u64 {
     }
 }
 
-/// The line of a word, with so many numbers before its text.
+/// The line of a word, with `numbers` numbers before its text. `None` if a number is missing or too
+/// large, or if there is a text where none is allowed.
 fn with_numbers<'a>(says: Says, numbers: usize, has_text: bool, text: &'a str) -> Option<Line<'a>> {
     let (mut first, mut last, mut text) = (0, 0, text);
     for place in 0..numbers {
@@ -180,7 +181,7 @@ fn with_numbers<'a>(says: Says, numbers: usize, has_text: bool, text: &'a str) -
     })
 }
 
-/// What a line says, if it says anything.
+/// The parsed line; `None` if its word is unknown or what follows it is invalid.
 pub(crate) fn read_line(line: &str) -> Option<Line<'_>> {
     let (word, text) = split(line);
     for (known, says, numbers, has_text) in &WORDS {

@@ -1,13 +1,13 @@
-//! Numbers that seem to follow no rule, the same in each run: a linear congruence.
+//! Pseudo-random numbers that repeat from run to run: a linear congruential generator.
 
-/// Where the row of numbers stands.
+/// State of the generator.
 #[derive(Clone, Copy)]
 pub struct Random {
     pub state: u64,
 }
 
 impl Random {
-    /// The next number below `end`; 0 where there is none.
+    /// The next number below `end`; 0 if `end` is 0.
     pub fn below(&mut self, end: usize) -> usize {
         let state = self.state;
         self.state = state
@@ -22,7 +22,7 @@ impl Random {
         (self.below(256) % 256) as u8
     }
 
-    /// Whether a die of so many sides shows its first.
+    /// Whether a die with this many sides shows its first.
     pub fn one_in(&mut self, sides: usize) -> bool {
         self.below(sides) == 0
     }

@@ -1,15 +1,15 @@
-//! What a few stations do, made up by the row of a die: orders, answers, states and comments, and
-//! in wild scenes what may not happen too.
+//! Random scenes: what a few stations do, in orders, answers, states and comments. Wild scenes also
+//! contain events that can't happen.
 
 use crate::letter::{ALL, Letter};
 use crate::random::Random;
 use dis_records::EntityState;
 use std::alloc::Global;
 
-/// The largest number of an entity.
+/// Largest entity number.
 pub const ENTITIES: u8 = 4;
 
-/// What a station does.
+/// One event of a scene, at the station with this index.
 #[derive(Clone, Copy)]
 pub enum Deed {
     Sends(usize, Letter),
@@ -17,37 +17,37 @@ pub enum Deed {
     Tells(usize, u8, EntityState),
 }
 
-/// The station of a deed.
+/// The station of an event.
 pub fn station_of(deed: Deed) -> usize {
     match deed {
         Deed::Sends(station, _) | Deed::Gets(station, _) | Deed::Tells(station, _, _) => station,
     }
 }
 
-/// What was done so far, and how it stands.
+/// A scene: its events so far, and the state that they led to.
 #[derive(Drop)]
 pub struct Scene {
     pub random: Random,
     pub stations: usize,
     is_wild: bool,
-    /// Whether some of what was done found no memory.
+    /// Whether an allocation failed, so that part of the scene is missing.
     pub is_short: bool,
     pub deeds: Vec<Deed>,
     sent: Vec<Letter>,
     got: Vec<Letter>,
-    /// The state of each entity from 0 of each station.
+    /// The state of entities 0 to 7 of each station; [`place_of`] is the index.
     pub states: [EntityState; 32],
     request: u8,
 }
 
-/// The place of the state of an entity.
+/// Index into `states` of an entity.
 pub fn place_of(station: usize, entity: u8) -> usize {
     station
         .saturating_mul(8)
         .saturating_add(usize::from(entity))
 }
 
-/// What a request of a kind makes of a state.
+/// State of an entity after a request of this PDU type.
 fn made(kind: u8, before: EntityState) -> EntityState {
     match (kind, before) {
         (11, _) => EntityState::Stopped,
@@ -58,13 +58,13 @@ fn made(kind: u8, before: EntityState) -> EntityState {
     }
 }
 
-/// One of the last few letters, if there is one.
+/// One of the last four letters, if there are any.
 fn recent(random: &mut Random, letters: &[Letter]) -> Option<Letter> {
     let back = random.below(letters.len().min(4)).saturating_add(1);
     letters.get(letters.len().saturating_sub(back)).copied()
 }
 
-/// A scene before its first deed, of 2 to 4 stations.
+/// An empty scene with 2 to 4 stations, wild or not at random.
 pub fn begin(alloc: Global, mut random: Random) -> Scene {
     let stations = random.below(3).saturating_add(2);
     let is_wild = random.one_in(2);
@@ -91,14 +91,14 @@ pub fn begin(alloc: Global, mut random: Random) -> Scene {
 }
 
 impl Scene {
-    /// Adds a deed.
+    /// Appends an event.
     fn add(&mut self, deed: Deed) {
         if self.deeds.push(deed).is_err() {
             self.is_short = true;
         }
     }
 
-    /// Takes what a station sends.
+    /// Records that a station sends a letter.
     fn send(&mut self, station: usize, letter: Letter) {
         if self.sent.push(letter).is_err() {
             self.is_short = true;
@@ -106,7 +106,8 @@ impl Scene {
         self.add(Deed::Sends(station, letter));
     }
 
-    /// Takes what its station receives, if it goes to one.
+    /// Records that the addressed station receives a letter. If there is no such station, a station
+    /// sends an order instead.
     fn get(&mut self, letter: Letter) {
         if letter.to >= self.stations {
             return self.ask();
@@ -117,7 +118,7 @@ impl Scene {
         self.add(Deed::Gets(letter.to, letter));
     }
 
-    /// A letter of a kind from one station to another, under a new number.
+    /// A letter of this PDU type between two different stations, with the next request number.
     fn letter(&mut self, kind: u8) -> Letter {
         let from = self.random.below(self.stations);
         let way = self.random.below(self.stations.saturating_sub(1));
@@ -135,7 +136,7 @@ impl Scene {
         }
     }
 
-    /// A number of an entity.
+    /// A random entity number, from 1.
     fn entity(&mut self) -> u8 {
         match self.random.below(usize::from(ENTITIES)) {
             0 => 1,
@@ -145,7 +146,7 @@ impl Scene {
         }
     }
 
-    /// A station orders something.
+    /// A station sends an order.
     fn ask(&mut self) {
         let kind = match self.random.below(8) {
             0..=2 => 11,
@@ -165,7 +166,8 @@ impl Scene {
         self.send(letter.from, letter)
     }
 
-    /// What was sent comes to its station, or is sent once more.
+    /// A recently sent letter is received, or sent once more; before the first letter an order is
+    /// sent.
     fn bring(&mut self, is_received: bool) {
         match recent(&mut self.random, &self.sent) {
             Some(letter) if is_received => self.get(letter),
@@ -182,7 +184,7 @@ impl Scene {
         }
     }
 
-    /// Whether an order can be carried out.
+    /// Whether a station can carry out an order.
     fn is_able(&self, order: &Letter) -> bool {
         let is_create = order.kind == 11;
         if order.target == ALL {
@@ -202,7 +204,7 @@ impl Scene {
         }
     }
 
-    /// The answer to an order, able to comply or not.
+    /// The answer to an order, able to comply or unable.
     fn answer_to(&self, order: &Letter, able: bool) -> Letter {
         Letter {
             kind: if order.kind == 16 { 17 } else { 15 },
@@ -217,7 +219,7 @@ impl Scene {
         }
     }
 
-    /// The answer that was sent to an order.
+    /// The answer to an order that was already sent.
     fn sent_answer(&self, order: &Letter) -> Option<Letter> {
         for letter in &self.sent {
             let is_answer = matches!(letter.kind, 15 | 17) && letter.from == order.to;
@@ -228,7 +230,8 @@ impl Scene {
         None
     }
 
-    /// A station answers an order that it received.
+    /// A station answers an order that it received; an order that it already answered gets a copy
+    /// of that answer.
     fn answer(&mut self) {
         let Some(order) = recent(&mut self.random, &self.got) else {
             return self.bring(true);
@@ -243,7 +246,7 @@ impl Scene {
         self.send(order.to, self.answer_to(&order, able))
     }
 
-    /// A station tells a state, or one by chance.
+    /// A station tells the state of one of its entities, or a random state.
     fn tell(&mut self, is_true: bool) {
         let station = self.random.below(self.stations);
         let entity = self.entity();
@@ -259,7 +262,7 @@ impl Scene {
         self.add(Deed::Tells(station, entity, state));
     }
 
-    /// An answer that is spoilt in one way.
+    /// A station sends an answer in which one field may be wrong.
     fn answer_badly(&mut self) {
         let Some(order) = recent(&mut self.random, &self.got) else {
             return self.bring(true);
@@ -275,7 +278,7 @@ impl Scene {
         self.send(letter.from, letter)
     }
 
-    /// A letter goes astray in one way.
+    /// A recent letter is received with a changed field, or sent again by any station.
     fn go_astray(&mut self) {
         let Some(mut letter) = recent(&mut self.random, &self.sent) else {
             return self.ask();
@@ -292,7 +295,7 @@ impl Scene {
         self.get(letter)
     }
 
-    /// Something happens.
+    /// Adds the next random event.
     pub fn go_on(&mut self) {
         match self.random.below(24) {
             0..=4 => self.ask(),
@@ -312,8 +315,8 @@ impl Scene {
         }
     }
 
-    /// Two deeds that stand beside each other change places: of different stations, or in wild
-    /// scenes now and then of one.
+    /// Swaps two neighbouring events at random, if they belong to different stations; in wild
+    /// scenes now and then also two of one station.
     pub fn swap(&mut self) {
         let place = self.random.below(self.deeds.len());
         let next = place.saturating_add(1);

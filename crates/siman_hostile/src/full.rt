@@ -1,4 +1,5 @@
-//! A recording with as many entries as there can be, and the texts of faults that no command tells.
+//! A recording with as many entries as there can be, and the texts of faults that no command
+//! prints.
 
 use dis_records::EntityState;
 use exercise_check::CertificateFault;
@@ -12,7 +13,7 @@ use std::alloc::{AllocError, Global};
 use std::io;
 use std::io::Write;
 
-/// Entity 7 is told to be absent.
+/// An entry that tells that entity 7 is absent.
 fn told_entry() -> LogEntry {
     LogEntry::Told {
         station: 0,
@@ -28,7 +29,8 @@ fn stations(alloc: Global) -> io::Result<Vec<Station>> {
     Ok(stations)
 }
 
-/// What a recording answers to one entry more than there can be, where those that it has are kept.
+/// The fault of a full recording when one more entry is pushed; `None` unless that leaves exactly
+/// [`MOST_ENTRIES`] entries.
 fn pushed(log: &mut Recording) -> Option<LogFault> {
     for _ in 0..=MOST_ENTRIES {
         if let Err(fault) = log.push(told_entry()) {
@@ -38,8 +40,8 @@ fn pushed(log: &mut Recording) -> Option<LogFault> {
     None
 }
 
-/// What a writer of recordings answers to one entry more than there can be, where it has its end
-/// behind the others.
+/// The fault of a full writer when one more state is told; `None` unless that is the first fault
+/// and the writer can then finish.
 fn told(stations: &[Station], out: &mut Vec<u8>) -> Option<WriterFault> {
     let Ok(mut writer) = RecordingWriter::start(out, 1, stations) else {
         return None;
@@ -58,19 +60,19 @@ fn told(stations: &[Station], out: &mut Vec<u8>) -> Option<WriterFault> {
     }
 }
 
-/// What is read of a file: how many entries, or its fault.
+/// Number of entries that [`read_recording`] reads from a file, or its fault.
 fn read(alloc: Global, file: &[u8]) -> Result<usize, RecordingFault> {
     let log = read_recording(alloc, file, u64::MAX)?;
     Ok(log.entry_count())
 }
 
-/// The same of a file that is seen in place.
+/// Number of entries in a [`RecordingView`] of a file, or its fault.
 fn see(alloc: Global, file: &[u8]) -> Result<usize, RecordingFault> {
     let log = RecordingView::over(alloc, file)?;
     Ok(log.entry_count())
 }
 
-/// Prints how many entries a file has as it is read or seen, or its fault.
+/// Prints a number of entries, or a fault.
 fn put_count<W: Write>(
     how: &str,
     count: Result<usize, RecordingFault>,
@@ -82,21 +84,21 @@ fn put_count<W: Write>(
     }
 }
 
-/// Prints what is read of a file, and seen of it in place.
+/// Prints the number of entries of a file, as it is read and as it is viewed in place.
 fn put_counts<W: Write>(alloc: Global, file: &[u8], out: &mut W) -> io::Result<()> {
     put_count("read", read(alloc, file), out)?;
     put_count("seen", see(alloc, file), out)
 }
 
-/// Puts one entry more before the end of the file, and the end behind it.
+/// Adds an entry to a complete file: replaces its end by the entry and a new end.
 fn add_entry(file: &mut Vec<u8>) -> Result<(), AllocError> {
     let end = file.len().saturating_sub(5);
     file.truncate(end);
     file.extend_from_slice(&[3, 0, 0, 0, 7, 0, 0, 0, 16, 0, 1])
 }
 
-/// Fills a file by a writer, and prints what is answered to one entry more, and what is read of it, as
-/// it is and with one entry more.
+/// Fills a file by a writer, and prints the fault of one more entry, and the number of entries that
+/// are read from the file, as it is and with one more entry.
 fn put_file<W: Write>(
     alloc: Global,
     stations: &[Station],
@@ -115,7 +117,7 @@ fn put_file<W: Write>(
     put_counts(alloc, file, out)
 }
 
-/// Prints what a full recording answers to one entry more.
+/// Prints the fault of pushing one more entry to a full recording.
 fn put_pushed<W: Write>(alloc: Global, out: &mut W) -> io::Result<()> {
     let Ok(mut log) = Recording::start(alloc, 1, stations(alloc)?) else {
         return Err(unmade());
@@ -126,8 +128,8 @@ fn put_pushed<W: Write>(alloc: Global, out: &mut W) -> io::Result<()> {
     }
 }
 
-/// Fills a recording, and prints what is answered to one entry more, and the texts of what
-/// `check_files` refuses with.
+/// Prints how a full recording and a full file answer to one more entry, and the texts of the
+/// faults of `check_files`.
 pub(crate) fn put_full<W: Write>(alloc: Global, out: &mut W) -> io::Result<()> {
     put_pushed(alloc, out)?;
     put_file(alloc, &stations(alloc)?, &mut Vec::new(alloc), out)?;

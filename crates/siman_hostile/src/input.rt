@@ -1,4 +1,4 @@
-//! Bytes that are put one behind the other.
+//! Bytes of an input, appended piece by piece.
 
 use siman_fixtures::Random;
 use std::alloc::Global;
@@ -6,16 +6,16 @@ use std::io::Write;
 
 const BITS: [u8; 8] = [1, 2, 4, 8, 16, 32, 64, 128];
 
-/// The bytes of an input, or of what an exercise tells, and the die by which an input is made up.
+/// The bytes of an input or of an output, and the die that chooses an input.
 #[derive(Drop)]
 pub(crate) struct Input {
     pub(crate) random: Random,
     pub(crate) bytes: Vec<u8>,
-    /// Whether some bytes found no memory.
+    /// Whether an allocation failed, so that bytes are missing.
     pub(crate) is_short: bool,
 }
 
-/// An input without bytes so far.
+/// An empty input.
 pub(crate) fn begin_input(alloc: Global, random: Random) -> Input {
     Input {
         random,
@@ -25,14 +25,14 @@ pub(crate) fn begin_input(alloc: Global, random: Random) -> Input {
 }
 
 impl Input {
-    /// Puts bytes.
+    /// Appends bytes.
     pub(crate) fn put(&mut self, bytes: &[u8]) {
         if self.bytes.extend_from_slice(bytes).is_err() {
             self.is_short = true;
         }
     }
 
-    /// Puts so many bytes that are made up.
+    /// Appends this many random bytes.
     pub(crate) fn put_some(&mut self, count: usize) {
         for _ in 0..count {
             let byte = self.random.byte();
@@ -40,7 +40,7 @@ impl Input {
         }
     }
 
-    /// Puts lines, with numbers in the place of each `F`, `T` and `E`: from whom, to whom, of what.
+    /// Appends lines, with numbers in place of each `F` (from), `T` (to) and `E` (entity).
     pub(crate) fn put_lines(&mut self, form: &str, from: usize, to: usize, entity: usize) {
         for byte in form.as_bytes() {
             let number = match *byte {
@@ -58,14 +58,15 @@ impl Input {
         }
     }
 
-    /// Puts a byte at a place.
+    /// Inserts a byte at a place, if the input is that long.
     fn insert(&mut self, place: usize, byte: u8) {
         if place <= self.bytes.len() && self.bytes.insert(place, byte).is_err() {
             self.is_short = true;
         }
     }
 
-    /// Changes a byte, or a bit of it.
+    /// Changes the byte at a place: to 0 (`way` 4), to 255 (5), to `byte` (6), or else one bit of
+    /// it.
     fn change(&mut self, way: usize, place: usize, byte: u8) {
         let bit = if matches!(way, 4..=6) {
             0
@@ -82,7 +83,8 @@ impl Input {
         }
     }
 
-    /// Spoils it in so many ways: cut, longer, a byte less or more, a byte or a bit of it changed.
+    /// Spoils the input `ways` times: cuts it, appends, removes or inserts a byte, or changes a
+    /// byte or one bit.
     pub(crate) fn spoil(&mut self, ways: usize) {
         for _ in 0..ways {
             let place = self.random.below(self.bytes.len());

@@ -1,5 +1,5 @@
-//! Inputs that are made up and spoilt: datagrams, recordings with certificates, scripts and command
-//! lines. Of each answer it is asked what the pages say of every answer.
+//! Random inputs, spoilt: datagrams, recordings with certificates, scripts and command lines. Each
+//! answer is checked against what the pages say of every answer.
 
 mod command_lines;
 mod datagrams;
@@ -17,34 +17,34 @@ use std::alloc::Global;
 use std::io;
 use std::io::Write;
 
-/// How an input was answered.
+/// Result of an input.
 #[derive(Drop)]
 pub(crate) struct Answer {
     pub(crate) status: u8,
-    /// Whether all holds that is asked of it.
+    /// Whether the answer passed every check.
     pub(crate) good: bool,
 }
 
-/// No answer to an input that could not be tried.
+/// Result of an input that could not be tried.
 const UNTRIED: Answer = Answer {
     status: 3,
     good: false,
 };
 
-/// The kinds of inputs, in the order of their counts.
+/// Kinds of inputs, in the order of their counts.
 const KINDS: [&str; 4] = ["datagrams", "recordings", "scripts", "command lines"];
 
-/// How often each kind ended with each status, from 0 to 3, and how many were answered otherwise.
+/// For each kind the number of runs with each status, 0 to 3, and the number of wrong answers.
 #[derive(Drop)]
 pub(crate) struct Ends {
     counts: [[u32; 4]; 4],
     pub(crate) otherwise: u32,
 }
 
-/// The kinds by the throw of a die: every second input is a datagram.
+/// Kinds by the throw of a die: half of all inputs are datagrams.
 const THROWS: [usize; 8] = [0, 0, 0, 0, 1, 2, 3, 3];
 
-/// Makes up an input of a kind and tries it.
+/// Chooses a random input of a kind and tries it.
 fn try_kind(alloc: Global, kind: usize, input: &mut Input) -> Answer {
     match kind {
         0 => try_datagram(alloc, input),
@@ -54,7 +54,7 @@ fn try_kind(alloc: Global, kind: usize, input: &mut Input) -> Answer {
     }
 }
 
-/// Prints an input that is answered otherwise.
+/// Prints an input with a wrong answer.
 fn put_otherwise<W: Write>(
     alloc: Global,
     number: u64,
@@ -71,7 +71,7 @@ fn put_otherwise<W: Write>(
 }
 
 impl Ends {
-    /// Counts an end; whether it is one that is known.
+    /// Counts a run; whether its status is one of 0 to 3.
     fn count(&mut self, kind: usize, status: u8) -> bool {
         let counts = &mut self.counts[kind % 4];
         match counts.get_mut(usize::from(status)) {
@@ -83,7 +83,7 @@ impl Ends {
         }
     }
 
-    /// Tries the input of a number, and prints it where it is answered otherwise.
+    /// Tries the input with this number, and prints it if its answer is wrong.
     fn try_input<W: Write>(&mut self, alloc: Global, number: u64, out: &mut W) -> io::Result<()> {
         let mut random = Random {
             state: number.wrapping_mul(0x9E37_79B9_7F4A_7C15),
@@ -110,7 +110,7 @@ impl Ends {
     }
 }
 
-/// Tries so many inputs from a number on, and prints those that are answered otherwise.
+/// Tries `count` inputs, numbered from `first` on, and prints those with a wrong answer.
 pub(crate) fn try_inputs<W: Write>(
     alloc: Global,
     count: u64,

@@ -1,5 +1,5 @@
-//! A long exercise, and machines that are called often: about 100,000 of each, so that nothing gives
-//! up under load.
+//! A long exercise, and machines with many calls: about 100,000 of each, so that nothing fails
+//! under load.
 
 mod exercise;
 
@@ -9,7 +9,7 @@ use std::alloc::Global;
 use std::io;
 use std::io::Write;
 
-/// Makes the long exercise, calls a manager, an application and a station, and prints how it went.
+/// Makes the long exercise, calls a manager, an application and a station, and prints the results.
 pub(crate) fn put_load<W: Write>(alloc: Global, out: &mut W) -> io::Result<()> {
     put_exercise(alloc, out)?;
     put_halves(alloc, out)?;

@@ -1,12 +1,15 @@
-//! Tries `siman` under hostile use: inputs that are made up and spoilt, calls to which memory may be
-//! refused, and what is full or long. It prints what came, and what is otherwise.
+//! Tries `siman` under hostile use: random inputs, spoilt; calls with allocations refused; and full
+//! or long data. It prints how the runs ended, and each wrong answer. It never opens a file or a
+//! socket itself, since every run gets its files and links from memory. Nothing is built on it: it
+//! has no contract to use.
 //!
-//! | Word | What is tried |
+//! | Word | What it tries |
 //! |---|---|
-//! | `inputs:COUNT`, `inputs:COUNT:FIRST` | so many datagrams, recordings with certificates, scripts and command lines that are made up and spoilt, from a number on |
-//! | `calls` | the calls that take memory, with what each says |
+//! | `inputs:COUNT` | `COUNT` random datagrams, recordings, scripts and command lines |
+//! | `inputs:COUNT:FIRST` | as many inputs, numbered from `FIRST` on instead of 0 |
+//! | `calls` | the calls that take memory, with the outcome of each |
 //! | `full` | a recording with as many entries as there can be |
-//! | `load` | a long exercise, and as many orders and requests |
+//! | `load` | a long exercise, and many calls of a manager, application and station |
 #![tactic(auto)]
 
 mod full;
@@ -25,7 +28,7 @@ use std::io::{ErrorKind, Write};
 use std::process::ExitCode;
 use std::{env, io};
 
-/// Tries inputs that are made up and spoilt, and prints how they ended.
+/// Tries random inputs, spoilt, and prints how they ended. Whether all answers were right.
 fn try_spoilt(rt: &HostRuntime, alloc: Global, count: u64, first: u64) -> io::Result<bool> {
     let mut out = rt.stdout();
     let ends = try_inputs(alloc, count, first, &mut out)?;
@@ -37,8 +40,7 @@ fn try_spoilt(rt: &HostRuntime, alloc: Global, count: u64, first: u64) -> io::Re
     Ok(ends.otherwise == 0)
 }
 
-/// How many inputs a word asks for, and the number of the first: `inputs:COUNT` or
-/// `inputs:COUNT:FIRST`.
+/// Number of inputs and number of the first, from a word `inputs:COUNT` or `inputs:COUNT:FIRST`.
 fn read_inputs(word: &str) -> Option<(u64, u64)> {
     let numbers = word.strip_prefix("inputs:")?;
     match numbers.split_once(':') {
@@ -47,7 +49,7 @@ fn read_inputs(word: &str) -> Option<(u64, u64)> {
     }
 }
 
-/// Tries what a word of the command line names.
+/// Tries what a word of the command line names. Returns false if an input had a wrong answer.
 fn try_word(rt: &HostRuntime, alloc: Global, word: &str) -> io::Result<bool> {
     if let Some((count, first)) = read_inputs(word) {
         return try_spoilt(rt, alloc, count, first);
@@ -61,7 +63,7 @@ fn try_word(rt: &HostRuntime, alloc: Global, word: &str) -> io::Result<bool> {
     Ok(true)
 }
 
-/// Tries what the words of the command line name.
+/// Tries what each word of the command line names. Returns false if an input had a wrong answer.
 fn try_words(rt: &HostRuntime, alloc: Global) -> io::Result<bool> {
     let mut good = true;
     for word in env::args(rt)?.skip(1) {

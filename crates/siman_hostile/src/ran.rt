@@ -1,4 +1,5 @@
-//! Runs of the program on words, files in memory and standard input, where every call goes well.
+//! Runs of the program with words, files in memory and standard input, in which every call of the
+//! system succeeds.
 
 use siman_console::{Endpoint, Known, Outside, run};
 use siman_fixtures::{Given, WELL, Written, read_from, write_to};
@@ -7,23 +8,23 @@ use std::alloc::Global;
 use std::io;
 use std::io::ErrorKind;
 
-/// Names of files, and what each holds.
+/// Names of files, with their contents.
 pub(crate) type Files<'a> = &'a [(&'a str, &'a [u8])];
 
-/// Files, and what the file that was made was left with.
+/// Files in memory, and the contents of the file that was made.
 #[derive(Drop)]
 struct Table<'a> {
     alloc: Global,
     files: Files<'a>,
     left: Option<Vec<u8>>,
-    /// Whether the file that is being made takes the place of one that is not empty.
+    /// Whether the file that is being made replaces one with bytes in it.
     replaces: bool,
-    /// Whether such a file was saved or created.
+    /// Whether a saved file replaced one with bytes in it, or a created file replaced any.
     replaced: bool,
 }
 
 impl<'a> Table<'a> {
-    /// What the file of a name holds, if there is one.
+    /// The contents of a file.
     fn held(&self, name: &str) -> Option<&'a [u8]> {
         for (known, bytes) in self.files {
             if *known == name {
@@ -33,7 +34,7 @@ impl<'a> Table<'a> {
         None
     }
 
-    /// Whether a file that is not empty stands under a name.
+    /// Whether there is a file with this name and with bytes in it.
     fn fills(&self, name: &str) -> bool {
         match self.held(name) {
             Some(bytes) => !bytes.is_empty(),
@@ -119,17 +120,17 @@ impl<'a> Outside for Table<'a> {
     }
 }
 
-/// What a run left.
+/// Results of a run.
 #[derive(Drop)]
 pub(crate) struct Ran {
     pub(crate) status: u8,
     pub(crate) out: Vec<u8>,
     pub(crate) errors: Vec<u8>,
-    /// What was told behind the first line of a fault.
+    /// The text on standard error behind the first line of a fault.
     pub(crate) reasons: Vec<u8>,
-    /// What the file that was made holds, if one was made.
+    /// Contents of the file that the run made, if it made one.
     pub(crate) left: Option<Vec<u8>>,
-    /// Whether that took the place of one that was not empty.
+    /// Whether a saved file replaced one with bytes in it, or a created file replaced any.
     pub(crate) replaced: bool,
 }
 
@@ -143,7 +144,7 @@ fn command_line(alloc: Global, words: &[&str]) -> io::Result<Vec<String>> {
     Ok(line)
 }
 
-/// Runs the program on words, with these files and this on standard input.
+/// Runs the program on words, with these files and this standard input.
 pub(crate) fn run_words(alloc: Global, words: &[&str], files: Files<'_>, input: &[u8]) -> Ran {
     let mut table = Table {
         alloc,
@@ -180,37 +181,38 @@ pub(crate) fn run_words(alloc: Global, words: &[&str], files: Files<'_>, input: 
     }
 }
 
-/// What `audit` says of a recording; the file that it makes is the certificate.
+/// Runs `audit` on a recording; the file that it makes is the certificate.
 pub(crate) fn searched(alloc: Global, recording: &[u8]) -> Ran {
     run_words(alloc, &["audit", "rec", "cert"], &[("rec", recording)], &[])
 }
 
-/// What `check` says of a recording and a certificate.
+/// Runs `check` on a recording and a certificate.
 pub(crate) fn checked(alloc: Global, recording: &[u8], certificate: &[u8]) -> Ran {
     let files = [("rec", recording), ("cert", certificate)];
     run_words(alloc, &["check", "rec", "cert"], &files, &[])
 }
 
 impl Ran {
-    /// Whether it ended with an answer, 0 or 1, and told no fault, but perhaps a warning.
+    /// Whether the run ended with status 0 or 1 and without a fault, but perhaps with a warning.
     pub(crate) fn is_answer(&self) -> bool {
         let warns = self.reasons.is_empty() || self.reasons.starts_with(b"warning: ");
         self.status <= 1 && self.errors.is_empty() && warns
     }
 
-    /// Whether behind the first line of a fault one line stands that begins with two blanks.
+    /// Whether exactly one line follows the first line of a fault, and begins with two blanks.
     pub(crate) fn is_explained(&self) -> bool {
         let end = self.reasons.iter().position(|byte| *byte == b'\n');
         self.reasons.starts_with(b"  ") && end == self.reasons.len().checked_sub(1)
     }
 
-    /// Whether it ended with a fault that is told, with nothing out and no file made.
+    /// Whether the run ended with a fault, with no output and no file.
     pub(crate) fn is_fault(&self) -> bool {
         let told = !self.errors.is_empty() && (self.is_explained() || self.reasons.is_empty());
         self.status == 2 && self.out.is_empty() && told && self.left.is_none()
     }
 
-    /// Whether it played a station to the end of its recording, and told the lines that were not done.
+    /// Whether the run played a station to the end of its recording, and reported the lines that
+    /// failed.
     pub(crate) fn is_played(&self) -> bool {
         let told = match self.status {
             0 => self.errors.is_empty(),
@@ -220,12 +222,13 @@ impl Ran {
         told && self.left.is_some() && self.out.ends_with(b" strangers=0\n")
     }
 
-    /// Whether it made moves up to one that cannot be made, which it told, and left their recording.
+    /// Whether the run made moves up to one that can't be made, reported that one, and left the
+    /// recording of those before.
     pub(crate) fn is_lived(&self) -> bool {
         self.status == 2 && self.errors.starts_with(b"world: ") && self.left.is_some()
     }
 
-    /// Whether it ended with this status, as an answer or with a fault.
+    /// Whether the run ended with this status, as an answer or with a fault.
     pub(crate) fn ends(&self, status: u8) -> bool {
         self.status == status && (self.is_answer() || self.is_fault())
     }

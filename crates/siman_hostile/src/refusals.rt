@@ -1,11 +1,10 @@
-//! Calls that take memory, each on what a worked example lends it: what it says, and, where memory was
-//! refused to it, what it says when it is made again. Those of the crates below the commands stand in
+//! Calls that take memory, each with the inputs of a worked example: their outcome, and, if memory
+//! ran out, their outcome when they are made again. Those of the crates below the commands are in
 //! `siman_refusals`.
 //!
 //! With ample memory each line ends with `usual`. `tools/hostile.py` runs it with each allocation
-//! refused in turn; then a line may end with `memory, then usual`, with `send, then usual`, where it
-//! was the line over memory that had no room, or with `not begun`, where what is lent could not be
-//! made.
+//! refused in turn; then a line may also end with `memory, then usual`, with `send, then usual` if
+//! the link in memory had no room, or with `not begun` if the inputs of the call could not be made.
 
 pub(crate) mod files;
 mod reasons;
@@ -21,7 +20,7 @@ use std::alloc::Global;
 use std::io;
 use std::io::Write;
 
-/// The calls, in their order.
+/// Names of the calls, in order.
 static CALLS: [&str; 8] = [
     "check_files",
     "review_command",
@@ -33,7 +32,7 @@ static CALLS: [&str; 8] = [
     "trial",
 ];
 
-/// Makes each call, and prints what is told of it.
+/// Makes each call, and prints its outcome.
 pub(crate) fn put_calls<W: Write>(alloc: Global, out: &mut W) -> io::Result<()> {
     put_library_calls(alloc, out)?;
     let told = [

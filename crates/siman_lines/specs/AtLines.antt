@@ -1,4 +1,4 @@
--- What stations do at their lines, one after the other (profile).
+-- Calls at stations and their links, one after the other (profile).
 use Rattle.std.specs.Prelude.{◌≡◌, ◌≢◌, ℕ, ◌+◌, ◌<◌, ◌^◌, ◌-◌, min, Bool, true, false, not, ◌||◌, ◌==◌, nat_lt, List, [], ◌∷◌, length, slice_get, slice_set, Option, Some, None, Result, Ok, Err, ◌⊎◌}
 use Rattle.std.specs.List.{AllByRecursion, zip}
 use Rattle.exercise_model.specs.Entry.{Entry, Told}
@@ -28,39 +28,40 @@ use Rattle.siman_lines.specs.Ordering.{Rests, IssueEnds, NudgeEnds}
 use Rattle.siman_lines.specs.Serving.{State, ServeEnds}
 use Rattle.siman_lines.specs.Steps.{Each, Stops}
 
--- What lines of a kind tell: the datagrams that they handed out and were handed, how many calls failed, and how many datagrams from elsewhere they passed over.
+-- what links of a kind specify: the datagrams that they returned and were passed, how many calls failed, and how
+-- many datagrams from strangers they passed over
 pub record Telling (L : Type 0) : Type 0 where
   pub received : L → Option Datagrams
   pub sent : L → Option Datagrams
   pub failures : L → ℕ
   pub strangers : L → ℕ
 
--- a station at its line, over a recorder
+-- the state of a station at its link, with a recorder
 abbrev pub state_at : {L : Type 0} → Telling L → StationAtLine L → WriterState → State
 state_at told p w =
     record { node = p.node; recorder = w; received = told.received p.line; sent = told.sent p.line; failures = told.failures p.line }
 
--- stations at their lines, over one recorder
+-- stations at their links, with one recorder
 pub record AtLines (L : Type 0) : Type 0 where
   pub stations : List (StationAtLine L)
   pub recorder : WriterState
 
--- Stations as they are put at their lines, from this index on, each with its node and its line.
+-- stations as they are attached to their links, from this index on, each with its node and its link
 abbrev pub posts_from : {L : Type 0} → ℕ → List (Node × L) → List (StationAtLine L)
 posts_from i [] = []
 posts_from i (p ∷ ps) = record { index = i; node = p.0; line = p.1; dropped = 0; busy = false } ∷ posts_from (i + 1) ps
 
--- POST i HAS NODE i, LINE i AND STATION i
+-- POST i HAS NODE i, LINK i AND STATION i
 abbrev pub posts_of : {L : Type 0} → List Node → List L → List (StationAtLine L)
 posts_of nodes lines = posts_from 0 (zip nodes lines)
 
--- Lines are refused where they are not as many as the stations, or where there are more than have an index.
+-- links are refused if they are not as many as the stations, or if there are more than have an index
 abbrev pub Misfits : {A B : Type 0} → List A → List B → Type 0
 Misfits nodes lines = (length lines ≢ length nodes) ⊎ (2 ^ 16 < length nodes)
 
--- OF ONE STATION, before and after, over its recorder.
+-- ONE STATION, before and after, with its recorder.
 
--- an order: it was issued; or there is a reason against it; or the fault below it has this name
+-- an order: it was issued; or there is a reason against it; or the fault of the call has this name
 abbrev pub OrdersAt : {L : Type 0} → Telling L → ℕ → Order → (p : StationAtLine L) → (w : WriterState) → (q : StationAtLine L) → (v : WriterState)
     → Result (Unit {0}) AtLineFault → Type 0
 OrdersAt told now order p w q v (Ok x) = (id : ℕ) × IssueEnds p.index now order (state_at told p w) (state_at told q v) (Ok id)
@@ -81,7 +82,7 @@ RepeatsAt told now p w q v (Err faults.Line) = NudgeEnds p.index now (state_at t
 RepeatsAt told now p w q v (Err (faults.Record fault)) = NudgeEnds p.index now (state_at told p w) (state_at told q v) (Err (issue_faults.Record fault))
 RepeatsAt told now p w q v (Err faults.Memory) = NudgeEnds p.index now (state_at told p w) (state_at told q v) (Err issue_faults.Memory)
 
--- the state of an entity, as the application has it
+-- the state of an entity is recorded, as the application has it
 abbrev pub TellsAt : {L : Type 0} → (e : ℕ) → (p : StationAtLine L) → (w v : WriterState) → Result (Unit {0}) AtLineFault → Type 0
 TellsAt e p w v (Ok x) = WritesOne w (Told p.index e (state_over p.node.application.outfit (came p.node.application) e)) v
 TellsAt e p w v (Err (faults.Station fault)) = tell_fault e ≡ Some fault
@@ -90,31 +91,32 @@ TellsAt e p w v (Err (faults.Record fault)) =
     WritesNone w (Told p.index e (state_over p.node.application.outfit (came p.node.application) e)) fault v
 TellsAt e p w v (Err faults.Memory) = ⊥
 
--- what an order and a repeat leave of a station beside its halves and its line: its index, and what it keeps of what was left out
+-- an order and a repeat change neither the index of a station nor its counts of what was left out
 pub record KeepsCounts {L : Type 0} (p q : StationAtLine L) : Type 0 where
   pub index : q.index ≡ p.index
   pub dropped : q.dropped ≡ p.dropped
   pub busy : q.busy ≡ p.busy
 
--- WHERE A STATION DOES NOT DO WHAT IT IS ASKED TO its halves, its recorder and its line are as they were
+-- AFTER A REFUSAL BY THE STATION its node, its recorder and its link are unchanged
 abbrev pub LeavesRefused : {L : Type 0} → Telling L → (p : StationAtLine L) → (w : WriterState) → (q : StationAtLine L) → (v : WriterState) → AtLineFault → Type 0
 LeavesRefused told p w q v (faults.Station fault) = (q.node ≡ p.node) × Rests (state_at told p w) (state_at told q v)
 LeavesRefused told p w q v faults.Line = Unit {0}
 LeavesRefused told p w q v (faults.Record fault) = Unit {0}
 LeavesRefused told p w q v faults.Memory = Unit {0}
 
--- how the fault of a station that is served is told
+-- the fault at a station of a fault in its service
 abbrev pub of_serve : ServeFault → AtLineFault
 of_serve serve_faults.Receive = faults.Line
 of_serve serve_faults.Send = faults.Line
 of_serve (serve_faults.Record fault) = faults.Record fault
 of_serve serve_faults.Memory = faults.Memory
 
--- SOMETHING MAY BE LEFT to serve: it took or dropped something, met a stranger, or was not idle
+-- SOMETHING MAY BE LEFT to serve: it took or dropped something, its link passed over a stranger's datagram, or it
+-- was not idle
 abbrev pub is_busy : Served → (met : Bool) → Bool
 is_busy served met = nat_lt 0 served.taken || nat_lt 0 served.dropped || met || not served.idle
 
--- it was served; what it dropped so far, and whether something may be left, is kept
+-- it was served; its counts have what it dropped so far, and whether something may be left
 pub record ServedAt {L : Type 0} (told : Telling L) (now turns : ℕ) (p : StationAtLine L) (w : WriterState) (q : StationAtLine L) (v : WriterState) : Type 0 where
   pub served : Served
   pub ends : ServeEnds p.index now turns (state_at told p w) (state_at told q v) (Ok served)
@@ -122,7 +124,7 @@ pub record ServedAt {L : Type 0} (told : Telling L) (now turns : ℕ) (p : Stati
   pub dropped : q.dropped ≡ min (p.dropped + served.dropped) (2 ^ 64 - 1)
   pub busy : q.busy ≡ is_busy served (not (told.strangers q.line == told.strangers p.line))
 
--- it was not served whole, and the fault is named for that of its turn
+-- its service failed, with the fault of the failed turn
 pub record UnservedAt {L : Type 0} (told : Telling L) (now turns : ℕ) (fault : AtLineFault) (p : StationAtLine L) (w : WriterState) (q : StationAtLine L) (v : WriterState) : Type 0 where
   pub below : ServeFault
   pub ends : ServeEnds p.index now turns (state_at told p w) (state_at told q v) (Err below)
@@ -134,9 +136,9 @@ abbrev pub ServesAt : {L : Type 0} → Telling L → (now turns : ℕ) → (p : 
 ServesAt told now turns p w q v (Ok x) = ServedAt told now turns p w q v
 ServesAt told now turns p w q v (Err fault) = UnservedAt told now turns fault p w q v
 
--- OF ALL STATIONS.
+-- ALL STATIONS.
 
--- The station of a number did this, and the others are as they were.
+-- the station of a number did this, and the others are unchanged
 pub record One {L : Type 0} (Does : StationAtLine L → WriterState → StationAtLine L → WriterState → Type 0) (number : ℕ) (old new : AtLines L) : Type 0 where
   pub before : StationAtLine L
   pub after : StationAtLine L
@@ -144,7 +146,7 @@ pub record One {L : Type 0} (Does : StationAtLine L → WriterState → StationA
   pub others : new.stations ≡ slice_set old.stations number after
   pub does : Does before old.recorder after new.recorder
 
--- A ROUND: each station is served once, in their order.
+-- A ROUND: each station is served once, in their order
 abbrev pub Round : {L : Type 0} → Telling L → (now turns : ℕ) → AtLines L → AtLines L → Type 0
 Round told now turns old new = Each (One (ServedAt told now turns)) (length old.stations) old new
 
@@ -155,25 +157,25 @@ abbrev pub RoundEnds : {L : Type 0} → Telling L → (now turns : ℕ) → AtLi
 RoundEnds told now turns old new (Ok x) = Round told now turns old new
 RoundEnds told now turns old new (Err fault) = FailsRound told now turns fault old new
 
--- ROUNDS, one after the other.
+-- ROUNDS, one after the other
 abbrev pub RoundsEnd : {L : Type 0} → Telling L → (now rounds turns : ℕ) → AtLines L → AtLines L → Result (Unit {0}) AtLineFault → Type 0
 RoundsEnd told now rounds turns old new (Ok x) = Each (λ number. Round told now turns) rounds old new
 RoundsEnd told now rounds turns old new (Err fault) = Stops (λ number. Round told now turns) (λ number. FailsRound told now turns fault) rounds old new
 
 -- AS CALLS.
 
--- the post of a number stands so in these stations
+-- the station of a number has this node and this link among these stations
 pub record IsPost {L : Type 0} (told : Telling L) (number : ℕ) (p : StationAtLine L) (x : Stations) : Type 0 where
   pub index : p.index ≡ number
   pub node : x.node number ≡ p.node
   pub handed : x.handed number ≡ told.sent p.line
 
--- STATIONS AT THEIR LINES are these stations over one recorder, by their indices.
+-- STATIONS AT THEIR LINKS are these stations with one recorder, by their indices
 pub record Are {L : Type 0} (told : Telling L) (old : AtLines L) (x : Stations) : Type 0 where
   pub posts : (number : ℕ) (p : StationAtLine L) → slice_get old.stations number ≡ Some p → IsPost told number p x
   pub recorder : x.recorder ≡ old.recorder
 
--- calls at stations below this number, that lead from the first stations to others, which are the second
+-- calls at stations below this number, which lead from the first stations to others, which are the second
 pub record Leads {L : Type 0} (told : Telling L) (x : Stations) (count : ℕ) (new : AtLines L) : Type 0 where
   pub calls : List ℕ
   pub after : Stations
@@ -181,12 +183,13 @@ pub record Leads {L : Type 0} (told : Telling L) (x : Stations) (count : ℕ) (n
   pub made : AreCalls calls x after
   pub are : Are told new after
 
--- WHAT COMES OF CALLS: there are as many stations, and calls made the second of the first.
+-- THE EFFECT OF CALLS: there are as many stations, and calls lead from the first state to the second
 pub record Follows {L : Type 0} (told : Telling L) (old new : AtLines L) : Type 0 where
   pub count : length new.stations ≡ length old.stations
   pub leads : (x : Stations) → Are told old x → Leads told x (length old.stations) new
 
--- STATIONS AT THEIR LINES AS THEY ARE BEGUN: post i has station i of the setting, to which nothing came and which made no order, and its line was handed nothing.
+-- STATIONS AT THEIR LINKS IN THEIR INITIAL STATE: post i has station i of the setting, which received nothing and
+-- made no order, and whose link has sent nothing
 pub record AreFresh {L : Type 0} (told : Telling L) (w : SettingData) (ps : List (StationAtLine L)) : Type 0 where
   pub setting : IsSetting w
   pub some : 0 < length ps
@@ -194,11 +197,12 @@ pub record AreFresh {L : Type 0} (told : Telling L) (w : SettingData) (ps : List
   pub index : (number : ℕ) (p : StationAtLine L) → slice_get ps number ≡ Some p → p.index ≡ number
   pub fresh : (number : ℕ) (p : StationAtLine L) → slice_get ps number ≡ Some p → IsFresh number p.node w (told.sent p.line)
 
--- these entries are a run in the order of the file, where each datagram that was received and is not other was sent before
+-- these entries are a run in the order of the file, if each received datagram that is not other was sent before
 abbrev pub AreRun : SettingData → List Entry → Type 0
 AreRun w es = ReceivesSent w (past es) → IsRun w (past es)
 
--- WHAT A RECORDER WROTE that was started with this setting: these entries whole, which are a run where what was received was sent before
+-- THE OUTPUT OF A RECORDER that began with this setting: these entries whole, which are a run if what was received
+-- was sent before
 pub record HasRecorded (before : Option (List ℕ)) (w : SettingData) (recorder : WriterState) (es : List Entry) : Type 0 where
   pub setting : recorder.setting ≡ w
   pub written : IsWritten before recorder es

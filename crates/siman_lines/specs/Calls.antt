@@ -1,4 +1,5 @@
--- What lists of calls over one recorder come to: stations that each serve a line of their own, issue and repeat orders, and tell states (profile). Histories have THE LAST EVENT FIRST.
+-- Lists of calls with one recorder: stations that each serve their own link, issue and repeat orders, and tell
+-- states (profile). Histories have THE LAST EVENT FIRST.
 use Rattle.std.specs.Prelude.{◌≡◌, ◌≤◌, ◌<◌, ℕ, List, [], ◌∷◌, ◌++◌, length, Option, Some, None, ◌⊎◌}
 use Rattle.std.specs.List.{AllByRecursion}
 use Rattle.exercise_model.specs.Entry.{Entry}
@@ -14,14 +15,14 @@ use Rattle.siman_stations.specs.Deeds.{ReceivesSent}
 use Rattle.siman_lines.specs.LineDatagrams.{Datagrams}
 use Rattle.siman_lines.specs.KeptAtLine.{IsWritten, IsOfStation, IsKept, Keeps}
 
--- Beginnings.
+-- Initial states.
 
--- a line that was handed nothing, as far as it tells
+-- a link that has sent nothing, as far as it specifies that
 abbrev pub IsUnused : Option Datagrams → Type 0
 IsUnused None = Unit {0}
 IsUnused (Some ds) = ds ≡ []
 
--- A STATION AS IT IS BEGUN: nothing came to its halves, no order was made, and its line was handed nothing.
+-- A STATION IN ITS INITIAL STATE: it has received nothing and made no order, and its link has sent nothing
 pub record IsFresh (s : ℕ) (n : Node) (w : SettingData) (handed : Option Datagrams) : Type 0 where
   pub station : IsOfStation s n w
   pub ranges : IsOutfitInRange n.application.outfit
@@ -31,13 +32,14 @@ pub record IsFresh (s : ℕ) (n : Node) (w : SettingData) (handed : Option Datag
 
 -- Lists of calls.
 
--- stations over one recorder, by their indices: the halves of each, and what its line tells that it was handed
+-- stations with one recorder, by their indices: the node of each, and the datagrams that its link specifies as sent
 pub record Stations : Type 0 where
   pub node : ℕ → Node
   pub handed : ℕ → Option Datagrams
   pub recorder : WriterState
 
--- A CALL at station s: it keeps what was kept of that station, as each of the four does, and the other stations are as they were.
+-- A CALL at station s: it preserves the invariant of that station, as each of the four does, and the other stations
+-- are unchanged
 pub record IsCall (s : ℕ) (old new : Stations) : Type 0 where
   pub keeps : Keeps s (old.node s) old.recorder (old.handed s) (new.node s) new.recorder (new.handed s)
   pub nodes : (t : ℕ) → (s ≡ t → ⊥) → new.node t ≡ old.node t
@@ -53,7 +55,7 @@ abbrev pub HasStation : ℕ → List ℕ → Type 0
 HasStation s [] = ⊥
 HasStation s (t ∷ ts) = (s ≡ t) ⊎ HasStation s ts
 
--- ALL IS KEPT of these stations, where these entries are written whole.
+-- THE INVARIANT holds of these stations, when these entries are written whole
 pub record AreKept (before : Option (List ℕ)) (stations : List ℕ) (x : Stations) (es : List Entry) : Type 0 where
   pub written : IsWritten before x.recorder es
   pub kept : AllByRecursion (λ s. IsKept s (x.node s) x.recorder es (x.handed s)) stations
@@ -62,16 +64,18 @@ pub record AreKept (before : Option (List ℕ)) (stations : List ℕ) (x : Stati
 abbrev pub AreAll : SettingData → List ℕ → Type 0
 AreAll w stations = (s : ℕ) → s < length w.stations → HasStation s stations
 
--- STATIONS AS THEY ARE BEGUN over one recorder: the head of its recording is written, and these are all its stations.
+-- STATIONS IN THEIR INITIAL STATE with one recorder: the head of its recording is written, and these are all its
+-- stations
 pub record AreBegun (before : Option (List ℕ)) (w : SettingData) (stations : List ℕ) (x : Stations) : Type 0 where
   pub setting : IsSetting w
   pub starts : Starts before w x.recorder
   pub fresh : AllByRecursion (λ s. IsFresh s (x.node s) w (x.handed s)) stations
   pub all : AreAll w stations
 
--- What is written.
+-- The output.
 
--- WHAT STANDS BEHIND THE BYTES THAT WERE THERE BEFORE is the beginning of the text of a recording: its setting, the entries that are written whole, and at most one more.
+-- WHAT FOLLOWS THE EARLIER BYTES is a prefix of the text of a recording: its setting, the entries that are written
+-- whole, and at most one more
 pub record IsBeginningOf (before : List ℕ) (w : WriterState) (es : List Entry) : Type 0 where
   pub recording : PlainRecording
   pub is : IsRecording recording
@@ -84,7 +88,9 @@ pub record IsBeginningOf (before : List ℕ) (w : WriterState) (es : List Entry)
   pub contents : w.contents ≡ Some (before ++ front)
   pub text : front ++ rest ≡ recording_text recording
 
--- WHAT COMES OF CALLS over a recorder with this setting: these entries are written whole, all is kept of each station, and where each datagram that was received and is not other was sent before, the entries are a run in the order of the file.
+-- THE EFFECT OF CALLS with a recorder of this setting: these entries are written whole, the invariant holds of each
+-- station, and if each received datagram that is not other was sent before, the entries are a run in the order of
+-- the file
 pub record ComesOfCalls (before : Option (List ℕ)) (w : SettingData) (stations : List ℕ) (x : Stations) : Type 0 where
   pub entries : List Entry
   pub setting : x.recorder.setting ≡ w

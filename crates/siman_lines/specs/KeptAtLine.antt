@@ -1,4 +1,5 @@
--- WHAT IS KEPT of a station over its line, its recorder and its halves (profile). Histories, turns and calls have THE LAST ONE FIRST.
+-- THE INVARIANT of a station, with its link, its recorder, its manager and its application (profile). Histories,
+-- turns and calls have THE LAST ONE FIRST.
 use Rattle.std.specs.Prelude.{◌≡◌, ◌≤◌, ◌<◌, ℕ, List, [], ◌∷◌, ◌++◌, take, length, Bool, true, false, Option, Some, None, Result, Err, ◌⊎◌}
 use Rattle.std.specs.Io.KnownBytes.{Appends}
 use Rattle.std.specs.List.{AllByRecursion, flat_map}
@@ -22,14 +23,14 @@ use Rattle.siman_lines.specs.declared.fault.IssueFault.TheVariants as issue_faul
 use Rattle.siman_lines.specs.declared.served.Served.{Served}
 use Rattle.siman_lines.specs.LineDatagrams.{Datagrams}
 
--- Of the recorder.
+-- The recorder.
 
--- After the entries that are written whole stands nothing, or, where a write failed, the beginning of one more.
+-- after the entries that are written whole there is nothing, or, if a write failed, a prefix of one more
 abbrev pub IsTail : Bool → SettingData → List Entry → List ℕ → Type 0
 IsTail false w es torn = torn ≡ []
 IsTail true w es torn = (e : Entry) × (n : ℕ) × (torn ≡ take n (entry_text e)) × IsRecording (record { setting = w; entries = es ++ e ∷ [] })
 
--- WHAT WAS WRITTEN behind the bytes that were there before: the head of a recording, these entries whole, and at most one torn one.
+-- THE OUTPUT behind the earlier bytes: the head of a recording, these entries whole, and at most one torn one
 pub record IsWritten (before : Option (List ℕ)) (w : WriterState) (es : List Entry) : Type 0 where
   pub torn : List ℕ
   pub contents : Appends before w.contents (head_text w.setting ++ flat_map entry_text es ++ torn)
@@ -37,11 +38,11 @@ pub record IsWritten (before : Option (List ℕ)) (w : WriterState) (es : List E
   pub recording : IsRecording (record { setting = w.setting; entries = es })
   pub tail : IsTail w.spent w.setting es torn
 
--- It takes no further entry.
+-- the recorder takes no further entry
 abbrev pub IsClosed : WriterState → Type 0
 IsClosed w = (w.spent ≡ true) ⊎ (MOST_ENTRIES ≤ w.entries)
 
--- Of the line.
+-- The link.
 
 -- station s sent the datagram in one of these entries
 abbrev pub HasSent : ℕ → List Entry → List ℕ → Type 0
@@ -50,14 +51,14 @@ HasSent s (Sent t stamp c ∷ es) b = ((t ≡ s) × (c ≡ b)) ⊎ HasSent s es 
 HasSent s (Received t stamp c ∷ es) b = HasSent s es b
 HasSent s (Told t e y ∷ es) b = HasSent s es b
 
--- Each datagram that a line was handed, if it tells them, is that of an entry that is written whole.
+-- each datagram that a link was passed, if it specifies them, is that of an entry that is written whole
 abbrev pub AreHanded : ℕ → List Entry → Option Datagrams → Type 0
 AreHanded s es None = Unit {0}
 AreHanded s es (Some ds) = AllByRecursion (HasSent s es) ds
 
--- Of the halves.
+-- The node.
 
--- Both halves have the exercise of the recorder, and the station of this index.
+-- manager and application have the exercise of the recorder, and the station of this index
 pub record IsOfStation (s : ℕ) (n : Node) (w : SettingData) : Type 0 where
   pub within : s < length w.stations
   pub exercise : n.application.outfit.exercise ≡ w.exercise
@@ -65,13 +66,14 @@ pub record IsOfStation (s : ℕ) (n : Node) (w : SettingData) : Type 0 where
   pub manager_exercise : n.manager.settings.exercise ≡ w.exercise
   pub address : n.manager.settings.address ≡ (station_in w s).address
 
--- WHAT IS KEPT of a station, where these entries are written whole and its line tells that it was handed these datagrams.
+-- THE INVARIANT of a station, when these entries are written whole and its link specifies these datagrams as sent
 pub record IsKept (s : ℕ) (n : Node) (w : WriterState) (es : List Entry) (handed : Option Datagrams) : Type 0 where
   pub station : IsOfStation s n w.setting
   pub halves : HalvesFollow (Unit {0}) s n.application.outfit (came n.application) n.manager (log_at s (past es)) (IsClosed w)
   pub handed_are : AreHanded s es handed
 
--- WHAT A CALL KEEPS that a station makes: more entries of that station alone were written, and all is kept.
+-- A CALL PRESERVES THE INVARIANT of the station that makes it: more entries of that station alone were written, and
+-- the invariant holds
 pub record KeepsOn (s : ℕ) (before : Option (List ℕ)) (es : List Entry) (new_node : Node) (old new : WriterState) (handed : Option Datagrams) : Type 0 where
   pub more : List Entry
   pub own : AreOf s more
@@ -80,14 +82,15 @@ pub record KeepsOn (s : ℕ) (before : Option (List ℕ)) (es : List Entry) (new
   pub written : IsWritten before new (es ++ more)
   pub kept : IsKept s new_node new (es ++ more) handed
 
--- So each call keeps it.
+-- a call preserves the invariant, whatever the entries before
 abbrev pub Keeps : ℕ → Node → WriterState → Option Datagrams → Node → WriterState → Option Datagrams → Type 0
 Keeps s n w handed m new handed_after =
     (before : Option (List ℕ)) (es : List Entry) → IsWritten before w es → IsKept s n w es handed → KeepsOn s before es m w new handed_after
 
 -- Refusals of the recorder.
 
--- A fault of the recorder is told where it was spent before, where it is full, or where a write failed now; an entry is never of a wrong kind.
+-- the recorder refuses if it was spent before, if it is full, or if a write failed now; an entry is never of a
+-- wrong kind
 abbrev pub IsRightRefusal : WriterFault → WriterState → WriterState → Type 0
 IsRightRefusal writer_faults.Write old new = new.spent ≡ true
 IsRightRefusal writer_faults.Spent old new = old.spent ≡ true

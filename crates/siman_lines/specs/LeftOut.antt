@@ -3,11 +3,12 @@ use Rattle.std.specs.Prelude.{ℕ, ◌-◌, ◌^◌, min, Bool, ◌&&◌, ◌==�
 use Rattle.siman_lines.specs.declared.left.LeftOut.{LeftOut}
 use Rattle.siman_lines.specs.declared.station_at_line.StationAtLine.{StationAtLine}
 
--- a count of 64 bits, the most of which stands for more
+-- a count that saturates at the greatest number of 64 bits
 abbrev pub capped : ℕ → ℕ
 capped n = min n (2 ^ 64 - 1)
 
--- WHAT STATIONS LEFT OUT: at how many of them something may be left to serve, how many long datagrams they dropped, and how many datagrams from elsewhere their lines passed over, by what lines of their kind tell of strangers
+-- THE COUNTS OF WHAT STATIONS LEFT OUT: at how many of them something may be left to serve, how many long datagrams
+-- they dropped, and how many datagrams from strangers their links passed over
 abbrev pub left_out_by : {L : Type 0} → (strangers : L → ℕ) → List (StationAtLine L) → LeftOut
 left_out_by strangers ps = record {
   busy = count_by (λ p. p.busy) ps;

@@ -1,4 +1,4 @@
--- What a station makes of an order, and of a repeat that is due (profile).
+-- The effect of an order of a station, and of a repeat that is due (profile).
 use Rattle.std.specs.Prelude.{◌≡◌, ℕ, ◌<◌, ◌≤◌, List, length, Bool, true, false, Some, None, Result, Ok, Err, is_some}
 use Rattle.dis_records.specs.declared.header.TheConstants.{LARGEST_DATAGRAM}
 use Rattle.siman_pdus.specs.declared.pdu.Pdu.{Pdu}
@@ -18,65 +18,65 @@ use Rattle.siman_lines.specs.declared.fault.IssueFault.TheVariants as faults
 use Rattle.siman_lines.specs.LineDatagrams.{Same, Grows, MayGrow}
 use Rattle.siman_lines.specs.Serving.{State}
 
--- Of a text, beside the halves.
+-- A text, without the node.
 
--- It is recorded as sent, and it was sent.
+-- the text is recorded as sent, and was sent
 pub record SendsText (s now : ℕ) (text : List ℕ) (old new : State) : Type 0 where
   pub entry : WritesOne old.recorder (Sent s now text) new.recorder
   pub sent_are : Grows old.sent new.sent text
   pub received_are : Same old.received new.received
   pub worked : new.failures ≡ old.failures
 
--- It is recorded as sent, and the send failed.
+-- the text is recorded as sent, and the send failed
 pub record LosesText (s now : ℕ) (text : List ℕ) (old new : State) : Type 0 where
   pub entry : WritesOne old.recorder (Sent s now text) new.recorder
   pub may_be_sent : MayGrow old.sent new.sent text
   pub received_are : Same old.received new.received
   pub lost : old.failures < new.failures
 
--- It was not recorded, and not sent.
+-- the text was not recorded and not sent
 pub record KeepsText (s now : ℕ) (text : List ℕ) (fault : WriterFault) (old new : State) : Type 0 where
   pub refused : WritesNone old.recorder (Sent s now text) fault new.recorder
   pub sent_are : Same old.sent new.sent
   pub received_are : Same old.received new.received
   pub worked : new.failures ≡ old.failures
 
--- Nothing was recorded or sent.
+-- nothing was recorded or sent
 pub record Rests (old new : State) : Type 0 where
   pub recorder : new.recorder ≡ old.recorder
   pub sent_are : Same old.sent new.sent
   pub received_are : Same old.received new.received
   pub worked : new.failures ≡ old.failures
 
--- What a failed step of recording and sending leaves.
+-- the effect of a failed step of recording and sending
 abbrev pub FailsText : (s now : ℕ) → List ℕ → State → State → IssueFault → Type 0
 FailsText s now text old new (faults.Order fault) = ⊥
 FailsText s now text old new faults.Send = LosesText s now text old new
 FailsText s now text old new (faults.Record fault) = KeepsText s now text fault old new
 FailsText s now text old new faults.Memory = ⊥
 
--- Of an order.
+-- An order.
 
--- The manager half made the order.
+-- the manager made the order
 pub record Makes (now : ℕ) (order : Order) (old new : Node) : Type 0 where
   pub made : refusal_of old.manager order (stamp_of now) ≡ None
   pub in_range : IsOrderInRange order
   pub halves : new ≡ after_order old now order
 
--- A NEW ORDER went out.
+-- A NEW ORDER was sent
 pub record Issues (s now : ℕ) (order : Order) (old new : State) (id : ℕ) : Type 0 where
   pub makes : Makes now order old.node new.node
   pub id_is : id ≡ next_id old.node.manager.settings (length old.node.manager.orders)
   pub size : length (pdu_text (next_order old.node.manager now order)) ≤ LARGEST_DATAGRAM
   pub goes : SendsText s now (pdu_text (next_order old.node.manager now order)) old new
 
--- The manager half made the order, which did not go out, for a reason that left the rest so.
+-- the manager made the order, which was not sent, with this effect on the rest
 pub record Withholds (now : ℕ) (order : Order) (old new : State) (Left : List ℕ → Type 0) : Type 0 where
   pub makes : Makes now order old.node new.node
   pub size : length (pdu_text (next_order old.node.manager now order)) ≤ LARGEST_DATAGRAM
   pub left : Left (pdu_text (next_order old.node.manager now order))
 
--- WHAT A FAULT LEAVES of an order: only a refusal leaves the manager half as it was.
+-- THE EFFECT OF A FAULT in an order: only a refusal leaves the manager unchanged
 abbrev pub FailsIssue : (s now : ℕ) → Order → State → State → IssueFault → Type 0
 FailsIssue s now order old new (faults.Order fault) =
     (refusal_of old.node.manager order (stamp_of now) ≡ told_by fault) × (new.node ≡ old.node) × Rests old new
@@ -84,14 +84,14 @@ FailsIssue s now order old new faults.Send = Withholds now order old new (λ tex
 FailsIssue s now order old new (faults.Record fault) = Withholds now order old new (λ text. KeepsText s now text fault old new)
 FailsIssue s now order old new faults.Memory = Makes now order old.node new.node × Rests old new
 
--- WHAT AN ORDER COMES TO.
+-- THE EFFECT OF AN ORDER
 abbrev pub IssueEnds : (s now : ℕ) → Order → State → State → Result ℕ IssueFault → Type 0
 IssueEnds s now order old new (Ok id) = Issues s now order old new id
 IssueEnds s now order old new (Err fault) = FailsIssue s now order old new fault
 
--- Of a repeat. The tick of the manager half is made in any case.
+-- A repeat. The tick of the manager is made in any case.
 
--- A DUE REPEAT went out,
+-- A DUE REPEAT was sent
 pub record Repeats (s now : ℕ) (old new : State) : Type 0 where
   pub repeat : Pdu
   pub due : next_repeat old.node.manager now ≡ Some repeat
@@ -100,10 +100,10 @@ pub record Repeats (s now : ℕ) (old new : State) : Type 0 where
 
 abbrev pub Nudges : (s now : ℕ) → State → State → Bool → Type 0
 Nudges s now old new true = (new.node ≡ after_tick old.node now) × Repeats s now old new
--- or none was due.
+-- no repeat was due
 Nudges s now old new false = (new.node ≡ after_tick old.node now) × (next_repeat old.node.manager now ≡ None) × Rests old new
 
--- A repeat was due and did not go out, for a reason that left the rest so.
+-- a repeat was due and was not sent, with this effect on the rest
 pub record Delays (now : ℕ) (old : State) (Left : List ℕ → Type 0) : Type 0 where
   pub repeat : Pdu
   pub due : next_repeat old.node.manager now ≡ Some repeat
@@ -116,7 +116,7 @@ FailsNudge s now old new faults.Send = (new.node ≡ after_tick old.node now) ×
 FailsNudge s now old new (faults.Record fault) = (new.node ≡ after_tick old.node now) × Delays now old (λ text. KeepsText s now text fault old new)
 FailsNudge s now old new faults.Memory = (new.node ≡ after_tick old.node now) × (is_some (next_repeat old.node.manager now) ≡ true) × Rests old new
 
--- WHAT A NUDGE COMES TO.
+-- THE EFFECT OF A NUDGE
 abbrev pub NudgeEnds : (s now : ℕ) → State → State → Result Bool IssueFault → Type 0
 NudgeEnds s now old new (Ok due) = Nudges s now old new due
 NudgeEnds s now old new (Err fault) = FailsNudge s now old new fault

@@ -1,4 +1,5 @@
--- What a station makes of the datagrams that it receives at its line (profile). Each list of datagrams has THE LAST ONE FIRST.
+-- The effect of datagrams that a station receives through its link (profile). Each list of datagrams has THE LAST
+-- ONE FIRST.
 use Rattle.std.specs.Prelude.{◌≡◌, ℕ, ◌+◌, ◌<◌, Bool, true, false, not, nat_le, List, [], ◌∷◌, ◌++◌, filter, length, reverse, Option, Some, None, Result, Ok, Err, is_some, slice_index, ◌⊎◌, if◌then◌else◌}
 use Rattle.dis_records.specs.declared.header.TheConstants.{LARGEST_DATAGRAM}
 use Rattle.siman_pdus.specs.declared.pdu.Pdu.{Pdu}
@@ -23,7 +24,7 @@ use Rattle.siman_lines.specs.declared.fault.ServeFault.TheVariants as faults
 use Rattle.siman_lines.specs.declared.served.Served.{Served}
 use Rattle.siman_lines.specs.LineDatagrams.{Datagrams, Same, GrowsAll, Grows, MayGrow}
 
--- Of datagrams that a station takes, each in its turn.
+-- Datagrams that a station takes, each in its turn.
 
 -- the distinct requests after one more datagram was taken, if it is read as a PDU
 abbrev pub came_with : Outfit → List Pdu → Option Pdu → List Pdu
@@ -34,7 +35,7 @@ abbrev pub came_after : Outfit → List Pdu → Datagrams → List Pdu
 came_after a ds [] = ds
 came_after a ds (b ∷ bs) = came_with a (came_after a ds bs) (reading b)
 
--- the orders after it
+-- the orders after one more datagram was taken
 abbrev pub taken_with : Book → Option Pdu → Book
 taken_with k None = k
 taken_with k (Some q) = taken k q
@@ -43,12 +44,12 @@ abbrev pub book_after : Book → Datagrams → Book
 book_after k [] = k
 book_after k (b ∷ bs) = taken_with (book_after k bs) (reading b)
 
--- the reply to it, after these distinct requests
+-- the reply to a datagram, after these distinct requests
 abbrev pub reply_with : Outfit → List Pdu → Option Pdu → ℕ → Option Pdu
 reply_with a ds None stamp = None
 reply_with a ds (Some q) stamp = reply_after a ds q stamp
 
--- the reply to a datagram that comes after others
+-- the reply to a datagram, after the earlier datagrams
 abbrev pub reply_at : Outfit → List Pdu → ℕ → Datagrams → List ℕ → Option Pdu
 reply_at a ds now bs b = reply_with a (came_after a ds bs) (reading b) (stamp_of now)
 
@@ -57,7 +58,7 @@ abbrev pub entries_after : Outfit → List Pdu → (s now : ℕ) → Datagrams �
 entries_after a ds s now [] = []
 entries_after a ds s now (b ∷ bs) = entries_after a ds s now bs ++ (Received s now b ∷ sent_as s now (reply_at a ds now bs b))
 
--- the text of a reply, if there is one
+-- the text of a reply, if any
 abbrev pub text_of : Option Pdu → Datagrams
 text_of None = []
 text_of (Some p) = pdu_text p ∷ []
@@ -67,18 +68,18 @@ abbrev pub texts_after : Outfit → List Pdu → ℕ → Datagrams → Datagrams
 texts_after a ds now [] = []
 texts_after a ds now (b ∷ bs) = texts_after a ds now bs ++ text_of (reply_at a ds now bs b)
 
--- The halves took these datagrams, each in its turn, and the entries of them are recorded, and no other.
+-- manager and application took these datagrams, each in its turn, and exactly the entries of them are recorded
 pub record HasTaken (s now : ℕ) (bs : Datagrams) (before after : Node) (old new : WriterState) : Type 0 where
   pub outfit : after.application.outfit ≡ before.application.outfit
   pub came_is : came after.application ≡ came_after before.application.outfit (came before.application) bs
   pub manager : after.manager ≡ book_after before.manager bs
   pub entries : RecordsAll WritesOne (entries_after before.application.outfit (came before.application) s now bs) old new
 
--- the texts that a station with these halves sends
+-- the texts that a station with this node sends
 abbrev pub texts_by : Node → ℕ → Datagrams → Datagrams
 texts_by n now bs = texts_after n.application.outfit (came n.application) now bs
 
--- Of what was received.
+-- Received datagrams.
 
 -- the numbers of a datagram are bytes
 abbrev pub IsBytes : List ℕ → Type 0
@@ -99,7 +100,8 @@ abbrev pub AreBytes : Datagrams → Type 0
 AreBytes [] = Unit {0}
 AreBytes (b ∷ bs) = IsBytes b × AreBytes bs
 
--- A station at its line: its halves, its recorder, what its line tells of datagrams, and how many calls of the line failed.
+-- the state of a station at its link: its node, its recorder, the datagrams that its link specifies, and how many
+-- calls of the link failed
 pub record State : Type 0 where
   pub node : Node
   pub recorder : WriterState
@@ -107,14 +109,16 @@ pub record State : Type 0 where
   pub sent : Option Datagrams
   pub failures : ℕ
 
--- WHAT STANDS AFTER a station received these datagrams at its line: the long ones are dropped, the others taken, each in its turn, and each reply that was due was sent.
+-- THE STATE AFTER a station received these datagrams through its link: the long ones are dropped, the others taken,
+-- each in its turn, and each reply that was due was sent
 pub record HasServed (s now : ℕ) (us : Datagrams) (old new : State) : Type 0 where
   pub taken : HasTaken s now (short_of us) old.node new.node old.recorder new.recorder
   pub received_are : GrowsAll old.received new.received (reverse us)
   pub sent_are : GrowsAll old.sent new.sent (texts_by old.node now (short_of us))
   pub bytes : AreBytes (short_of us)
 
--- WHAT A STATION DID that ended its turns without a fault: the line worked, and all that it received is counted. It received as often as it was to, or less often; then it was idle.
+-- TURNS THAT ENDED without a fault: the link worked, and all that the station received is counted; it made all its
+-- receives, or fewer, and then it was idle
 pub record Serves (s now turns : ℕ) (old new : State) (served : Served) : Type 0 where
   pub datagrams : Datagrams
   pub done : HasServed s now datagrams old new
@@ -125,15 +129,15 @@ pub record Serves (s now turns : ℕ) (old new : State) (served : Served) : Type
   pub whole : served.idle ≡ false → served.taken + served.dropped ≡ turns
   pub idle : served.idle ≡ true → served.taken + served.dropped < turns
 
--- WHAT A FAULT LEAVES, where these datagrams were served before.
+-- THE EFFECT OF A FAULT, after these datagrams were served.
 
--- A receive failed, and nothing else was done.
+-- a receive failed, and nothing else was done
 pub record LosesReceive (s now : ℕ) (old new : State) : Type 0 where
   pub datagrams : Datagrams
   pub done : HasServed s now datagrams old new
   pub lost : old.failures < new.failures
 
--- The turn of one more datagram was done, and the send of its reply failed.
+-- the turn of one more datagram was done, and the send of its reply failed
 pub record LosesSend (s now : ℕ) (old new : State) : Type 0 where
   pub earlier : Datagrams
   pub datagram : List ℕ
@@ -148,7 +152,7 @@ pub record LosesSend (s now : ℕ) (old new : State) : Type 0 where
   pub bytes : AreBytes (datagram ∷ short_of earlier)
   pub lost : old.failures < new.failures
 
--- The turn of one more datagram was not done whole; nothing was sent for it.
+-- the turn of one more datagram was not done whole; nothing was sent for it
 pub record BreaksTurn (s now : ℕ) (fault : TurnFault WriterFault) (old new : State) : Type 0 where
   pub earlier : Datagrams
   pub datagram : List ℕ
@@ -168,14 +172,14 @@ FailsServe s now old new faults.Send = LosesSend s now old new
 FailsServe s now old new (faults.Record fault) = BreaksTurn s now (turn_faults.Record fault) old new
 FailsServe s now old new faults.Memory = BreaksTurn s now turn_faults.Memory old new
 
--- WHAT A STATION DID in at most so many turns.
+-- THE EFFECT of at most so many turns
 abbrev pub ServeEnds : (s now turns : ℕ) → State → State → Result Served ServeFault → Type 0
 ServeEnds s now turns old new (Ok served) = Serves s now turns old new served
 ServeEnds s now turns old new (Err fault) = FailsServe s now old new fault
 
--- Of one datagram.
+-- One datagram.
 
--- The turn of a datagram was done, and the reply that was due was sent.
+-- the turn of a datagram was done, and the reply that was due was sent
 pub record ServesOne (s now : ℕ) (b : List ℕ) (old new : State) : Type 0 where
   pub entries : RecordsAll WritesOne (turn_entries old.node.application s now b) old.recorder new.recorder
   pub halves : TakesBoth (reading b) old.node new.node
@@ -183,7 +187,7 @@ pub record ServesOne (s now : ℕ) (b : List ℕ) (old new : State) : Type 0 whe
   pub received_are : Same old.received new.received
   pub worked : new.failures ≡ old.failures
 
--- The turn was done, and the send failed.
+-- the turn was done, and the send failed
 pub record SendsNone (s now : ℕ) (b : List ℕ) (old new : State) : Type 0 where
   pub entries : RecordsAll WritesOne (turn_entries old.node.application s now b) old.recorder new.recorder
   pub halves : TakesBoth (reading b) old.node new.node
@@ -193,7 +197,7 @@ pub record SendsNone (s now : ℕ) (b : List ℕ) (old new : State) : Type 0 whe
   pub received_are : Same old.received new.received
   pub lost : old.failures < new.failures
 
--- The turn was not done whole.
+-- the turn was not done whole
 pub record BreaksOne (s now : ℕ) (b : List ℕ) (fault : TurnFault WriterFault) (old new : State) : Type 0 where
   pub broken : FailsHalves WritesOne WritesNone s now b fault old.recorder new.recorder old.node new.node
   pub sent_are : Same old.sent new.sent
@@ -206,9 +210,9 @@ FailsOne s now b old new faults.Send = SendsNone s now b old new
 FailsOne s now b old new (faults.Record fault) = BreaksOne s now b (turn_faults.Record fault) old new
 FailsOne s now b old new faults.Memory = BreaksOne s now b turn_faults.Memory old new
 
--- Of one receive.
+-- One receive.
 
--- Nothing changed but the line.
+-- nothing changed but the link
 pub record Stays (old new : State) : Type 0 where
   pub node : new.node ≡ old.node
   pub recorder : new.recorder ≡ old.recorder
@@ -216,7 +220,7 @@ pub record Stays (old new : State) : Type 0 where
   pub sent_are : Same old.sent new.sent
   pub worked : new.failures ≡ old.failures
 
--- The line handed a datagram out, and nothing else changed.
+-- the link returned a datagram, and nothing else changed
 pub record Hears (b : List ℕ) (old new : State) : Type 0 where
   pub node : new.node ≡ old.node
   pub recorder : new.recorder ≡ old.recorder
@@ -224,14 +228,14 @@ pub record Hears (b : List ℕ) (old new : State) : Type 0 where
   pub sent_are : Same old.sent new.sent
   pub worked : new.failures ≡ old.failures
 
--- A long datagram came, and was dropped,
+-- a long datagram was received and dropped
 pub record DropsIt (old new : State) (turn : Served) : Type 0 where
   pub datagram : List ℕ
   pub hears : Hears datagram old new
   pub long : is_short datagram ≡ false
   pub told : turn ≡ record { taken = 0; sent = 0; dropped = 1; idle = false }
 
--- or another one, which was served.
+-- another datagram was received and served
 pub record TakesIt (s now : ℕ) (old new : State) (turn : Served) : Type 0 where
   pub datagram : List ℕ
   pub heard : State
@@ -247,7 +251,7 @@ abbrev pub ServesTurn : (s now : ℕ) → State → State → Option Served → 
 ServesTurn s now old new None = Stays old new
 ServesTurn s now old new (Some turn) = DropsIt old new turn ⊎ TakesIt s now old new turn
 
--- The receive failed,
+-- the receive failed
 pub record HearsNone (old new : State) : Type 0 where
   pub node : new.node ≡ old.node
   pub recorder : new.recorder ≡ old.recorder
@@ -255,7 +259,7 @@ pub record HearsNone (old new : State) : Type 0 where
   pub sent_are : Same old.sent new.sent
   pub lost : old.failures < new.failures
 
--- or the turn of the datagram that came was not done whole.
+-- the turn of the received datagram was not done whole
 pub record FailsIt (s now : ℕ) (old new : State) (fault : ServeFault) : Type 0 where
   pub datagram : List ℕ
   pub heard : State

@@ -1,4 +1,4 @@
--- Steps that are made one after the other, each by its number, from 0.
+-- Steps made one after the other, each by its number, from 0.
 use Rattle.std.specs.Prelude.{◌≡◌, ◌<◌, ℕ, zero, suc}
 
 -- so many steps were made, from the first state to the second
@@ -6,7 +6,7 @@ abbrev pub Each : {S : Type 0} (Step : ℕ → S → S → Type 0) → (count : 
 Each {S} Step zero old new = new ≡ old
 Each {S} Step (suc n) old new = (mid : S) × Each Step n old mid × Step n mid new
 
--- OF SO MANY STEPS one was not made, which left what it left; those before it were made
+-- ONE OF SO MANY STEPS failed, with its own effect; those before it were made
 pub record Stops {S : Type 0} (Step Fails : ℕ → S → S → Type 0) (count : ℕ) (old new : S) : Type 0 where
   pub number : ℕ
   pub within : number < count

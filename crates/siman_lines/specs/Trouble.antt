@@ -1,4 +1,4 @@
--- What a line says of its last call that failed (profile).
+-- Description of a link's last failed call (profile).
 use Rattle.std.specs.Prelude.{ℕ, List, [], ◌++◌, codes, decimal, slice_index, Option, Some, None}
 use Rattle.std.specs.declared.io.ErrorKind.{ErrorKind}
 use Rattle.std.specs.declared.io.ErrorKind.TheVariants as kinds
@@ -9,7 +9,7 @@ use Rattle.siman_lines.specs.declared.trouble.LineCall.{LineCall}
 use Rattle.siman_lines.specs.declared.trouble.LineCall.TheVariants as calls
 use Rattle.siman_lines.specs.declared.trouble.LineTrouble.{LineTrouble}
 
--- what the system says of a call that failed
+-- the system's reason for a failed call, in words
 abbrev pub system_words : ErrorKind → List ℕ
 system_words kinds.NotFound = codes "no such file or folder"
 system_words kinds.PermissionDenied = codes "permission denied"
@@ -38,11 +38,11 @@ system_words kinds.Unsupported = codes "not possible here"
 system_words kinds.OutOfMemory = codes "no memory left"
 system_words _ = codes "failed"
 
--- a number behind a text
+-- a text and a number
 abbrev pub behind : List ℕ → ℕ → List ℕ
 behind text n = text ++ decimal n
 
--- an address of IP version 4, and a port
+-- an IPv4 address and a port
 abbrev pub ip_text : List ℕ → (port : ℕ) → List ℕ
 ip_text o port =
     behind [] (slice_index o 0) ++ (behind (codes ".") (slice_index o 1) ++ (behind (codes ".") (slice_index o 2) ++ (behind (codes ".") (slice_index o 3) ++ behind (codes ":") port)))
@@ -58,11 +58,11 @@ abbrev pub way_words : LineCall → List ℕ
 way_words calls.Send = codes " to "
 way_words calls.Receive = codes " from "
 
--- where it was to go, if that is told
+-- the peer of a call, if it is known
 abbrev pub peer_text : LineCall → Option SocketAddrV4 → List ℕ
 peer_text call None = []
 peer_text call (Some peer) = way_words call ++ address_text peer
 
--- WHAT IS TOLD OF A CALL THAT FAILED: which it was, and what the system says
+-- THE DESCRIPTION OF A FAILED CALL: which it was, and the system's reason
 abbrev pub line_trouble_text : LineTrouble → List ℕ
 line_trouble_text t = (call_words t.call ++ peer_text t.call t.peer) ++ (codes ": " ++ system_words t.kind)

@@ -1,4 +1,4 @@
-//! What stations at their lines left out.
+//! What stations at their links left out.
 
 ghost use Rattle.std.specs.Prelude.{◌≡◌};
 ghost use Rattle.siman_lines.specs.LeftOut.{is_nothing, left_out_by};
@@ -6,19 +6,19 @@ ghost use Rattle.siman_lines.specs.LeftOut.{is_nothing, left_out_by};
 use crate::line::Line;
 use crate::station_at_line::StationAtLine;
 
-/// What stations left out, all together.
+/// Counts of what stations left out, all together.
 #[derive(Clone, Copy)]
 pub struct LeftOut {
-    /// The stations at which something may be left to serve.
+    /// Number of stations that may have something left to serve.
     pub busy: usize,
-    /// The datagrams of over 8192 bytes that they dropped; the most of 64 bits stands for more.
+    /// Datagrams of over 8192 bytes that they dropped; saturates at the greatest `u64`.
     pub dropped: u64,
-    /// The datagrams from elsewhere than their peers that their lines passed over; likewise.
+    /// Datagrams from strangers that their links passed over; saturates likewise.
     pub strangers: u64,
 }
 
 impl LeftOut {
-    /// Whether nothing is.
+    /// Whether nothing was left out.
     pub fn is_nothing(self) -> bool
         ensures { result ≡ is_nothing self }
     {
@@ -26,7 +26,7 @@ impl LeftOut {
     }
 }
 
-/// What stations at their lines left out, all together.
+/// Counts of what stations at their links left out, all together.
 pub fn left_out<L: Line + Drop>(stations: &[StationAtLine<L>]) -> LeftOut
     ensures { result ≡ left_out_by L.strangers stations.now }
 {

@@ -1,5 +1,10 @@
-//! Lines, and stations that serve them: the datagrams that a station receives are recorded, taken
-//! and answered, and what it sends was recorded before.
+//! Links, and stations that serve them: a station records, takes and answers the datagrams that it
+//! receives through its link, and records every datagram before it sends it.
+//! A call never waits, no clock is read, and nothing is sent that is not recorded; the caller
+//! passes in the links, the recorder and the time.
+//! The contract for the layer above: what each call records, sends and changes (`ServeEnds`,
+//! `IssueEnds`, `NudgeEnds`, `RoundsEnd`), that calls preserve the invariant of their stations
+//! (`Keeps`, `Follows`), and that their entries are a run ([`calls_make_a_run`]).
 #![tactic(auto)]
 
 mod fault;

@@ -1,4 +1,4 @@
-//! What a line is.
+//! The trait of a link.
 
 ghost use Rattle.std.specs.Prelude.{◌≡◌, ℕ, ◌<◌, List, Option, None, Result, ⊤, IfOk, OnOk, OnErr, MatchOption};
 ghost use Rattle.siman_lines.specs.LineDatagrams.{Grows, Hands, MayGrow, Same};
@@ -6,41 +6,42 @@ ghost use Rattle.siman_lines.specs.LineDatagrams.{Grows, Hands, MayGrow, Same};
 use crate::trouble::LineTrouble;
 use thiserror::Error;
 
-/// A call of a line that failed.
+/// A failed call of a link.
 #[derive(Clone, Copy, Debug, PartialEq, Eq, Error)]
 pub enum LineFault {
-    /// What was to be sent may have gone out or not; nothing was received.
+    /// The datagram of a send may have been sent or not; a receive returned nothing.
     #[error("the line failed")]
     Failed,
 }
 
-/// The end of a network at one station: it carries datagrams, and promises nothing of them. A call
-/// never waits.
+/// A link: the end of a network at one station. It carries datagrams without any promise of
+/// delivery, and a call never waits.
 pub trait Line {
     ghost use Rattle.siman_lines.specs.declared.line.LineFault.{LineFault};
 
-    // The datagrams that it handed out, the oldest first, where the line tells them.
+    // Datagrams that it returned from receives, oldest first, if links of this kind specify them.
     ghost received: { Self → Option (List (List ℕ)) } = { λ _. None };
 
-    // The datagrams that it was handed, the oldest first, where the line tells them.
+    // Datagrams passed to its sends, oldest first, if links of this kind specify them.
     ghost sent: { Self → Option (List (List ℕ)) } = { λ _. None };
 
-    // How many calls failed.
+    // Number of failed calls.
     ghost failures: { Self → ℕ };
 
-    // From the first state to the second a receive found nothing.
+    // Relation between the states before and after a receive that found nothing.
     ghost finds_nothing: { Self → Self → Type 0 };
 
-    // How many datagrams that came from elsewhere than its peers it passed over.
+    // Number of datagrams from strangers that it passed over.
     ghost strangers: { Self → ℕ };
 
-    // What lines of its kind say, beside what all lines do, of a send of this datagram from the first state to the second, with this answer.
+    // What links of this kind promise of a send beyond the contract of all links, given the
+    // datagram, the states before and after, and the result.
     ghost sends: { List ℕ → Self → Self → Result (Unit {0}) LineFault → Type 0 } = { λ _ _ _ _. ⊤ };
 
-    // The same of a receive.
+    // What links of this kind promise of a receive beyond the contract of all links.
     ghost receives: { Self → Self → Result (Option ℕ) LineFault → Type 0 } = { λ _ _ _. ⊤ };
 
-    /// Sends a datagram. After a fault it may have gone out or not.
+    /// Sends a datagram. After a fault it may have been sent or not.
     fn send(&mut self, datagram: &[u8]) -> Result<(), LineFault>
         ensures sent { OnOk result (Grows (sent self.old) (sent self.new) datagram.now) }
         ensures lost { OnErr result (MayGrow (sent self.old) (sent self.new) datagram.now) }
@@ -49,8 +50,8 @@ pub trait Line {
         ensures worked { OnOk result (failures self.new ≡ failures self.old) }
         ensures failed { OnErr result (failures self.old < failures self.new) };
 
-    /// Puts the next datagram that came at the front of the buffer, and answers how many bytes of it
-    /// that are: a longer datagram is cut. `None`: nothing is there.
+    /// Receives the next datagram into the front of the buffer, cut to the size of the buffer, and
+    /// returns how many bytes it wrote there. `None` if no datagram is waiting.
     fn receive(&mut self, buffer: &mut [u8]) -> Result<Option<usize>, LineFault>
         ensures within { IfOk result (λ r. MatchOption r
             (Same (received self.old) (received self.new))
@@ -62,12 +63,12 @@ pub trait Line {
         ensures worked { OnOk result (failures self.new ≡ failures self.old) }
         ensures failed { OnErr result (failures self.old < failures self.new) };
 
-    /// How many datagrams that came from elsewhere than its peers it passed over so far; where its
-    /// count is at its most, it stays there.
+    /// Number of datagrams from strangers, who are no peers, that it passed over so far; saturates
+    /// at the greatest `u64`.
     fn strangers(&self) -> u64
         ensures { result ≡ strangers self.now };
 
-    /// The last call that failed, if one did and the line tells it.
+    /// The last failed call, if there was any and the link records it.
     fn trouble(&self) -> Option<LineTrouble> {
         None
     }

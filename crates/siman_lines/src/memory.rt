@@ -1,10 +1,10 @@
-//! A line over memory, which fails at a call of the test's choice.
+//! A link in memory, with one failing call that the test chooses.
 
 use crate::line::{Line, LineFault};
 use http_server::Log;
 use std::alloc::Global;
 
-/// What comes, what was sent, and which call fails.
+/// A link in memory: datagrams to receive, datagrams sent, and which call fails.
 #[derive(Drop)]
 pub struct MemoryLine {
     coming: Vec<Vec<u8>>,
@@ -19,9 +19,10 @@ impl MemoryLine {
     ghost use Rattle.std.specs.Prelude.{◌≡◌, ◌+◌, length};
     ghost use Rattle.siman_lines.specs.Memory.{SameDatagrams, IsMade, Counts, bytes_of, is_chosen};
 
-    /// A line that hands out `coming`, in this order. Of its calls, counted from 1, sends and receives
-    /// together, the one whose number is `fails_at` fails and moves no datagram; a call after more than
-    /// 2^64 - 1 others has no number. A send whose growth is refused fails too.
+    /// Makes a link that returns the datagrams of `coming`, in this order. Of its calls, counted
+    /// from 1, sends and receives together, the one whose number is `fails_at` fails and moves no
+    /// datagram; a call after more than 2^64 - 1 others has no number. A send also fails if memory
+    /// for the datagram is refused.
     pub fn new(alloc: Global, coming: Vec<Vec<u8>>, fails_at: Option<u64>) -> MemoryLine
         ensures { IsMade (bytes_of coming.items) fails_at result }
     {
@@ -35,7 +36,7 @@ impl MemoryLine {
         }
     }
 
-    /// The datagrams that it was handed, oldest first.
+    /// Datagrams that it has sent, oldest first.
     pub fn sent(&self) -> &[Vec<u8>]
         ensures { result.now ≡ self.now.sent.items }
     {
@@ -52,7 +53,7 @@ impl MemoryLine {
         LineFault::Failed
     }
 
-    // Counts the call, and says whether it is the one that fails.
+    // Counts the call, and returns whether it is the one that fails.
     fn is_failing(&mut self) -> bool
         ensures same { SameDatagrams self.old self.new }
         ensures failures { self.new.failures ≡ self.old.failures }
@@ -81,7 +82,7 @@ impl Line for MemoryLine {
 
     ghost finds_nothing = { FoundNothing };
 
-    // Nothing comes from elsewhere.
+    // No datagram is from a stranger.
     ghost strangers = { λ _. 0 };
 
     ghost sends = { SendEnds };

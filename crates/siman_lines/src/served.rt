@@ -1,23 +1,23 @@
-//! What a station did in some turns.
+//! Result of some turns of a station.
 
 ghost use Rattle.std.specs.Prelude.{◌≡◌, false, if◌then◌else◌};
 ghost use Rattle.siman_lines.specs.AtLines.{is_busy};
 
-/// What a station did in some turns at its line.
+/// Result of some turns of a station at its link.
 #[derive(Clone, Copy)]
 pub struct Served {
-    /// The datagrams of at most 8192 bytes that it received, recorded and took.
+    /// Datagrams of at most 8192 bytes that it received, recorded and took.
     pub taken: u32,
-    /// The answers that it sent.
+    /// Answers that it sent.
     pub sent: u32,
-    /// The longer datagrams that it received, which it dropped.
+    /// Longer datagrams that it received and dropped.
     pub dropped: u32,
     /// Whether the last receive found nothing.
     pub idle: bool,
 }
 
 impl Served {
-    /// No turn was made.
+    /// Result of no turns.
     pub(crate) fn nothing() -> Served
         ensures { result ≡ record { taken = 0; sent = 0; dropped = 0; idle = false } }
     {
@@ -29,7 +29,7 @@ impl Served {
         }
     }
 
-    /// A datagram was dropped.
+    /// Result of a turn that dropped a datagram.
     pub(crate) fn one_dropped() -> Served
         ensures { result ≡ record { taken = 0; sent = 0; dropped = 1; idle = false } }
     {
@@ -41,7 +41,7 @@ impl Served {
         }
     }
 
-    /// A datagram was taken, and an answer sent, if one was due.
+    /// Result of a turn that took a datagram, and sent an answer if one was due.
     pub(crate) fn one_taken(answered: bool) -> Served
         ensures { result ≡ record { taken = 1; sent = if answered then 1 else 0; dropped = 0; idle = false } }
     {
@@ -53,7 +53,8 @@ impl Served {
         }
     }
 
-    /// Whether something may be left to serve, where its line met a stranger or not.
+    /// Whether something may be left to serve, given whether its link passed over a stranger's
+    /// datagram.
     pub(crate) fn is_busy(self, met: bool) -> bool
         ensures { result ≡ is_busy self met }
     {

@@ -1,5 +1,4 @@
-//! A station at its line: what it does when it is asked to, and the rounds in which stations are
-//! served.
+//! A station at its link: the calls at one station, and the rounds that serve all.
 
 ghost use Rattle.std.specs.Prelude.{◌≡◌, ◌≤◌, ◌⊎◌, ◌^◌, ◌++◌, [], ◌∷◌, None, OnOk, IfOk, IfErr, length};
 ghost use Rattle.siman_stations.specs.Asked.{order_fault, tell_fault};
@@ -19,23 +18,23 @@ use siman_stations::{Node, StationFault};
 use std::alloc::{AllocError, Global};
 use std::io::Write;
 
-/// A station at its line.
+/// A station at its link.
 #[derive(Drop)]
 pub struct StationAtLine<L: Drop> {
     /// Its index, from 0.
     pub index: u16,
-    /// Its halves.
+    /// Its manager and application.
     pub node: Node,
-    /// The line that it has of its own.
+    /// Its own link.
     pub line: L,
-    /// How many datagrams of over 8192 bytes it dropped so far; the most of 64 bits stands for more.
+    /// Datagrams of over 8192 bytes that it dropped so far; saturates at the greatest `u64`.
     pub dropped: u64,
-    /// Whether something may be left to serve since it was served last: it took or dropped a
-    /// datagram, its line passed one over, or its last receive found one.
+    /// Whether something may be left to serve after its last service: it took or dropped a
+    /// datagram, its link passed one over, or its last receive found one.
     pub busy: bool,
 }
 
-/// One more station at its line.
+/// Appends a station at its link.
 fn add_station<L: Line + Drop>(
     stations: &mut Vec<StationAtLine<L>>,
     index: u16,
@@ -54,8 +53,8 @@ fn add_station<L: Line + Drop>(
     Ok(())
 }
 
-/// Stations at their lines, the first at the first. Where there are not as many lines as stations, or
-/// more than 65,536 of them, it is the lines' fault.
+/// Attaches each station to the link of the same index. Fails with Line if there are not as many
+/// links as stations, or more than 65,536 of them.
 pub fn stations_at_lines<L: Line + Drop>(
     alloc: Global,
     nodes: Vec<Node>,
@@ -80,7 +79,7 @@ pub fn stations_at_lines<L: Line + Drop>(
     Ok(stations)
 }
 
-/// A new order is recorded and sent, as by [`issue`].
+/// Records and sends a new order, as [`issue`] does. Refuses an order that is no request.
 pub fn order_at<L: Line + Drop, W: Write>(
     alloc: Global,
     station: &mut StationAtLine<L>,
@@ -96,7 +95,7 @@ pub fn order_at<L: Line + Drop, W: Write>(
         IfErr result (LeavesRefused told station.old recorder.old station.new recorder.new) }
     ensures index { station.new.index ≡ station.old.index }
     ensures counts { KeepsCounts station.old station.new }
-    // What was kept of the station is kept, with a fault too.
+    // The invariant of the station is preserved, with a fault too.
     ensures keeps { Keeps station.old.index station.old.node recorder.old (L.sent station.old.line) station.new.node recorder.new (L.sent station.new.line) }
 {
     if !order.body.is_request() {
@@ -117,7 +116,7 @@ pub fn order_at<L: Line + Drop, W: Write>(
     }
 }
 
-/// The repeat that is due, if one is, is recorded and sent, as by [`nudge`].
+/// Records and sends the repeat that is due, if any, as [`nudge`] does.
 pub fn repeat_at<L: Line + Drop, W: Write>(
     alloc: Global,
     station: &mut StationAtLine<L>,
@@ -129,7 +128,7 @@ pub fn repeat_at<L: Line + Drop, W: Write>(
     ensures fault { IfErr result (Hinders None) }
     ensures index { station.new.index ≡ station.old.index }
     ensures counts { KeepsCounts station.old station.new }
-    // What was kept of the station is kept, with a fault too.
+    // The invariant of the station is preserved, with a fault too.
     ensures keeps { Keeps station.old.index station.old.node recorder.old (L.sent station.old.line) station.new.node recorder.new (L.sent station.new.line) }
 {
     let StationAtLine {
@@ -146,7 +145,7 @@ pub fn repeat_at<L: Line + Drop, W: Write>(
     }
 }
 
-/// The state of an entity is recorded as told, as by [`tell`].
+/// Records the state of an entity as told, as [`tell`] does. Refuses a number that is no entity's.
 pub fn tell_at<L: Line + Drop, W: Write>(
     station: &StationAtLine<L>,
     recorder: &mut RecordingWriter<'_, W>,
@@ -157,7 +156,7 @@ pub fn tell_at<L: Line + Drop, W: Write>(
     ensures fault { IfErr result (Hinders (tell_fault entity)) }
     ensures refused { let told : Telling L = record { received = L.received; sent = L.sent; failures = L.failures; strangers = L.strangers } in
         IfErr result (LeavesRefused told station.now recorder.old station.now recorder.new) }
-    // What was kept of the station is kept, with a fault too.
+    // The invariant of the station is preserved, with a fault too.
     ensures keeps { Keeps station.now.index station.now.node recorder.old (L.sent station.now.line) station.now.node recorder.new (L.sent station.now.line) }
 {
     if !is_entity(entity) {
@@ -169,7 +168,7 @@ pub fn tell_at<L: Line + Drop, W: Write>(
     }
 }
 
-/// Serves a station once, for at most so many receives, as by [`serve`].
+/// Serves a station once, with at most `turns` receives, as [`serve`] does.
 fn serve_at<L: Line + Drop, W: Write>(
     alloc: Global,
     station: &mut StationAtLine<L>,
@@ -202,7 +201,7 @@ fn serve_at<L: Line + Drop, W: Write>(
     }
 }
 
-/// Serves each station once, in their order, for at most so many receives.
+/// Serves each station once, in their order, with at most `turns` receives each.
 fn serve_round<L: Line + Drop, W: Write>(
     alloc: Global,
     stations: &mut Vec<StationAtLine<L>>,
@@ -226,8 +225,8 @@ fn serve_round<L: Line + Drop, W: Write>(
     Ok(())
 }
 
-/// Serves stations in so many rounds: in each of them each station once, in their order, for at most
-/// so many receives, as by [`serve`].
+/// Serves stations in `rounds` rounds, in each of them every station once, in their order, with at
+/// most `turns` receives each, as [`serve`] does.
 pub fn serve_rounds<L: Line + Drop, W: Write>(
     alloc: Global,
     stations: &mut Vec<StationAtLine<L>>,
@@ -241,7 +240,7 @@ pub fn serve_rounds<L: Line + Drop, W: Write>(
         let new : AtLines L = record { stations = stations.new.items; recorder = recorder.new } in
         RoundsEnd told now rounds turns old new result }
     ensures fault { IfErr result (Hinders None) }
-    // It is as calls at these stations leave it, with a fault too.
+    // All that changed follows from calls at these stations, with a fault too.
     ensures follows { let told : Telling L = record { received = L.received; sent = L.sent; failures = L.failures; strangers = L.strangers } in
         let old : AtLines L = record { stations = stations.old.items; recorder = recorder.old } in
         let new : AtLines L = record { stations = stations.new.items; recorder = recorder.new } in

@@ -1,4 +1,4 @@
-//! What a line says of its last call that failed.
+//! Description of a link's last failed call.
 
 ghost use Rattle.std.specs.Prelude.{◌≡◌, ◌++◌, codes};
 ghost use Rattle.byte_files.specs.Writing.{Writes};
@@ -9,24 +9,24 @@ use itoa::Buffer;
 use std::io::{ErrorKind, Write};
 use std::net::SocketAddrV4;
 
-/// A call of a line.
+/// A kind of call of a link.
 #[derive(Clone, Copy, PartialEq, Eq)]
 pub enum LineCall {
     Send,
     Receive,
 }
 
-/// A call of a line that failed.
+/// A failed call of a link.
 #[derive(Clone, Copy)]
 pub struct LineTrouble {
     pub call: LineCall,
-    /// Where the datagram was to go, if that is known and an address of IP version 4.
+    /// Destination of the datagram, if it is known and an IPv4 address.
     pub peer: Option<SocketAddrV4>,
-    /// What sort of failure it was.
+    /// Kind of error.
     pub kind: ErrorKind,
 }
 
-/// What the system says of a call that failed.
+/// The system's reason for a failed call, in words.
 pub fn system_words(kind: ErrorKind) -> &'static str
     ensures { result.now ≡ system_words kind }
 {
@@ -58,7 +58,7 @@ pub fn system_words(kind: ErrorKind) -> &'static str
     }
 }
 
-/// Writes a number behind a text.
+/// Writes a text and a number.
 fn put_behind<W: Write>(writer: &mut W, text: &str, number: u16) -> Result<(), WriteFailed>
     ensures { Writes result (W.contents writer.old) (W.contents writer.new) (behind text.now number) }
 {
@@ -66,7 +66,7 @@ fn put_behind<W: Write>(writer: &mut W, text: &str, number: u16) -> Result<(), W
     put_both(writer, text.as_bytes(), buffer.format(number).as_bytes())
 }
 
-/// Writes the end of an address from the last octet on.
+/// Writes an address from its last octet on, with the port.
 fn put_port<W: Write>(writer: &mut W, last: u8, port: u16) -> Result<(), WriteFailed>
     ensures { Writes result (W.contents writer.old) (W.contents writer.new) (behind (codes ".") last ++ behind (codes ":") port) }
 {
@@ -74,7 +74,7 @@ fn put_port<W: Write>(writer: &mut W, last: u8, port: u16) -> Result<(), WriteFa
     put_behind(writer, ":", port)
 }
 
-/// Writes the end of an address from the third octet on.
+/// Writes an address from its third octet on, with the port.
 fn put_third<W: Write>(writer: &mut W, third: u8, last: u8, port: u16) -> Result<(), WriteFailed>
     ensures { Writes result (W.contents writer.old) (W.contents writer.new) (behind (codes ".") third ++ (behind (codes ".") last ++ behind (codes ":") port)) }
 {
@@ -82,7 +82,7 @@ fn put_third<W: Write>(writer: &mut W, third: u8, last: u8, port: u16) -> Result
     put_port(writer, last, port)
 }
 
-/// Writes the end of an address from the second octet on.
+/// Writes an address from its second octet on, with the port.
 fn put_second<W: Write>(
     writer: &mut W,
     second: u8,
@@ -96,7 +96,7 @@ fn put_second<W: Write>(
     put_third(writer, third, last, port)
 }
 
-/// Writes the octets of an address, and a port.
+/// Writes the octets of an address, and its port.
 fn put_ip<W: Write>(writer: &mut W, octets: [u8; 4], port: u16) -> Result<(), WriteFailed>
     ensures { Writes result (W.contents writer.old) (W.contents writer.new) (ip_text octets port) }
 {
@@ -130,7 +130,7 @@ fn way_words(call: LineCall) -> &'static str
     }
 }
 
-/// Writes where a datagram of a call was to go.
+/// Writes the peer of a call.
 fn put_way<W: Write>(writer: &mut W, call: LineCall, peer: SocketAddrV4) -> Result<(), WriteFailed>
     ensures { Writes result (W.contents writer.old) (W.contents writer.new) (way_words call ++ address_text peer) }
 {
@@ -138,7 +138,7 @@ fn put_way<W: Write>(writer: &mut W, call: LineCall, peer: SocketAddrV4) -> Resu
     put_address(writer, peer)
 }
 
-/// Writes where a datagram of a call was to go, if that is known.
+/// Writes the peer of a call, if it is known.
 fn put_peer<W: Write>(
     writer: &mut W,
     call: LineCall,
@@ -152,7 +152,7 @@ fn put_peer<W: Write>(
     }
 }
 
-/// Writes which call it was.
+/// Writes which call it was, and its peer, if it is known.
 fn put_call<W: Write>(
     writer: &mut W,
     call: LineCall,
@@ -164,7 +164,7 @@ fn put_call<W: Write>(
     put_peer(writer, call, peer)
 }
 
-/// Writes which call of a line failed and what the system says of it, without a line end.
+/// Writes which call of a link failed and the system's reason, without a line end.
 pub fn put_line_trouble<W: Write>(writer: &mut W, trouble: LineTrouble) -> Result<(), WriteFailed>
     ensures { Writes result (W.contents writer.old) (W.contents writer.new) (line_trouble_text trouble) }
 {

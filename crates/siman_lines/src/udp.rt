@@ -1,4 +1,4 @@
-//! A line over UDP.
+//! A link over UDP.
 
 ghost use Rattle.std.specs.Prelude.{◌≡◌, None, IfSome};
 ghost use Rattle.siman_lines.specs.Udp.{v4_of};
@@ -9,11 +9,11 @@ use http_server::Log;
 use std::io::ErrorKind;
 use std::net::{SocketAddr, SocketAddrV4, UdpSocket};
 
-/// How many datagrams from elsewhere one receive passes over at most.
+/// Most datagrams from strangers that one receive passes over.
 const MOST_STRANGERS: u32 = 64;
 
-/// A socket whose receives never wait, and its peers: each datagram goes to each of them, and what
-/// comes from elsewhere is passed over, unless the line hears anyone.
+/// A link over a socket whose receives never wait. Each datagram goes to every peer, and datagrams
+/// from strangers are passed over, unless the link accepts datagrams from anyone.
 #[derive(Drop)]
 pub struct UdpLine {
     socket: UdpSocket,
@@ -27,9 +27,9 @@ pub struct UdpLine {
 impl UdpLine {
     ghost use Rattle.std.specs.Prelude.{◌≡◌, ◌+◌, length, true, false, IfOk, Some};
 
-    /// A line over the socket, which is set so that a receive does not wait. It sends to each of
-    /// these peers, in their order, and hands on what comes from them alone. One receive passes over
-    /// at most 64 datagrams from elsewhere, and then finds nothing.
+    /// Makes a link over the socket, which it sets to nonblocking. The link sends to each of these
+    /// peers, in their order, and returns datagrams from them alone. One receive passes over at
+    /// most 64 datagrams from strangers, and then finds nothing.
     pub fn over(socket: UdpSocket, peers: Vec<SocketAddr>) -> Result<UdpLine, LineFault>
         ensures peers { IfOk result (λ l. l.peers ≡ peers) }
         ensures anyone { IfOk result (λ l. l.anyone ≡ false) }
@@ -38,8 +38,8 @@ impl UdpLine {
         UdpLine::open(socket, peers, false)
     }
 
-    /// A line over the socket, as by [`over`](UdpLine::over), which hands on what comes from anyone:
-    /// nobody is a stranger to it.
+    /// Makes a link over the socket, as [`over`](UdpLine::over) does, that returns datagrams from
+    /// anyone: it counts nobody as a stranger.
     pub fn hearing_anyone(socket: UdpSocket, peers: Vec<SocketAddr>) -> Result<UdpLine, LineFault>
         ensures peers { IfOk result (λ l. l.peers ≡ peers) }
         ensures anyone { IfOk result (λ l. l.anyone ≡ true) }
@@ -66,7 +66,7 @@ impl UdpLine {
         })
     }
 
-    /// Counts a call that failed, and keeps what it was.
+    /// Counts a failed call, and stores which it was.
     fn fail(&mut self, trouble: LineTrouble) -> LineFault
         ensures counted { length self.new.failures.items ≡ length self.old.failures.items + 1 }
         ensures peers { self.new.peers ≡ self.old.peers }
@@ -80,7 +80,7 @@ impl UdpLine {
     }
 }
 
-/// The address of IP version 4 that this is, if it is one.
+/// The IPv4 address, if it is one.
 fn v4_of(address: SocketAddr) -> Option<SocketAddrV4>
     ensures { result ≡ v4_of address }
 {
@@ -90,7 +90,7 @@ fn v4_of(address: SocketAddr) -> Option<SocketAddrV4>
     }
 }
 
-/// Sends a datagram to a peer; what failed, if that did.
+/// Sends a datagram to a peer. Returns the failure, if it failed.
 fn send_one(socket: &UdpSocket, datagram: &[u8], peer: SocketAddr) -> Option<LineTrouble>
     ensures { IfSome result (λ t. (t.call ≡ LineCall.Send) × (t.peer ≡ v4_of peer)) }
 {
@@ -110,7 +110,7 @@ fn send_one(socket: &UdpSocket, datagram: &[u8], peer: SocketAddr) -> Option<Lin
     })
 }
 
-/// A receive that failed so.
+/// Description of a failed receive.
 fn receive_trouble(kind: ErrorKind) -> LineTrouble
     ensures { result ≡ record { call = LineCall.Receive; peer = None; kind = kind } }
 {

@@ -1,4 +1,4 @@
--- What the calls of a manager answer.
+-- The results of the calls of a manager.
 use Rattle.std.specs.Prelude.{ℕ, Option, Some, None, Result, Ok, Err, List, length}
 use Rattle.siman_pdus.specs.declared.pdu.Pdu.{Pdu}
 use Rattle.siman_manager.specs.declared.fault.OrderFault.{OrderFault}
@@ -7,7 +7,7 @@ use Rattle.siman_manager.specs.declared.order.Order.{Order}
 use Rattle.siman_manager.specs.declared.kept.KeptOrder.{KeptOrder}
 use Rattle.siman_manager.specs.Book.{Book, refusal, with_order, after_tick, after_take}
 
--- the refusal that an error tells: out of memory is none
+-- the refusal that a fault is, if any: lack of memory is none
 abbrev pub told_by : OrderFault → Option OrderFault
 told_by faults.IdsSpent = Some faults.IdsSpent
 told_by faults.TooLong = Some faults.TooLong
@@ -20,7 +20,7 @@ refusal_of b order stamp = refusal b.settings (length b.orders) order stamp
 abbrev pub with_orders : Book → List KeptOrder → Book
 with_orders b orders = record { settings = b.settings; orders = orders }
 
--- the book after a request that was answered so
+-- the book after a request with this result
 abbrev pub book_after : {A : Type 0} → Book → Order → ℕ → ℕ → Result A OrderFault → Book
 book_after b order now stamp (Ok a) = with_orders b (with_order b.settings order now stamp b.orders)
 book_after b order now stamp (Err fault) = b

@@ -7,21 +7,21 @@ use Rattle.siman_pdus.specs.declared.pdu.Pdu.{Pdu}
 use Rattle.siman_manager.specs.Table.{Table, IsNumbered}
 use Rattle.indexmap.specs.IndexMap.{values}
 
--- The order is not due before this time.
+-- the order is not due before this time
 abbrev pub IsQuiet : Settings → ℕ → KeptOrder → Type 0
 IsQuiet s time k = (now : ℕ) → now < time → is_due s now k ≡ false
 
--- No order of a block is due before the block's time, and the blocks have all orders.
+-- no order of a block is due before the block's time, and the blocks have all orders
 pub record AreBlocks (s : Settings) (times : List ℕ) (orders : List KeptOrder) : Type 0 where
   pub quiet : (b time p : ℕ) (k : KeptOrder) → slice_get times b ≡ Some time → slice_get orders p ≡ Some k → 64 * b ≤ p → p < 64 * b + 64 → IsQuiet s time k
   pub have_all : length orders ≤ 64 * length times
   pub last_begun : 64 * length times < length orders + 64
 
--- The order y is due no sooner than x was.
+-- the order y is due no sooner than x was
 abbrev pub IsLater : Settings → (x y : KeptOrder) → Type 0
 IsLater s x y = (time : ℕ) → IsQuiet s time x → IsQuiet s time y
 
--- Each order is due no sooner than it was.
+-- each order is due no sooner than it was
 abbrev pub AreLater : Settings → (old new : List KeptOrder) → Type 0
 AreLater s old new = (p : ℕ) (y : KeptOrder) → slice_get new p ≡ Some y → (x : KeptOrder) × (slice_get old p ≡ Some x) × IsLater s x y
 
@@ -29,11 +29,11 @@ AreLater s old new = (p : ℕ) (y : KeptOrder) → slice_get new p ≡ Some y �
 abbrev pub ticked_from : Settings → ℕ → ℕ → ℕ → List KeptOrder → List KeptOrder
 ticked_from s now stamp place orders = take place orders ++ after_tick s now stamp (drop place orders)
 
--- the PDU that it sends
+-- the PDU that this tick sends
 abbrev pub repeated_from : Settings → ℕ → ℕ → ℕ → List KeptOrder → Option Pdu
 repeated_from s now stamp place orders = repeated s now stamp (drop place orders)
 
--- The tables of a manager are right: each order is under its identifier, and in a block.
+-- the tables of a manager are right: each order is under its identifier, and in a block
 pub record IsRight (s : Settings) (times : List ℕ) (table : Table) : Type 0 where
   pub numbered : IsNumbered s.first_id table
   pub blocks : AreBlocks s times (values table)

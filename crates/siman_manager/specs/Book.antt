@@ -1,4 +1,4 @@
--- What a manager keeps, and one step of it for each call.
+-- The state of a manager, and one step of it for each call.
 use Rattle.std.specs.Prelude.{ℕ, ◌+◌, ◌-◌, ◌^◌, Bool, true, false, ◌&&◌, ◌==◌, nat_le, nat_lt, List, [], ◌∷◌, ◌++◌, length, slice_get, slice_set, find, Option, Some, None, if◌then◌else◌}
 use Rattle.std.specs.Option.{option_map}
 use Rattle.dis_records.specs.declared.header.TheConstants.{LARGEST_DATAGRAM}
@@ -21,14 +21,14 @@ use Rattle.siman_manager.specs.declared.order.Taken.{Taken}
 use Rattle.siman_manager.specs.declared.order.Taken.TheVariants as taken
 use Rattle.siman_manager.specs.declared.settings.Settings.{Settings}
 
--- what a manager was begun with, and its orders in order of making
+-- the configuration of a manager, and its orders in order of making
 pub record Book : Type 0 where
   pub settings : Settings
   pub orders : List KeptOrder
 
 -- Making an order.
 
--- a request's body under this request identifier; the other bodies are none of a manager's
+-- a request's body with this request identifier; a manager makes no other bodies
 abbrev pub numbered : ℕ → Body → Body
 numbered id (CreateEntity request) = CreateEntity id
 numbered id (RemoveEntity request) = RemoveEntity id
@@ -66,7 +66,7 @@ refusal s count order stamp =
     then (if nat_le (pdu_size (order_pdu s (next_id s count) order stamp)) LARGEST_DATAGRAM then None else Some faults.TooLong)
     else Some faults.IdsSpent
 
--- an order as it is made: sent once
+-- a new order: sent once
 abbrev pub new_order : Pdu → ℕ → KeptOrder
 new_order pdu now = record { pdu = pdu; sends = 1; last = now; standing = standings.Waiting }
 
@@ -80,8 +80,8 @@ after_request None s order now stamp orders = with_order s order now stamp order
 
 -- Taking a PDU.
 
--- An Acknowledge settles with the response able (1) or unable (2), an Action Response with a request status other than pending (1), executing (2) and partially complete (3),
--- a Data always.
+-- whether a body settles: an Acknowledge with the response able (1) or unable (2), an Action Response with a
+-- request status other than pending (1), executing (2) and partially complete (3), and a Data always
 abbrev pub settles : Body → Bool
 settles (CreateEntity request) = false
 settles (RemoveEntity request) = false
@@ -105,7 +105,7 @@ taken_after id settling standings.Answered = taken.Repeat id
 taken_after id settling standings.Waiting = if settling then taken.Answered id else taken.Pending id
 taken_after id settling standings.GivenUp = if settling then taken.Answered id else taken.Pending id
 
--- what a PDU means to an order with this identifier
+-- the meaning of a PDU to an order with this identifier
 abbrev pub taken_by : ℕ → Pdu → KeptOrder → Taken
 taken_by id p k = if is_answer_to p k.pdu then taken_after id (settles p.body) k.standing else taken.Foreign
 
@@ -121,7 +121,7 @@ abbrev pub taken_under : Settings → Pdu → List KeptOrder → Option ℕ → 
 taken_under s p orders None = taken.Foreign
 taken_under s p orders (Some id) = taken_by_found id p (order_of s orders id)
 
--- the answer to a PDU that came
+-- the meaning of a received PDU
 abbrev pub taken_as : Settings → Pdu → List KeptOrder → Taken
 taken_as s p orders = if p.exercise == s.exercise then taken_under s p orders (request_id_of p.body) else taken.Foreign
 
@@ -133,7 +133,7 @@ abbrev pub settled_under : Settings → Pdu → List KeptOrder → Option ℕ �
 settled_under s p orders None = orders
 settled_under s p orders (Some id) = settled_if (id - s.first_id) p orders (order_of s orders id)
 
--- the orders after a PDU came
+-- the orders after a PDU was received
 abbrev pub after_take : Settings → Pdu → List KeptOrder → List KeptOrder
 after_take s p orders = if p.exercise == s.exercise then settled_under s p orders (request_id_of p.body) else orders
 
@@ -144,18 +144,19 @@ is_waiting standings.Waiting = true
 is_waiting standings.Answered = false
 is_waiting standings.GivenUp = false
 
--- An order is due where it waits and its last send is at least `wait` ago; a time that went back counts as no time.
+-- an order is due if it waits and its last send is at least `wait` ago; if the clock went backwards, no time has
+-- passed
 abbrev pub is_due : Settings → ℕ → KeptOrder → Bool
 is_due s now k = is_waiting k.standing && nat_le s.wait (now - k.last)
 
--- It is ready where it may be sent once more, too.
+-- an order is ready if it is due and may be sent again
 abbrev pub is_ready : Settings → ℕ → KeptOrder → Bool
 is_ready s now k = is_due s now k && nat_lt k.sends s.tries
 
 abbrev pub with_stamp : ℕ → Pdu → Pdu
 with_stamp stamp p = record p { stamp = stamp }
 
--- an order that is sent once more
+-- an order that is sent again
 abbrev pub resent : ℕ → ℕ → KeptOrder → KeptOrder
 resent now stamp k = record { pdu = with_stamp stamp k.pdu; sends = k.sends + 1; last = now; standing = k.standing }
 
@@ -179,7 +180,7 @@ after_tick s now stamp orders = changed_through (is_ready s now) (looked_at s no
 abbrev pub repeated : Settings → ℕ → ℕ → List KeptOrder → Option Pdu
 repeated s now stamp orders = option_map (λ k. with_stamp stamp k.pdu) (find (is_ready s now) orders)
 
--- What is told.
+-- States.
 
 abbrev pub status_at : OrderStanding → ℕ → OrderStatus
 status_at standings.Waiting sends = statuses.Waiting sends

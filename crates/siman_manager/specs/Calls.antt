@@ -1,4 +1,5 @@
--- Lists of calls, the latest first: what the steps of a manager come to over them, and, beside that, the life of each order, told without any table.
+-- Lists of calls, the latest first: the effect of a manager's steps over them, and, independently, the life of each
+-- order, defined without any table.
 use Rattle.std.specs.Prelude.{◌≡◌, ◌<◌, ◌≤◌, ◌^◌, ℕ, zero, suc, ◌+◌, ◌-◌, Bool, true, false, ◌&&◌, ◌==◌, nat_le, nat_lt, List, [], ◌∷◌, ◌++◌, length, map, Option, Some, None, option_map, option_to_list, IsTrue, if◌then◌else◌}
 use Rattle.dis_records.specs.declared.header.TheConstants.{LARGEST_DATAGRAM}
 use Rattle.dis_records.specs.declared.entity.EntityId.{EntityId}
@@ -15,13 +16,13 @@ use Rattle.siman_manager.specs.declared.order.Order.{Order}
 use Rattle.siman_manager.specs.declared.settings.Settings.{Settings}
 use Rattle.siman_manager.specs.Book.{order_pdu, next_id, refusal, after_request, after_take, after_tick, repeated, settles, is_waiting, gave_up, with_stamp}
 
--- A call; a request that was refused for want of memory is none, since it leaves no trace.
+-- a call; a request that was refused for lack of memory is none, since it has no effect
 pub data Call : Type 0 where
   Requested : (order : Order) (now stamp : ℕ) → Call
   Came : (pdu : Pdu) → Call
   Ticked : (now stamp : ℕ) → Call
 
--- each order asked for is a request
+-- each order of these calls is a request
 abbrev pub AreRequests : List Call → Type 0
 AreRequests [] = Unit {0}
 AreRequests (Requested order now stamp ∷ past) = IsTrue (is_request_body order.body) × AreRequests past
@@ -30,7 +31,7 @@ AreRequests (Ticked now stamp ∷ past) = AreRequests past
 
 -- By the steps.
 
--- the orders that are kept after these calls
+-- the stored orders after these calls
 abbrev pub kept : Settings → List Call → List KeptOrder
 kept s [] = []
 kept s (Requested order now stamp ∷ past) = after_request (refusal s (length (kept s past)) order stamp) s order now stamp (kept s past)
@@ -41,7 +42,7 @@ abbrev pub made_pdu : Option OrderFault → Pdu → List Pdu
 made_pdu (Some fault) p = []
 made_pdu None p = p ∷ []
 
--- the PDUs that these calls gave out, the latest first
+-- the PDUs that these calls returned, the latest first
 abbrev pub given_out : Settings → List Call → List Pdu
 given_out s [] = []
 given_out s (Requested order now stamp ∷ past) =
@@ -62,12 +63,12 @@ count_made s (Requested order now stamp ∷ past) = one_more (refusal s (count_m
 count_made s (Came p ∷ past) = count_made s past
 count_made s (Ticked now stamp ∷ past) = count_made s past
 
--- when and with which timestamp an order was sent
+-- the time and timestamp of a send of an order
 pub record Send : Type 0 where
   pub at : ℕ
   pub stamp : ℕ
 
--- an order: its PDU as it was made, its sends, the latest first, and how it stands
+-- an order: its PDU as it was made, its sends, the latest first, and its state
 pub record Life : Type 0 where
   pub order : Pdu
   pub sends : List Send
@@ -82,11 +83,11 @@ abbrev pub last_stamp : List Send → ℕ
 last_stamp [] = 0
 last_stamp (send ∷ sends) = send.stamp
 
--- It is due where it waits and its last send is at least `wait` ago.
+-- an order is due if it waits and its last send is at least `wait` ago
 abbrev pub is_due_at : Settings → ℕ → Life → Bool
 is_due_at s now l = is_waiting l.standing && nat_le s.wait (now - last_at l.sends)
 
--- It is due, and was sent fewer than `tries` times.
+-- an order is ready if it is due and was sent fewer than `tries` times
 abbrev pub is_ready_at : Settings → ℕ → Life → Bool
 is_ready_at s now l = is_due_at s now l && nat_lt (length l.sends) s.tries
 
@@ -109,7 +110,7 @@ abbrev pub passes : {X : Type 0} → (X → Bool) → Option X → Bool
 passes test None = false
 passes test (Some x) = test x
 
--- A tick that reaches an order that is due sends it, or gives it up where it was sent `tries` times.
+-- a tick that reaches an order that is due sends it, or gives it up if it was sent `tries` times
 abbrev pub life_ticked : Settings → ℕ → ℕ → Life → Life
 life_ticked s now stamp l =
     if is_due_at s now l then (if nat_lt (length l.sends) s.tries then with_send now stamp l else with_standing standings.GivenUp l) else l
@@ -125,13 +126,14 @@ life s [] k = None
 -- the order after n others is the n-th
 life s (Requested order now stamp ∷ past) k =
     life_made (refusal s (count_made s past) order stamp) (order_pdu s (next_id s (count_made s past)) order stamp) now stamp (k == count_made s past) (life s past k)
--- what settles it makes it answered
+-- a PDU that settles it makes it answered
 life s (Came p ∷ past) k = option_map (λ l. if settles_order s l.order p then with_standing standings.Answered l else l) (life s past k)
--- a tick reaches it where no order before it is ready
+-- a tick reaches it if no order before it is ready
 life s (Ticked now stamp ∷ past) k =
     option_map (λ l. if none_before (λ j. passes (is_ready_at s now) (life s past j)) k then life_ticked s now stamp l else l) (life s past k)
 
--- what is kept of an order: its PDU as it was last sent, the number of its sends, the time of the last, and how it stands
+-- the stored order of a life: its PDU as it was last sent, the number of its sends, the time of the last, and its
+-- state
 abbrev pub kept_as : Life → KeptOrder
 kept_as l = record { pdu = with_stamp (last_stamp l.sends) l.order; sends = length l.sends; last = last_at l.sends; standing = l.standing }
 
@@ -140,7 +142,7 @@ abbrev pub sent_as : Option Life → List Pdu
 sent_as None = []
 sent_as (Some l) = map (λ send. with_stamp send.stamp l.order) l.sends
 
--- the PDUs that came since the k-th order was made, the latest first
+-- the PDUs that were received since the k-th order was made, the latest first
 abbrev pub came_since : Settings → List Call → ℕ → List Pdu
 came_since s [] k = []
 came_since s (Requested order now stamp ∷ past) k = came_since s past k
@@ -151,11 +153,12 @@ came_since s (Ticked now stamp ∷ past) k = came_since s past k
 abbrev pub has_id : ℕ → Pdu → Bool
 has_id id p = same_id (request_id_of p.body) (Some id)
 
--- where a manager's PDUs come from: its address, entity number 0
+-- the originator of a manager's PDUs: its address, entity number 0
 abbrev pub manager_id : Settings → EntityId
 manager_id s = record { site = s.address.site; application = s.address.application; entity = 0 }
 
--- The PDU is that of the k-th order: it has the k-th identifier from `first_id` on, is within the length of a datagram, of the exercise, and from the manager.
+-- the PDU is that of the k-th order: it has the k-th identifier from `first_id` on, fits a datagram, is of the
+-- exercise, and from the manager
 pub record IsOrder (s : Settings) (k : ℕ) (p : Pdu) : Type 0 where
   pub id : request_id_of p.body ≡ Some (s.first_id + k)
   pub below : s.first_id + k < 2 ^ 32
@@ -163,11 +166,11 @@ pub record IsOrder (s : Settings) (k : ℕ) (p : Pdu) : Type 0 where
   pub exercise : p.exercise ≡ s.exercise
   pub origin : p.origin ≡ manager_id s
 
--- The PDU has the identifier of one of the first n orders.
+-- the PDU has the identifier of one of the first n orders
 abbrev pub IsOfOrder : Settings → ℕ → Pdu → Type 0
 IsOfOrder s n p = (k : ℕ) × (k < n) × (request_id_of p.body ≡ Some (s.first_id + k))
 
--- The PDU is a send of the order that was first sent as `first`: the same order, from the manager.
+-- the PDU is a send of the order that was first sent as `first`: the same order, from the manager
 pub record IsSendOf (s : Settings) (first p : Pdu) : Type 0 where
   pub same : IsSameOrder p first
   pub origin : p.origin ≡ manager_id s
@@ -185,6 +188,6 @@ abbrev pub count_below : (ℕ → Bool) → ℕ → ℕ
 count_below test zero = 0
 count_below test (suc n) = if test zero then suc (count_below (λ j. test (suc j)) n) else count_below (λ j. test (suc j)) n
 
--- No order is one that the PDU answers.
+-- the PDU answers no order
 abbrev pub AnswersNone : Settings → List Call → Pdu → Type 0
 AnswersNone s past p = (k : ℕ) (l : Life) → life s past k ≡ Some l → is_answer_to p l.order ≡ false

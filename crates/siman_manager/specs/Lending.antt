@@ -1,4 +1,4 @@
--- What a manager is once the PDU that it answered is let go.
+-- The manager after the borrow of the PDU that it returned has ended.
 use Rattle.std.specs.Prelude.{◌≡◌, ℕ, Result}
 use Rattle.std.specs.Borrow.{MutBor, Bor, Fml}
 use Rattle.std.specs.Io.BufRead.{Rests}

@@ -1,4 +1,4 @@
--- The table of the orders: under their identifiers, in order of making.
+-- The table of the orders: by identifier, in order of making.
 use Rattle.std.specs.Prelude.{◌≡◌, ℕ, zero, suc, List, [], ◌∷◌}
 use Rattle.std.specs.declared.hash.FoldHasher.{FoldHasher}
 use Rattle.std.specs.declared.hash.BuildHasherDefault.{BuildHasherDefault}
@@ -13,6 +13,6 @@ abbrev pub numbers_from : ℕ → ℕ → List ℕ
 numbers_from first zero = []
 numbers_from first (suc n) = first ∷ numbers_from (suc first) n
 
--- The identifiers are those from the first on.
+-- the identifiers are those from the first on
 abbrev pub IsNumbered : ℕ → Table → Type 0
 IsNumbered first table = keys table ≡ numbers_from first (index_map_len table)

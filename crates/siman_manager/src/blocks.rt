@@ -1,5 +1,5 @@
-//! When orders are due, kept for each block of 64, so that a tick can pass the blocks of which no
-//! order is due.
+//! Due times for each block of 64 orders, so that a tick can skip a block without an order that is
+//! due.
 
 ghost use Rattle.std.specs.Prelude.{◌≡◌, ◌≤◌, ◌<◌, ◌++◌, ◌-◌, ℕ, List, [], ◌∷◌, length, false, nat_le, slice_get};
 ghost use Rattle.std.specs.Vec.{vec_len, vec_capacity};
@@ -11,10 +11,10 @@ ghost use Rattle.siman_manager.specs.Blocks.{AreBlocks, IsQuiet};
 use crate::kept::{KeptOrder, OrderStanding, OrderTable};
 use crate::settings::Settings;
 
-/// How many orders a block has; the last may have fewer.
+/// Orders in a block; the last may have fewer.
 pub(crate) const BLOCK: usize = 64;
 
-/// When an order that was last sent then is due, at the soonest.
+/// A time before which an order is not due, given the time of its last sending.
 fn next_due(last: u64, wait: u64) -> u64
     ensures { (now : ℕ) → now < result → nat_le wait (now - last) ≡ false }
 {

@@ -6,11 +6,11 @@ ghost use Rattle.siman_manager.specs.declared.fault.OrderFault.TheVariants.{Memo
 use std::alloc::{AllocError, AllocFailed};
 use thiserror::Error;
 
-/// Why an order was not made: the first of these that holds. After each of them the manager is as
-/// it was, no identifier is used up, and the order is dropped.
+/// Why an order was not made: the first of these that holds. After each of them the manager is
+/// unchanged, no identifier is used up, and the order is dropped.
 #[derive(Clone, Copy, Debug, PartialEq, Eq, Error)]
 pub enum OrderFault {
-    /// No request identifier is left: 0xFFFFFFFF was given out.
+    /// No request identifier is left: 0xFFFFFFFF is in use.
     #[error("ids-spent")]
     IdsSpent,
     /// Its PDU would have more than 8192 bytes.

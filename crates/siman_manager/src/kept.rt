@@ -1,4 +1,4 @@
-//! What is kept of each order.
+//! Table of the orders of a manager.
 
 ghost use Rattle.std.specs.Prelude.{◌≡◌, count_by};
 ghost use Rattle.indexmap.specs.IndexMap.{values};
@@ -23,7 +23,7 @@ pub(crate) struct KeptOrder {
     pub pdu: Pdu,
     /// How often it was sent.
     pub sends: u32,
-    /// When it was last sent.
+    /// Time of its last sending.
     pub last: u64,
     pub standing: OrderStanding,
 }
@@ -49,7 +49,7 @@ impl KeptOrder {
     }
 }
 
-/// The orders under their identifiers, in order of making.
+/// Orders by identifier, in order of making.
 pub(crate) type OrderTable = IndexMap<u32, KeptOrder>;
 
 pub(crate) fn count_given_up(orders: &OrderTable) -> usize

@@ -1,10 +1,11 @@
-//! The manager half of a station: it makes orders (requests of IEEE 1278.1-2012, 5.6), repeats each
-//! until it is answered or was sent as often as is allowed, and tells which answer settled which.
-//!
-//! It is a machine without a clock and without a line: the time, the timestamps and the PDUs that
-//! came are arguments, and what is to go out is an answer. The layers above rest on the contracts
-//! of [`Manager`], each one step of the definitions in `specs/Book.antt`, and on
-//! [`orders_are_kept`], which says what these steps come to over every list of calls.
+//! The manager of a station: it makes orders (requests of IEEE 1278.1-2012, 5.6), repeats each
+//! until it is answered or was sent as often as is allowed, and says which answer settled which
+//! order.
+//! The crate reads no clock and sends nothing: the time, the timestamps and the received PDUs are
+//! arguments, and a PDU to send is returned.
+//! The contract for the layer above: [`Manager`], each of whose calls is one step of the
+//! definitions in `specs/Book.antt`, and [`orders_are_kept`], the effect of these steps over every
+//! list of calls.
 #![tactic(auto)]
 
 mod blocks;

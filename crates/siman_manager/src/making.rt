@@ -1,4 +1,4 @@
-//! Orders as they are made.
+//! Making of orders.
 
 ghost use Rattle.std.specs.Prelude.{◌≡◌, ◌+◌, ◌<◌, ◌^◌, OnOk, IfOk, OnErr, IfErr, IfSome, None, Some, Err};
 ghost use Rattle.std.specs.Option.{SomeIff};
@@ -15,7 +15,7 @@ use crate::settings::Settings;
 use dis_records::{EntityId, Version};
 use siman_pdus::{Body, Pdu, encoded_size};
 
-/// A request's body under this request identifier.
+/// A request's body with this request identifier.
 fn numbered(body: Body, id: u32) -> Body
     ensures { result ≡ numbered id body }
 {
@@ -75,7 +75,7 @@ fn order_pdu(settings: &Settings, id: u32, order: Order, stamp: u32) -> Pdu
     }
 }
 
-/// The identifier of the next order after so many, if one is left.
+/// Identifier of the next order after `count` orders, if one is left.
 fn next_id(settings: &Settings, count: usize) -> Option<u32>
     ensures { SomeIff result (next_id settings.now count < 2 ^ 32) (next_id settings.now count) }
 {
@@ -85,7 +85,7 @@ fn next_id(settings: &Settings, count: usize) -> Option<u32>
     Some(settings.first_id + count as u32)
 }
 
-/// Makes an order, which goes last. Its identifier.
+/// Makes an order, and appends it. Returns its identifier.
 pub(crate) fn make(
     orders: &mut OrderTable,
     times: &mut Vec<u64>,

@@ -1,4 +1,4 @@
-//! The manager half of a station.
+//! The manager of a station.
 
 ghost use Rattle.std.specs.Prelude.{◌≡◌, ◌≤◌, ◌<◌, [], length, IfOk, IfErr, IfSome, None, Some, Err, IsTrue, MatchOption, slice_get, count_by};
 ghost use Rattle.std.specs.Option.{option_map, option_copied};
@@ -20,22 +20,21 @@ use siman_pdus::Pdu;
 use std::alloc::Global;
 use std::marker::Model;
 
-/// The manager half of a station: the orders that it made, each of which it repeats until it is
-/// answered or given up. Contracts see it as what it was begun with and its orders, in order of
-/// making.
+/// The manager of a station: the orders that it made, each of which it repeats until it is answered
+/// or given up. Contracts see it as its configuration and its orders, in order of making.
 ///
 /// Only [`request`](Manager::request) takes memory. [`take`](Manager::take) and
 /// [`status`](Manager::status) look one order up by its identifier. [`tick`](Manager::tick) looks
-/// at orders in blocks of 64, and passes a block in one step until one of its orders is due.
+/// at orders in blocks of 64, and skips a block in one step until one of its orders is due.
 /// [`given_up`](Manager::given_up) goes through all orders.
 pub struct Manager {
     settings: Settings,
     orders: OrderTable,
-    /// Of each block of orders, a time before which none of them is due.
+    /// For each block of orders, a time before which none of them is due.
     times: Vec<u64>,
 }
 
-// Not derived: who drops it makes one call, and does not take its tables apart by himself.
+// Not derived: a caller that drops it makes one call, and does not drop each table.
 impl Drop for Manager {
     fn drop(self) {
         let Manager {
@@ -61,8 +60,8 @@ impl Model for Manager {
 
 impl Manager {
     /// A manager without orders, for an exercise and at an address. Its orders get the request
-    /// identifiers from `first_id` on; each is sent `tries` times at most, a repeat no sooner than
-    /// `wait` after the send before it, in the units of `now`.
+    /// identifiers from `first_id` on; each is sent at most `tries` times, a repeat no sooner than
+    /// `wait` after the previous sending, in the units of `now`.
     pub fn begin(
         alloc: Global,
         exercise: u8,
@@ -88,15 +87,15 @@ impl Manager {
         }
     }
 
-    /// Makes an order at a time, and with a timestamp: its request identifier, and its PDU, which
-    /// is to go out: version 7, the exercise, status 0, from the manager's address with entity
-    /// number 0. After a fault the manager is as it was, and the order is dropped.
+    /// Makes an order at a time, and with a timestamp. Returns its request identifier and its PDU,
+    /// which is to be sent: version 7, the exercise, status 0, from the manager's address with
+    /// entity number 0. After a fault the manager is unchanged, and the order is dropped.
     pub fn request(&mut self, order: Order, now: u64, stamp: u32) -> Result<(u32, &Pdu), OrderFault>
         requires { IsTrue (is_request_body order.body) }
         ensures* ends { sem 𝓛 (EndsRequested self.entry order now stamp result) }
-        // A refusal is answered,
+        // A refusal is returned,
         ensures refused { IfSome (refusal_of self.old order stamp) (λ fault. result ≡ Err fault) }
-        // and no other than that, but for want of memory.
+        // and no fault but that or lack of memory.
         ensures only { IfErr result (λ fault. refusal_of self.old order stamp ≡ told_by fault) }
         ensures id { IfOk result (λ made. made.0 ≡ next_id self.old.settings (length self.old.orders)) }
         ensures pdu { IfOk result (λ made.
@@ -123,10 +122,10 @@ impl Manager {
         )
     }
 
-    /// Looks for an order that is to be sent once more, at a time and with a timestamp: the first,
-    /// in order of making, that waits, was last sent at least `wait` ago and was sent fewer than
-    /// `tries` times. Its PDU, which is to go out. Those before it that are due and were sent
-    /// `tries` times are given up.
+    /// Looks for an order that is to be sent again, at a time and with a timestamp: the first, in
+    /// order of making, that waits, was last sent at least `wait` ago and was sent fewer than
+    /// `tries` times. Returns its PDU, which is to be sent. Gives up those before it that are due
+    /// and were sent `tries` times.
     pub fn tick(&mut self, now: u64, stamp: u32) -> Option<&Pdu>
         ensures* ends { sem 𝓛 (EndsTicked self.entry now stamp) }
         ensures pdu { option_copied result ≡ repeated self.old.settings now stamp self.old.orders }
@@ -150,9 +149,9 @@ impl Manager {
         )
     }
 
-    /// Takes a PDU that came. Only a PDU that is [`Taken::Answered`] changes anything: its order
-    /// is answered then, also one that was given up. The first answer that settles an order to
-    /// several stations settles it.
+    /// Takes a received PDU. Only a PDU that is [`Taken::Answered`] changes anything: its order is
+    /// answered then, also one that was given up. The first answer that settles an order to several
+    /// stations settles it.
     pub fn take(&mut self, pdu: &Pdu) -> Taken
         ensures answer { result ≡ taken_as self.old.settings pdu.now self.old.orders }
         ensures after { self.new ≡ taken self.old pdu.now }
@@ -160,7 +159,7 @@ impl Manager {
         take(&mut self.orders, &self.settings, pdu)
     }
 
-    /// How the order of this request identifier stands, or `None` where none was made.
+    /// State of the order with this request identifier, or `None` if none was made.
     pub fn status(&self, id: u32) -> Option<OrderStatus>
         ensures { result ≡ option_map status_of (order_of self.now.settings self.now.orders id) }
     {
@@ -168,7 +167,7 @@ impl Manager {
         Some(self.orders[place].status())
     }
 
-    /// How many orders are given up now.
+    /// Number of orders that are given up now.
     pub fn given_up(&self) -> usize
         ensures { result ≡ count_by is_given_up self.now.orders }
     {

@@ -1,30 +1,30 @@
-//! Orders, and what is told of them.
+//! Orders, their states, and the meanings of PDUs to them.
 
 use dis_records::EntityId;
 use siman_pdus::Body;
 
-/// What is to be ordered, and from whom.
+/// An order to be made, and its receiver.
 #[derive(Drop, PartialEq, Eq)]
 pub struct Order {
     /// The receiving identifier: a station, all of a site, or all.
     pub target: EntityId,
-    /// The body of a request. Its request identifier is of no account: the manager puts its own.
+    /// The body of a request. Its request identifier is ignored: the manager assigns its own.
     pub body: Body,
 }
 
-/// How an order stands.
+/// State of an order.
 #[derive(Clone, Copy, PartialEq, Eq)]
 pub enum OrderStatus {
     /// It waits for an answer, and was sent this many times, at least once.
     Waiting(u32),
     /// An answer settled it.
     Answered,
-    /// It was sent as often as is allowed, and no answer came in time. A late answer still settles
-    /// it.
+    /// It was sent as often as is allowed, and no answer was received in time. A late answer still
+    /// settles it.
     GivenUp,
 }
 
-/// What a PDU that came meant to the manager. The number is the order's request identifier.
+/// Meaning of a received PDU to the manager. The number is the order's request identifier.
 #[derive(Clone, Copy, PartialEq, Eq)]
 pub enum Taken {
     /// It is of another exercise, or answers no order of this manager.
@@ -33,6 +33,6 @@ pub enum Taken {
     Repeat(u32),
     /// It settles the order.
     Answered(u32),
-    /// It answers the order and does not settle it: the order goes on as it did.
+    /// It answers the order and does not settle it: the order is unchanged.
     Pending(u32),
 }

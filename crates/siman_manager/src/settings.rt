@@ -1,16 +1,16 @@
-//! What a manager was begun with.
+//! Configuration of a manager.
 
 use dis_records::Address;
 
-/// What stays the same for as long as a manager lives.
+/// Configuration of a manager, which never changes.
 #[derive(Clone, Copy)]
 pub(crate) struct Settings {
     pub exercise: u8,
     pub address: Address,
     /// The request identifier of the first order.
     pub first_id: u32,
-    /// How often an order is sent at most.
+    /// Most sendings of an order.
     pub tries: u32,
-    /// How long after a send an order is due, in the units of `now`.
+    /// Time from the sending of an order until it is due, in the units of `now`.
     pub wait: u64,
 }

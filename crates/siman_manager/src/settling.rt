@@ -32,7 +32,7 @@ fn settles(body: &Body) -> bool
     }
 }
 
-/// What a PDU of the exercise means to an order with this identifier, which it may settle.
+/// Meaning of a PDU of the exercise to the order with this identifier, which it may settle.
 fn judge(kept: &mut KeptOrder, id: u32, pdu: &Pdu) -> Taken
     ensures answer { result ≡ taken_by id pdu.now kept.old }
     ensures after { kept.new ≡ settled pdu.now kept.old }
@@ -57,7 +57,7 @@ fn judge(kept: &mut KeptOrder, id: u32, pdu: &Pdu) -> Taken
     }
 }
 
-/// The place of the order with this identifier.
+/// Index of the order with this identifier, if any.
 pub(crate) fn place_of(orders: &OrderTable, first_id: u32, id: u32) -> Option<usize>
     requires { IsNumbered first_id orders.now }
     ensures { SomeIff result ((first_id ≤ id) × (id < first_id + index_map_len orders.now)) (id - first_id) }
@@ -65,7 +65,7 @@ pub(crate) fn place_of(orders: &OrderTable, first_id: u32, id: u32) -> Option<us
     orders.get_index_of(&id)
 }
 
-/// Takes a PDU that came, by its request identifier.
+/// Takes a received PDU, by its request identifier. Returns its meaning to the manager.
 pub(crate) fn take(orders: &mut OrderTable, settings: &Settings, pdu: &Pdu) -> Taken
     requires { IsNumbered settings.now.first_id orders.old }
     ensures keys { keys orders.new ≡ keys orders.old }

@@ -10,7 +10,7 @@ use crate::blocks::{BLOCK, all_quiet_until};
 use crate::kept::{KeptOrder, OrderStanding, OrderTable};
 use crate::settings::Settings;
 
-/// Looks at one order, which is sent once more, given up, or left. Whether it was sent.
+/// Looks at one order, and sends it again, gives it up, or leaves it. Returns whether it was sent.
 fn look(kept: &mut KeptOrder, settings: &Settings, now: u64, stamp: u32) -> bool
     ensures answer { result ≡ is_ready settings.now now kept.old }
     ensures after { kept.new ≡ looked_at settings.now now stamp kept.old }
@@ -32,7 +32,7 @@ fn look(kept: &mut KeptOrder, settings: &Settings, now: u64, stamp: u32) -> bool
     true
 }
 
-/// Looks in turn at the orders at these places, up to one that is sent. Its place.
+/// Looks at the orders at these places in turn, up to one that is sent. Returns its place.
 fn walk_block(
     orders: &mut OrderTable,
     settings: &Settings,
@@ -62,7 +62,7 @@ fn walk_block(
     None
 }
 
-/// Where the orders of a block end that begins at this place.
+/// End of the block of orders that begins at this place.
 fn end_of(first: usize, count: usize) -> usize
     requires { first ≤ count }
     ensures within { result ≤ count }
@@ -76,8 +76,8 @@ fn end_of(first: usize, count: usize) -> usize
     }
 }
 
-/// Looks at the orders in turn, up to one that is sent. Its place. It passes at once each block of
-/// which no order is due.
+/// Looks at the orders in turn, up to one that is sent. Returns its place. Skips each block without
+/// an order that is due.
 pub(crate) fn walk(
     orders: &mut OrderTable,
     times: &mut Vec<u64>,

@@ -36,18 +36,19 @@ matches_kind (ActionResponse request status datums) kind = is_action_request kin
 matches_kind (DataPdu request datums) kind = asks_for_data kind
 matches_kind body kind = false
 
--- two request identifiers that are there and equal
+-- two request identifiers that exist and are equal
 abbrev pub same_id : Option ℕ → Option ℕ → Bool
 same_id None other = false
 same_id (Some id) None = false
 same_id (Some id) (Some other) = id == other
 
--- two identifiers of the same site and application
+-- two identifiers with equal sites and applications
 abbrev pub same_pair : EntityId → EntityId → Bool
 same_pair i j = (i.site == j.site) && (i.application == j.application)
 
--- p answers the request q: the kinds match; the request identifiers are equal; p goes to the site and application that q came from;
--- q was addressed to the site and application that p comes from; and the entity numbers fit. The originator's entity number of q is not compared.
+-- p answers the request q: the kinds match; the request identifiers are equal; p is for the site and application that
+-- q is from; q is for the site and application that p is from; and the entity numbers fit. The originating entity
+-- number of q is not compared.
 abbrev pub is_answer_to : Pdu → Pdu → Bool
 is_answer_to p q =
     matches_kind p.body (body_kind q.body)

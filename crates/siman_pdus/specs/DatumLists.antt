@@ -1,4 +1,4 @@
--- The datums of a body and the identifiers of a query, apart from memory (IEEE 1278.1-2012, 6.2.18 and 6.2.17).
+-- Datums of a body and identifiers of a query, as plain lists (IEEE 1278.1-2012, 6.2.18 and 6.2.17).
 use Rattle.std.specs.Prelude.{ℕ, Bool, ◌&&◌, ◌==◌, List}
 use Rattle.std.specs.Cmp.Lexicographic.{pointwise}
 use Rattle.dis_records.specs.declared.datum.FixedDatum.{FixedDatum}

@@ -1,4 +1,4 @@
--- What is read of a PDU to say what it does in an exchange: its kind, and what it acknowledges.
+-- Fields of a PDU that decide its role in an exchange: its kind, and the fields of an Acknowledge.
 use Rattle.std.specs.Prelude.{Bool, false, Option, Some, None, if◌then◌else◌}
 use Rattle.dis_records.specs.declared.kind.Kind.{Kind}
 use Rattle.dis_records.specs.declared.kind.Kind.TheVariants as kinds
@@ -10,17 +10,17 @@ use Rattle.siman_pdus.specs.declared.roles.Role.TheVariants as roles
 use Rattle.siman_pdus.specs.Role.{is_acknowledge_flag}
 use Rattle.siman_pdus.specs.Answers.{acknowledges, is_action_request, asks_for_data}
 
--- what an Acknowledge says; nothing for every other kind
+-- the fields of an Acknowledge; none for every other kind
 abbrev pub acknowledgement_of : Body → Option Acknowledgement
 acknowledgement_of (bodies.Acknowledge flag response request) = Some (record { flag = flag; response = response; request = request })
 acknowledgement_of body = None
 
--- the role of an Acknowledge that says this
+-- the role of an Acknowledge with these fields
 abbrev pub acknowledge_role : Option Acknowledgement → Role
 acknowledge_role (Some said) = if is_acknowledge_flag said.flag then roles.Answer else roles.Outside
 acknowledge_role None = roles.Outside
 
--- the role of a PDU of a kind that acknowledges this
+-- the role of a PDU of a kind; `said` has the fields of an Acknowledge
 abbrev pub role_by : Kind → Option Acknowledgement → Role
 role_by kinds.CreateEntity said = roles.Request
 role_by kinds.RemoveEntity said = roles.Request
@@ -39,7 +39,7 @@ abbrev pub acknowledges_by : Option Acknowledgement → Kind → Bool
 acknowledges_by (Some said) kind = acknowledges said.flag kind
 acknowledges_by None kind = false
 
--- a PDU of the first kind, which acknowledges this, answers a request of the second
+-- a PDU of the first kind answers a request of the second; `said` has the fields of an Acknowledge
 abbrev pub matches_by : Kind → Option Acknowledgement → Kind → Bool
 matches_by kinds.Acknowledge said kind = acknowledges_by said kind
 matches_by kinds.ActionResponse said kind = is_action_request kind

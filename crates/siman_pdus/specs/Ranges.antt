@@ -21,7 +21,8 @@ IsTimeInRange t = (t.hour < 2 ^ 32) × (t.past < 2 ^ 32)
 abbrev pub IsFixedInRange : FixedDatum → Type 0
 IsFixedInRange d = (d.id < 2 ^ 32) × (d.value < 2 ^ 32)
 
--- variable datum (6.2.93): identifier and number of bits, of 32 bits each, and a value of so many bits in bytes
+-- variable datum (6.2.93): identifier and number of bits, of 32 bits each, and a value with this number of bits in
+-- bytes
 pub record IsVariableInRange (d : Datum) : Type 0 where
   pub id : d.id < 2 ^ 32
   pub bits : d.bits < 2 ^ 32
@@ -51,7 +52,7 @@ IsBodyInRange (Acknowledge flag response request) = (flag < 2 ^ 16) × (response
 IsBodyInRange (ActionRequest request action datums) = (request < 2 ^ 32) × (action < 2 ^ 32) × AreDatumsInRange datums
 -- request identifier, request status, datums
 IsBodyInRange (ActionResponse request status datums) = (request < 2 ^ 32) × (status < 2 ^ 32) × AreDatumsInRange datums
--- request identifier, time interval, identifiers asked for
+-- request identifier, time interval, queried identifiers
 IsBodyInRange (DataQuery request interval ids) = (request < 2 ^ 32) × (interval < 2 ^ 32) × AreIdsInRange ids
 -- request identifier, datums
 IsBodyInRange (SetData request datums) = (request < 2 ^ 32) × AreDatumsInRange datums

@@ -1,4 +1,4 @@
--- What stands at the offsets of a datagram, and which datagrams are read.
+-- Fields of a datagram by offset, and which datagrams are accepted.
 use Rattle.std.specs.Prelude.{ℕ, ◌-◌, List, length, map, Option, Some, None, Result, Ok, Err, slice_set}
 use Rattle.std.specs.Int.{w8, w16, w32}
 use Rattle.dis_records.specs.declared.kind.Kind.{Kind}
@@ -24,23 +24,23 @@ use Rattle.siman_pdus.specs.declared.views.BodyView.TheVariants as views
 use Rattle.siman_pdus.specs.declared.views.PduView.{PduView}
 use Rattle.siman_pdus.specs.Shape.{body_refusal}
 
--- the datums that are shown, the unused bits of their values zero
+-- the datums of a view, the unused bits of their values zero
 abbrev pub datums_of : ShownDatums → DatumLists
 datums_of d = record { fixed = d.fixed; variable = map canonical d.variable }
 
--- the identifiers that are shown
+-- the identifiers of a view
 abbrev pub ids_of : ShownIds → IdLists
 ids_of d = record { fixed = d.fixed; variable = d.variable }
 
--- the datums whose counts stand at an offset, the unused bits of their values zero
+-- the datums whose two counts are at an offset, the unused bits of their values zero
 abbrev pub datums_at : ℕ → List ℕ → DatumLists
 datums_at counts b = datums_of (shown_datums counts b)
 
--- the identifiers whose counts stand at an offset
+-- the identifiers whose two counts are at an offset
 abbrev pub id_lists_at : ℕ → List ℕ → IdLists
 id_lists_at counts b = ids_of (shown_ids counts b)
 
--- the body of a kind that stands in a datagram, in place
+-- the body of a kind in a datagram, in place
 unfoldable pub shown_body : Kind → List ℕ → BodyView
 shown_body kinds.CreateEntity b = views.CreateEntity (spelled_number w32 24 b)
 shown_body kinds.RemoveEntity b = views.RemoveEntity (spelled_number w32 24 b)
@@ -55,7 +55,7 @@ shown_body kinds.DataPdu b = views.DataPdu (spelled_number w32 24 b) (shown_datu
 shown_body kinds.EventReport b = views.EventReport (spelled_number w32 24 b) (shown_datums 32 b)
 shown_body kinds.Comment b = views.Comment (shown_datums 24 b)
 
--- the body that a view shows
+-- the body of a view
 abbrev pub body_of : BodyView → Body
 body_of (views.CreateEntity request) = CreateEntity request
 body_of (views.RemoveEntity request) = RemoveEntity request
@@ -70,11 +70,11 @@ body_of (views.DataPdu request datums) = DataPdu request (datums_of datums)
 body_of (views.EventReport event datums) = EventReport event (datums_of datums)
 body_of (views.Comment datums) = Comment (datums_of datums)
 
--- the body of a kind that stands in a datagram
+-- the body of a kind in a datagram
 abbrev pub body_at : Kind → List ℕ → Body
 body_at kind b = body_of (shown_body kind b)
 
--- the PDU that a view shows
+-- the PDU of a view
 abbrev pub pdu_of : PduView → Pdu
 pdu_of v = record {
   version = v.version;
@@ -117,7 +117,7 @@ first_refusal None body = body
 abbrev pub view_refusal : List ℕ → Option ViewFault
 view_refusal b = first_refusal (header_refusal b) (body_refusal (header_at b).kind b)
 
--- a refusal among the faults of decoding
+-- a refusal as a fault of decoding
 abbrev pub pdu_fault : ViewFault → PduFault
 pdu_fault (view_faults.Header fault) = faults.Header fault
 pdu_fault (view_faults.BodyShort offset) = faults.BodyShort offset
@@ -127,7 +127,7 @@ abbrev pub pdu_refusal : Option ViewFault → Option PduFault
 pdu_refusal None = None
 pdu_refusal (Some fault) = Some (pdu_fault fault)
 
--- the same, among the faults of decoding
+-- the first refusal of a datagram that holds, as a fault of decoding
 abbrev pub refusal_of : List ℕ → Option PduFault
 refusal_of b = pdu_refusal (view_refusal b)
 
@@ -135,16 +135,16 @@ abbrev pub unless_refused : Option PduFault → Pdu → Option Pdu
 unless_refused (Some fault) p = None
 unless_refused None p = Some p
 
--- the reading of a datagram: the PDU that stands at its offsets, or none where it is refused
+-- the reading of a datagram: the PDU of the fields at its offsets, or none if it is refused
 abbrev pub reading : List ℕ → Option Pdu
 reading b = unless_refused (refusal_of b) (pdu_from (header_at b) b)
 
--- the PDU that a view shows, or none where there is none
+-- the PDU of a view, or none if the datagram was refused
 abbrev pub viewed : Result PduView ViewFault → Option Pdu
 viewed (Ok v) = Some (pdu_of v)
 viewed (Err fault) = None
 
--- bytes with another last byte, if one is given
+-- bytes with the last byte replaced, if one is given
 abbrev pub with_last : Option ℕ → List ℕ → List ℕ
 with_last None bytes = bytes
 with_last (Some last) bytes = slice_set bytes (length bytes - 1) last

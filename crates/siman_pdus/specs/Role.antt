@@ -1,4 +1,4 @@
--- What a PDU does in an exchange: its role and its request identifier (IEEE 1278.1-2012, 5.6).
+-- Role of a PDU in an exchange, and its request identifier (IEEE 1278.1-2012, 5.6).
 use Rattle.std.specs.Prelude.{ℕ, Bool, true, false, ◌&&◌, nat_le, Option, Some, None, if◌then◌else◌}
 use Rattle.siman_pdus.specs.declared.pdu.Body.{Body}
 use Rattle.siman_pdus.specs.declared.pdu.Body.TheVariants.{CreateEntity, RemoveEntity, StartResume, StopFreeze, Acknowledge, ActionRequest, ActionResponse, DataQuery, SetData, DataPdu, EventReport, Comment}

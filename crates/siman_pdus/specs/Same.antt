@@ -1,4 +1,4 @@
--- When two bodies are the same, and two PDUs the same order, field by field.
+-- Equality of bodies and of requests, field by field.
 use Rattle.std.specs.Prelude.{◌≡◌, Bool, false, ◌&&◌, ◌==◌}
 use Rattle.dis_records.specs.declared.clock_time.ClockTime.{ClockTime}
 use Rattle.dis_records.specs.declared.entity.EntityId.{EntityId}
@@ -14,7 +14,7 @@ same_time t u = (t.hour == u.hour) && (t.past == u.past)
 abbrev pub same_entity : EntityId → EntityId → Bool
 same_entity i j = (i.site == j.site) && ((i.application == j.application) && (i.entity == j.entity))
 
--- the same case, and the same fields
+-- equal cases with equal fields
 abbrev pub same_body : Body → Body → Bool
 same_body (CreateEntity request) (CreateEntity request') = request == request'
 same_body (RemoveEntity request) (RemoveEntity request') = request == request'
@@ -35,7 +35,7 @@ same_body (EventReport event datums) (EventReport event' datums') = (event == ev
 same_body (Comment datums) (Comment datums') = same_datums datums datums'
 same_body body other = false
 
--- the same fields
+-- all fields are equal
 abbrev pub is_same_pdu : Pdu → Pdu → Bool
 is_same_pdu p q =
     same_version p.version q.version && ((p.exercise == q.exercise) && ((p.stamp == q.stamp) && ((p.status == q.status)
@@ -45,7 +45,7 @@ is_same_pdu p q =
 abbrev pub IsSameOrder : Pdu → Pdu → Type 0
 IsSameOrder p q = p ≡ record q { stamp = p.stamp; status = p.status }
 
--- the test of that, as histories use it
+-- the test of `IsSameOrder`, as histories use it
 abbrev pub is_same_order : Pdu → Pdu → Bool
 is_same_order p q =
     same_version p.version q.version && ((p.exercise == q.exercise)

@@ -1,4 +1,4 @@
--- The parts of a body, as the counts and lengths in the datagram say, and which of them is missing.
+-- Parts of a body, by the counts and lengths in the datagram, and the first that is missing.
 use Rattle.std.specs.Prelude.{◌≡◌, ℕ, ◌+◌, nat_lt, List, [], ◌∷◌, ◌++◌, length, replicate, Option, Some, None, Result, Ok, Err, if◌then◌else◌}
 use Rattle.std.specs.Int.{w32}
 use Rattle.dis_records.specs.declared.kind.Kind.{Kind}
@@ -9,7 +9,7 @@ use Rattle.dis_records.specs.Views.{variable_start}
 use Rattle.siman_pdus.specs.declared.fault.ViewFault.{ViewFault}
 use Rattle.siman_pdus.specs.declared.fault.ViewFault.TheVariants as faults
 
--- where parts of these sizes end that follow one another from an offset on, or the start of the first that is not wholly there
+-- end of parts of these sizes that follow one another from an offset on, or the start of the first that is incomplete
 abbrev pub ends : ℕ → List ℕ → ℕ → Result ℕ ViewFault
 ends at [] len = Ok at
 ends at (n ∷ ns) len = if nat_lt len (at + n) then Err (faults.BodyShort at) else ends (at + n) ns len
@@ -29,11 +29,11 @@ fixed_part kinds.DataPdu = 28
 fixed_part kinds.EventReport = 28
 fixed_part kinds.Comment = 20
 
--- the sizes of the records whose counts stand at an offset: fixed records of 8 bytes, then variable records
+-- sizes of the records whose two counts are at an offset: fixed records of 8 bytes, then variable records
 abbrev pub datum_sizes : ℕ → List ℕ → List ℕ
 datum_sizes counts b = replicate (spelled_number w32 counts b) 8 ++ variable_sizes (spelled_number w32 (counts + 4) b) (variable_start counts b) b
 
--- the sizes of the identifiers whose counts stand at an offset: 4 bytes each
+-- sizes of the identifiers whose two counts are at an offset: 4 bytes each
 abbrev pub id_sizes : ℕ → List ℕ → List ℕ
 id_sizes counts b = replicate (spelled_number w32 counts b) 4 ++ replicate (spelled_number w32 (counts + 4) b) 4
 
@@ -56,7 +56,7 @@ record_sizes kinds.Comment b = datum_sizes 24 b
 abbrev pub part_sizes : Kind → List ℕ → List ℕ
 part_sizes kind b = fixed_part kind ∷ record_sizes kind b
 
--- The last part ends with the datagram, or a byte is left after it.
+-- The fault of the parts, or of bytes behind the last part.
 abbrev pub body_fault : Result ℕ ViewFault → ℕ → Option ViewFault
 body_fault (Err fault) len = Some fault
 body_fault (Ok end) len = if nat_lt end len then Some (faults.BodyLong end) else None
@@ -64,6 +64,6 @@ body_fault (Ok end) len = if nat_lt end len then Some (faults.BodyLong end) else
 abbrev pub body_refusal : Kind → List ℕ → Option ViewFault
 body_refusal kind b = body_fault (ends 12 (part_sizes kind b) (length b)) (length b)
 
--- The parts of the body are all of the datagram after its header.
+-- The parts of the body are all of the datagram behind its header.
 abbrev pub IsWhole : Kind → List ℕ → Type 0
 IsWhole kind b = 12 + total (part_sizes kind b) ≡ length b

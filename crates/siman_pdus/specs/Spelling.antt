@@ -60,7 +60,7 @@ body_layout (Acknowledge flag response request) = Number w16 flag ∷ Number w16
 body_layout (ActionRequest request action datums) = Number w32 request ∷ Number w32 action ∷ datums_layout datums
 -- request identifier, request status, datums
 body_layout (ActionResponse request status datums) = Number w32 request ∷ Number w32 status ∷ datums_layout datums
--- request identifier, time interval, identifiers asked for
+-- request identifier, time interval, queried identifiers
 body_layout (DataQuery request interval ids) = Number w32 request ∷ Number w32 interval ∷ ids_layout ids
 -- request identifier, padding, datums
 body_layout (SetData request datums) = Number w32 request ∷ Padding 4 ∷ datums_layout datums
@@ -71,7 +71,7 @@ body_layout (EventReport event datums) = Number w32 event ∷ Padding 4 ∷ datu
 -- datums
 body_layout (Comment datums) = datums_layout datums
 
--- the header of a PDU in a datagram of so many bytes
+-- the header of a PDU in a datagram of n bytes
 abbrev pub header_of : Pdu → ℕ → Header
 header_of p n = record { version = p.version; exercise = p.exercise; kind = body_kind p.body; stamp = p.stamp; length = n; status = p.status }
 
@@ -79,24 +79,25 @@ header_of p n = record { version = p.version; exercise = p.exercise; kind = body
 abbrev pub pdu_layout : Pdu → ℕ → List Field
 pdu_layout p n = header_layout (header_of p n) ++ entity_layout p.origin ++ entity_layout p.target ++ body_layout p.body
 
--- The status is one that a header of the version carries: any where it has one, and otherwise 0.
+-- The status is one that a header of the version carries: any if it has one, and otherwise 0.
 abbrev pub HasCarriedStatus : Pdu → Type 0
 HasCarriedStatus p = p.status ≡ carried_status p.version p.status
 
--- b is a datagram of at most 8192 bytes that spells p, with its own length in the header; the status is 0 where the version has none.
+-- b is a datagram of at most 8192 bytes that spells p, with its own length in the header; the status is 0 if the
+-- version has none.
 pub record Spells (p : Pdu) (b : List ℕ) : Type 0 where
   pub spell : Spell (pdu_layout p (length b)) b
   pub status_is : HasCarriedStatus p
   pub limit : length b ≤ LARGEST_DATAGRAM
 
--- the number of bytes of each spelling of p
+-- number of bytes of each spelling of p
 abbrev pub pdu_size : Pdu → ℕ
 pdu_size p = size (pdu_layout p 0)
 
--- p as a datagram carries it: with status 0 where its version has none
+-- p as a datagram carries it: with status 0 if its version has none
 abbrev pub carried : Pdu → Pdu
 carried p = record p { status = carried_status p.version p.status }
 
--- the canonical text of p: the spelling of what is carried of it in which padding is zero
+-- the canonical text of p: the spelling of `carried p` with zero padding
 abbrev pub pdu_text : Pdu → List ℕ
 pdu_text p = text (pdu_layout p (pdu_size p))

@@ -1,4 +1,4 @@
-//! The datum records of a body, and the identifiers of a query.
+//! Datum records of a body, and datum identifiers of a query.
 
 ghost use Rattle.std.specs.Prelude.{◌≡◌, ◌↔◌, IfOk, IsTrue};
 
@@ -22,8 +22,8 @@ impl Model for Datums {
     ghost view = { λ d. record { fixed = d.fixed.items; variable = d.variable.items } };
 }
 
-/// The datum identifiers that a query asks for (IEEE 1278.1-2012, 6.2.17): those of fixed datums,
-/// then those of variable datums, each in order. Contracts see it as two lists.
+/// Datum identifiers of a query (IEEE 1278.1-2012, 6.2.17): those of fixed datums, then those of
+/// variable datums, each in order. Contracts see it as two lists.
 #[derive(Drop)]
 pub struct DatumIds {
     pub fixed: Vec<u32>,
@@ -39,7 +39,7 @@ impl Model for DatumIds {
 }
 
 impl Datums {
-    /// Equal datums.
+    /// An owned copy of the datums.
     pub fn copy(&self, alloc: Global) -> Result<Datums, AllocError>
         ensures { IfOk result (λ datums. datums ≡ self.now) }
     {
@@ -60,7 +60,7 @@ fn copy_variable(alloc: Global, datums: &[VariableDatum]) -> Result<Vec<Variable
 }
 
 impl DatumIds {
-    /// Equal identifiers.
+    /// An owned copy of the identifiers.
     pub fn copy(&self, alloc: Global) -> Result<DatumIds, AllocError>
         ensures { IfOk result (λ ids. ids ≡ self.now) }
     {

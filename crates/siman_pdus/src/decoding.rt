@@ -1,4 +1,4 @@
-//! Datagrams to PDUs.
+//! Decodes datagrams to PDUs.
 
 ghost use Rattle.std.specs.Prelude.{◌≡◌, ◌+◌, ◌≤◌, ◌⊎◌, ℕ, List, [], ◌++◌, length, true, is_some, IfOk, IfErr, Ok, Err, Some, None};
 ghost use Rattle.std.specs.Result.{result_ok};
@@ -42,7 +42,7 @@ fn read_time(bytes: &[u8], at: usize) -> ClockTime
     }
 }
 
-/// The body of a kind, whose parts are all there.
+/// Decodes the body of a kind, all of whose parts are complete.
 #[inline(always)]
 #[tactic(auto, unfolding(crate::specs::Reading::shown_body))]
 fn body_view(kind: Kind, bytes: &[u8]) -> BodyView<'_>
@@ -105,7 +105,7 @@ fn body_view(kind: Kind, bytes: &[u8]) -> BodyView<'_>
     }
 }
 
-/// The header of a datagram that is not refused.
+/// Header of a datagram, whose header and body are checked.
 fn checked_header(bytes: &[u8]) -> Result<Header, ViewFault>
     ensures ok { IfOk result (λ header. (view_refusal bytes.now ≡ None) × (header ≡ header_at bytes.now)) }
     ensures whole { IfOk result (λ header. IsWhole header.kind bytes.now) }
@@ -132,27 +132,27 @@ fn show(bytes: &[u8]) -> Result<PduView<'_>, ViewFault>
     })
 }
 
-/// The PDU that a datagram spells, in place: its records are those that stand in the datagram. It
-/// takes no memory, and is refused with the first fault that holds, in the order of [`ViewFault`].
+/// Decodes a datagram in place: the view reads its records from the datagram. Returns the first
+/// fault that holds, in the order of [`ViewFault`]. Takes no memory.
 pub fn view(bytes: &[u8]) -> Result<PduView<'_>, ViewFault>
-    // What is shown is what stands in the datagram.
+    // The fields of the view are those of the datagram.
     ensures stands { IfOk result (λ view. view ≡ view_from (header_at bytes.now) bytes.now) }
-    // The datagram spells the PDU that is shown.
+    // The datagram spells the PDU of the view.
     ensures spelled { IfOk result (λ view. Spells (pdu_of view) bytes.now) }
-    // A PDU that it spells is shown: so a refused datagram spells no PDU.
+    // A datagram that spells a PDU is decoded to it: so a refused datagram spells no PDU.
     ensures only { (pdu : Pdu) → Spells pdu bytes.now → viewed result ≡ Some pdu }
-    // What is shown is in its ranges.
+    // The numbers of the view are in their ranges.
     ensures in_range { IfOk result (λ view. IsInRange (pdu_of view)) }
-    // A refusal is the first that holds.
+    // A fault is the first that holds.
     ensures refused { IfErr result (λ fault. view_refusal bytes.now ≡ Some fault) }
-    // What is shown is the reading of the datagram.
+    // The view is the reading of the datagram.
     ensures reads { viewed result ≡ reading bytes.now }
 {
     show(bytes)
 }
 
-/// The PDU that a datagram is known to spell, in place: as [`view`] shows it, without another look at what
-/// it could be refused for, and without a walk over its records.
+/// Decodes in place a datagram that is known to spell a PDU: equals [`view`], but checks nothing
+/// again and does not walk its records.
 #[inline(always)]
 pub fn view_again(bytes: &[u8]) -> PduView<'_>
     requires { is_some (reading bytes.now) ≡ true }
@@ -178,25 +178,26 @@ fn read(alloc: Global, bytes: &[u8]) -> Result<Pdu, PduFault>
     Ok(view.to_pdu(alloc)?)
 }
 
-/// The PDU that a datagram spells: that of its [`view`]. It is refused with the first fault that holds, in the order of
-/// [`PduFault`], or for want of memory. No count of the datagram reserves memory.
+/// Decodes a datagram to an owned PDU, that of its [`view`]. Returns the first fault that holds, in
+/// the order of [`PduFault`], or Memory. No count in the datagram reserves memory.
 pub fn decode(alloc: Global, bytes: &[u8]) -> Result<Pdu, PduFault>
-    // What is read is spelled so.
+    // The datagram spells the result.
     ensures spelled { IfOk result (λ pdu. Spells pdu bytes.now) }
-    // What is spelled so is read, unless memory runs out: so a refused datagram spells no PDU.
+    // A PDU that the datagram spells is the result, unless memory runs out: so a refused datagram
+    // spells no PDU.
     ensures only { (pdu : Pdu) → Spells pdu bytes.now → (result ≡ Ok pdu) ⊎ (result ≡ Err PduFault.Memory) }
-    // What is read is in its ranges.
+    // The numbers of the result are in their ranges.
     ensures in_range { IfOk result IsInRange }
-    // A refusal for another cause is the first that holds.
+    // A fault other than Memory is the first that holds.
     ensures refused { IfErr result (λ fault. (fault ≡ PduFault.Memory) ⊎ (refusal_of bytes.now ≡ Some fault)) }
-    // Unless memory runs out, it answers the reading of the datagram.
+    // Unless memory runs out, the result is the reading of the datagram.
     ensures reads { (result ≡ Err PduFault.Memory) ⊎ (result_ok result ≡ reading bytes.now) }
 {
     read(alloc, bytes)
 }
 
-/// Laws of the grammar: each datagram spells at most one PDU, the one that is its reading, and no
-/// spelling is a proper prefix of another.
+/// Laws of the grammar: each datagram spells at most one PDU, its reading, and no spelling is a
+/// proper prefix of another.
 pub fn spellings_are_apart()
     ensures read { (pdu : Pdu) (b : List ℕ) → Spells pdu b → reading b ≡ Some pdu }
     ensures spelled { (pdu : Pdu) (b : List ℕ) → reading b ≡ Some pdu → Spells pdu b }

@@ -1,4 +1,4 @@
-//! PDUs to datagrams.
+//! Encodes PDUs to datagrams.
 
 ghost use Rattle.std.specs.Prelude.{◌≡◌, ◌+◌, ◌<◌, ◌≤◌, ◌++◌, ◌↔◌, [], ◌∷◌, OnOk, OnErr, Err, vec_len, vec_capacity};
 ghost use Rattle.std.specs.Int.{w16, w32};
@@ -18,7 +18,7 @@ use dis_records::{
     ClockTime, EntityId, FixedDatum, Header, Kind, VariableDatum, padded_size, write_header,
 };
 
-// Each of these puts fields at the end of a vector whose room does.
+// Each of these appends fields to a vector that has room for them.
 
 fn put_u8(out: &mut Vec<u8>, number: u8)
     requires { HasRoom out.old 1 }
@@ -218,7 +218,7 @@ fn put_body(out: &mut Vec<u8>, body: &Body)
     }
 }
 
-/// The kind of a body.
+/// Kind of a body.
 pub fn kind_of(body: &Body) -> Kind
     ensures { result ≡ body_kind body.now }
 {
@@ -258,18 +258,17 @@ fn put_pdu(out: &mut Vec<u8>, pdu: &Pdu, length: u16)
     put_body(out, &pdu.body);
 }
 
-/// Appends the canonical text of a PDU: its spelling in which padding is zero. The status of a
-/// version whose headers have none is not written. It takes no memory where the vector's spare
-/// capacity holds the text, and an error leaves the vector and its capacity unchanged.
+/// Appends the canonical text of a PDU: its spelling with zero padding. The status is not written
+/// for a version whose headers have none. Takes no memory if the spare capacity of the vector is
+/// enough; a fault leaves the vector and its capacity unchanged.
 pub fn encode(pdu: &Pdu, out: &mut Vec<u8>) -> Result<(), EncodeFault>
     ensures ok { OnOk result (out.new.items ≡ out.old.items ++ pdu_text pdu.now) }
-    // What is written is decoded again, to the same PDU, exactly where its status is 0 or its
-    // version has one.
+    // The text decodes to an equal PDU exactly if the status is 0 or the version has one.
     ensures spelled { OnOk result (HasCarriedStatus pdu.now ↔ Spells pdu.now (pdu_text pdu.now)) }
-    // Otherwise it is decoded to the same PDU with status 0.
+    // Otherwise it decodes to that PDU with status 0.
     ensures carried { OnOk result (Spells (carried pdu.now) (pdu_text pdu.now)) }
     ensures too_long { (result ≡ Err EncodeFault.TooLong) ↔ (LARGEST_DATAGRAM < pdu_size pdu.now) }
-    // It lacks memory only where the room that is spare does not do.
+    // Memory is returned only if the spare capacity is too small.
     ensures memory { result ≡ Err EncodeFault.Memory → vec_capacity out.old < vec_len out.old + pdu_size pdu.now }
     ensures err { OnErr result (out.new.items ≡ out.old.items) }
     ensures kept { OnErr result (vec_capacity out.new ≡ vec_capacity out.old) }

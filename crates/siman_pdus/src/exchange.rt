@@ -1,4 +1,4 @@
-//! What a PDU does in an exchange (IEEE 1278.1-2012, 5.6).
+//! Role of a PDU in an exchange (IEEE 1278.1-2012, 5.6).
 
 ghost use Rattle.std.specs.Prelude.{◌≡◌};
 ghost use Rattle.siman_pdus.specs.Message.{acknowledge_role, role_by};
@@ -10,7 +10,7 @@ use crate::pdu::Body;
 use crate::roles::Role;
 use dis_records::Kind;
 
-/// The role of a PDU.
+/// Role of a PDU.
 #[tactic(auto, using(crate::proofs::Messages::role_is))]
 pub fn role<M: Message>(message: &M) -> Role
     ensures { result ≡ role_of (M.pdu message.now).body }
@@ -25,7 +25,7 @@ pub fn is_request<M: Message>(message: &M) -> bool
     is_request_role(role(message))
 }
 
-/// The request identifier of a PDU. All kinds have one but Event Report and Comment.
+/// Request identifier of a PDU; every kind but Event Report and Comment has one.
 pub fn request_id<M: Message>(message: &M) -> Option<u32>
     ensures { result ≡ request_id_of (M.pdu message.now).body }
 {
@@ -53,7 +53,7 @@ fn is_request_role(role: Role) -> bool
     }
 }
 
-/// The role of an Acknowledge that says this: an answer with a flag from 1 to 4 (profile).
+/// Role of an Acknowledge with these flags: an answer if its acknowledge flag is 1 to 4 (profile).
 fn acknowledge_role(said: Option<Acknowledgement>) -> Role
     ensures { result ≡ acknowledge_role said }
 {
@@ -63,7 +63,7 @@ fn acknowledge_role(said: Option<Acknowledgement>) -> Role
     }
 }
 
-/// The role of a PDU of a kind, by what it acknowledges.
+/// Role of a PDU of a kind; `said` has the flags of an Acknowledge.
 fn role_in(kind: Kind, said: Option<Acknowledgement>) -> Role
     ensures { result ≡ role_by kind said }
 {

@@ -1,4 +1,4 @@
-//! Why a datagram is no PDU, and why a PDU could not be written.
+//! Faults of decoding and encoding PDUs.
 
 ghost use Rattle.std.specs.Prelude.{◌≡◌};
 ghost use Rattle.siman_pdus.specs.Texts.{refusal_number};
@@ -10,20 +10,20 @@ use std::alloc::{AllocError, AllocFailed};
 use std::error::Error;
 use std::fmt;
 
-/// Why a datagram is no PDU, where no memory is taken: the first of these, in this order, that
+/// Why a datagram is no PDU, if decoding takes no memory: the first of these, in this order, that
 /// holds.
 #[derive(Clone, Copy, Debug, PartialEq, Eq)]
 pub enum ViewFault {
-    /// Its header is refused.
+    /// The header is refused.
     Header(HeaderFault),
-    /// A part of its body is not wholly there, the first of them from this offset on, as in
+    /// The first missing or incomplete part of the body begins at this offset, as in
     /// [`PduFault::BodyShort`].
     BodyShort(usize),
-    /// Bytes are left after the last part of its body, from this offset on.
+    /// Bytes follow the last part of the body, from this offset on.
     BodyLong(usize),
 }
 
-/// As the [`PduFault`] that it is.
+/// Prints the text of the corresponding [`PduFault`].
 impl fmt::Display for ViewFault {
     ghost use Rattle.std.specs.Prelude.{Some};
     ghost use Rattle.siman_pdus.specs.Reading.{pdu_fault};
@@ -45,20 +45,20 @@ impl Error for ViewFault {}
 /// Why a datagram is no PDU: the first of these, in this order, that holds.
 #[derive(Clone, Copy, Debug, PartialEq, Eq)]
 pub enum PduFault {
-    /// Its header is refused.
+    /// The header is refused.
     Header(HeaderFault),
-    /// A part of its body is not wholly there, the first of them from this offset on, in bytes
-    /// from 0. The parts are the fixed part from offset 12, then each datum record or identifier.
+    /// The first missing or incomplete part of the body begins at this offset, in bytes from 0. The
+    /// parts are the fixed part from offset 12, then each datum record or identifier.
     BodyShort(usize),
-    /// Bytes are left after the last part of its body, from this offset on.
+    /// Bytes follow the last part of the body, from this offset on.
     BodyLong(usize),
     /// Memory ran out.
     Memory,
 }
 
 impl PduFault {
-    /// Its number, from 1 on in the order in which refusals are looked for. Want of memory, which
-    /// refuses nothing, has the last one.
+    /// Number of the fault, from 1, in the order in which the faults are checked. Memory, which
+    /// refuses no datagram, has the last number.
     pub fn number(self) -> u8
         ensures { result ≡ refusal_number self }
     {
@@ -76,7 +76,7 @@ impl PduFault {
     }
 }
 
-/// Its name, with what was found or the offset where it was found.
+/// Prints the name of the fault, with the bad number or its offset.
 impl fmt::Display for PduFault {
     ghost use Rattle.std.specs.Prelude.{Some};
     ghost use Rattle.siman_pdus.specs.Texts.{pdu_fault_text};
@@ -126,7 +126,7 @@ impl<T: Drop> From<AllocFailed<T>> for PduFault {
 /// Why a PDU was not written.
 #[derive(Clone, Copy, Debug, PartialEq, Eq, thiserror::Error)]
 pub enum EncodeFault {
-    /// Its text would have more than 8192 bytes.
+    /// The text would have more than 8192 bytes.
     #[error("too long")]
     TooLong,
     /// Memory ran out.

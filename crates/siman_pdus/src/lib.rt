@@ -1,11 +1,10 @@
 //! The twelve Simulation Management PDUs of DIS (IEEE 1278.1-2012, 5.6 and 7.5): their values, the
-//! grammar of their datagrams, and what they do in an exchange.
-//!
-//! It knows no station and no history. The layers above rest on [`decode`], which accepts exactly
-//! the grammar and answers the reading of a datagram, on [`view`], which shows the same in place
-//! and takes no memory, on [`view_again`], which shows what is known to be read, on [`encode`],
-//! which appends the canonical text of a PDU, and on exact tests: [`role`], [`same_order`],
-//! [`request_id`] and [`answers`], which are asked of any [`Message`], a PDU or the view of one.
+//! grammar of their datagrams, and their roles in an exchange. It never sees a station or a
+//! history. The layers above may rely on [`decode`], which accepts exactly the grammar and returns
+//! the reading of a datagram; on [`view`], which decodes in place and takes no memory, and
+//! [`view_again`] for datagrams that are known to decode; on [`encode`], which appends the
+//! canonical text of a PDU; and on the exact tests [`role`], [`same_order`], [`request_id`] and
+//! [`answers`] of any [`Message`], a PDU or a view.
 #![tactic(auto)]
 
 mod datums;

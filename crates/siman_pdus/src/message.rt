@@ -1,4 +1,4 @@
-//! What the questions of an exchange read of a PDU, be it a value or shown in place.
+//! Fields of a PDU that an exchange needs, from an owned PDU or a view.
 
 use crate::encoding::kind_of;
 use crate::order::same_fields;
@@ -7,20 +7,19 @@ use crate::same_views::same_shown;
 use crate::views::{BodyView, PduView};
 use dis_records::{EntityId, Kind};
 
-/// What an Acknowledge says (IEEE 1278.1-2012, 7.5.6).
+/// Fields of an Acknowledge (IEEE 1278.1-2012, 7.5.6).
 #[derive(Clone, Copy)]
 pub struct Acknowledgement {
-    /// What is acknowledged.
+    /// Acknowledge flag: the kind of request that is acknowledged.
     pub flag: u16,
-    /// How it is answered.
+    /// Response flag: [`ABLE`](crate::ABLE), [`UNABLE`](crate::UNABLE) or another number.
     pub response: u16,
-    /// The request identifier.
+    /// Request identifier.
     pub request: u32,
 }
 
-/// A PDU of which an exchange asks its questions: a [`Pdu`], or a [`PduView`], which shows one in
-/// its datagram. What it means is one PDU, of which its methods tell fields; every question is
-/// asked of these, and no call takes memory.
+/// A PDU in an exchange: a [`Pdu`], or a [`PduView`] of its datagram. In contracts it is one PDU,
+/// and the methods return fields of it. No call takes memory.
 pub trait Message {
     ghost use Rattle.std.specs.Prelude.{◌≡◌};
     ghost use Rattle.siman_pdus.specs.declared.pdu.Pdu.{Pdu};
@@ -29,35 +28,34 @@ pub trait Message {
     ghost use Rattle.siman_pdus.specs.Same.{is_same_order};
     ghost use Rattle.siman_pdus.specs.Spelling.{body_kind};
 
-    /// The PDU that it means.
+    /// The PDU that contracts see.
     ghost pdu: { Self → Pdu };
 
-    /// The exercise identifier.
+    /// Exercise identifier.
     fn exercise(&self) -> u8
         ensures { result ≡ (pdu self.now).exercise };
 
-    /// The originating identifier.
+    /// Originating identifier.
     fn origin(&self) -> EntityId
         ensures { result ≡ (pdu self.now).origin };
 
-    /// The receiving identifier.
+    /// Receiving identifier.
     fn target(&self) -> EntityId
         ensures { result ≡ (pdu self.now).target };
 
-    /// The kind of the PDU.
+    /// Kind of the PDU.
     fn kind(&self) -> Kind
         ensures { result ≡ body_kind (pdu self.now).body };
 
-    /// The request identifier, which all kinds have but Event Report and Comment.
+    /// Request identifier; every kind but Event Report and Comment has one.
     fn request(&self) -> Option<u32>
         ensures { result ≡ request_id_of (pdu self.now).body };
 
-    /// What it says, if it is an Acknowledge.
+    /// Fields of the Acknowledge, if it is one.
     fn acknowledgement(&self) -> Option<Acknowledgement>
         ensures { result ≡ acknowledgement_of (pdu self.now).body };
 
-    /// Whether another one of its form is the same order: equal in all but timestamp and status
-    /// (profile).
+    /// Whether `other` is a repeat of this PDU: equal in all but timestamp and status (profile).
     fn is_order_of(&self, other: &Self) -> bool
         ensures { result ≡ is_same_order (pdu self.now) (pdu other.now) };
 }

@@ -1,4 +1,4 @@
-//! PDUs as values.
+//! PDUs as owned values.
 
 ghost use Rattle.std.specs.Prelude.{◌≡◌, IfOk};
 
@@ -12,8 +12,8 @@ pub const ABLE: u16 = 1;
 /// The response flag Unable to comply of an Acknowledge (SISO-REF-010).
 pub const UNABLE: u16 = 2;
 
-/// What a PDU says: the body of its kind, after the header and the two identifiers
-/// (IEEE 1278.1-2012, 7.5.2 to 7.5.13). All numbers are carried as they stand, unsigned.
+/// Body of a PDU by kind, after the header and the two identifiers (IEEE 1278.1-2012, 7.5.2 to
+/// 7.5.13). All numbers are carried unchanged, as unsigned ones.
 #[derive(Drop, PartialEq, Eq)]
 pub enum Body {
     /// PDU type 11 (7.5.2).
@@ -37,7 +37,7 @@ pub enum Body {
         behaviour: u8,
         request: u32,
     },
-    /// PDU type 15 (7.5.6): what is acknowledged (flag), and how (response).
+    /// PDU type 15 (7.5.6): the acknowledge flag, and the response flag.
     Acknowledge {
         flag: u16,
         response: u16,
@@ -82,26 +82,26 @@ pub enum Body {
     },
 }
 
-/// A Simulation Management PDU: what its header says beside kind and length, who sends it, who is
-/// meant, and its body.
+/// A Simulation Management PDU: the header without kind and length, the originating and the
+/// receiving identifier, and the body.
 #[derive(Drop, PartialEq, Eq)]
 pub struct Pdu {
     pub version: Version,
-    /// The exercise identifier.
+    /// Exercise identifier.
     pub exercise: u8,
-    /// The timestamp, as in a [`Header`](dis_records::Header).
+    /// Timestamp, as in a [`Header`](dis_records::Header).
     pub stamp: u32,
-    /// The PDU status.
+    /// PDU status.
     pub status: u8,
-    /// The originating identifier.
+    /// Originating identifier.
     pub origin: EntityId,
-    /// The receiving identifier.
+    /// Receiving identifier.
     pub target: EntityId,
     pub body: Body,
 }
 
 impl Pdu {
-    /// An equal PDU.
+    /// An owned copy of the PDU.
     pub fn copy(&self, alloc: Global) -> Result<Pdu, AllocError>
         ensures { IfOk result (λ pdu. pdu ≡ self.now) }
     {
@@ -118,7 +118,7 @@ impl Pdu {
 }
 
 impl Body {
-    /// An equal body.
+    /// An owned copy of the body.
     pub fn copy(&self, alloc: Global) -> Result<Body, AllocError>
         ensures { IfOk result (λ body. body ≡ self.now) }
     {

@@ -1,4 +1,4 @@
-//! The ranges of the numbers of a PDU.
+//! Ranges of the numbers of a PDU.
 
 ghost use Rattle.std.specs.Prelude.{◌≡◌, ◌<◌, ◌≤◌, ◌↔◌, ℕ, List, Some, length, slice_index};
 ghost use Rattle.dis_records.specs.declared.header.TheConstants.{LARGEST_DATAGRAM};
@@ -10,20 +10,20 @@ ghost use Rattle.siman_pdus.specs.Spelling.{HasCarriedStatus, Spells, carried, p
 use crate::datums::Datums;
 use crate::pdu::Pdu;
 
-/// Every number of a PDU is in the range of its field: what the types say, as a fact. The call
-/// does nothing when it runs.
+/// Every number of a PDU is in the range of its field: the types ensure it, and the contract states
+/// it. The call does nothing at run time.
 pub fn numbers_are_in_range(pdu: &Pdu)
     ensures { IsInRange pdu.now }
 {}
 
-/// The same of datums alone.
+/// Every number of the datums is in the range of its field. The call does nothing at run time.
 pub fn datums_are_in_range(datums: &Datums)
     ensures { AreDatumsInRange datums.now }
 {}
 
-/// Laws of ranges: what is read of bytes is in its ranges, and what is in its ranges and has at
-/// most 8192 bytes is spelled by its canonical text, which is bytes and is read as it, exactly
-/// where its status is 0 or its version has one; otherwise as the same PDU with status 0.
+/// Laws of ranges: a PDU that is read from bytes is in its ranges. The canonical text of a PDU that
+/// is in its ranges and has at most 8192 bytes consists of bytes; it spells that PDU, and reads as
+/// it, exactly if its status is 0 or its version has one, and otherwise as that PDU with status 0.
 pub fn ranges_and_texts_agree()
     ensures in_range { (pdu : Pdu) (b : List ℕ) → ((i : ℕ) → slice_index b i < 256) → reading b ≡ Some pdu → IsInRange pdu }
     ensures spelled { (pdu : Pdu) → IsInRange pdu → pdu_size pdu ≤ LARGEST_DATAGRAM → HasCarriedStatus pdu ↔ Spells pdu (pdu_text pdu) }

@@ -1,6 +1,6 @@
-//! The roles of PDUs.
+//! Roles of PDUs.
 
-/// What a PDU does in an exchange.
+/// Role of a PDU in an exchange.
 #[derive(Clone, Copy)]
 pub enum Role {
     /// Create Entity, Remove Entity, Start/Resume, Stop/Freeze, Action Request, Data Query, Set

@@ -1,4 +1,4 @@
-//! Whether two views show the same. Records are compared where they stand, and none is copied.
+//! Compares views for equality. Records are compared in place, and none is copied.
 
 ghost use Rattle.std.specs.Prelude.{◌≡◌, ◌-◌, ◌==◌, map, take, length};
 ghost use Rattle.std.specs.Cmp.Lexicographic.{pointwise};
@@ -44,7 +44,8 @@ fn front(bytes: &[u8]) -> &[u8]
     &bytes[..bytes.len().saturating_sub(1)]
 }
 
-/// Whether the values of two records of as many bits are the same, their unused bits aside.
+/// Whether the values of two records with an equal number of bits are equal, apart from unused
+/// bits.
 fn same_value(left: VariableView<'_>, right: VariableView<'_>) -> bool
     requires { left.bits ≡ right.bits }
     ensures { result ≡ pointwise ◌==◌ (cleared left.entry.bits left.entry.bytes.now) (cleared right.entry.bits right.entry.bytes.now) }
@@ -52,7 +53,7 @@ fn same_value(left: VariableView<'_>, right: VariableView<'_>) -> bool
     left.last() == right.last() && front(left.bytes) == front(right.bytes)
 }
 
-/// Whether two records are the same datum, unused bits and padding aside.
+/// Whether two records have equal datums, apart from unused bits and padding.
 fn same_record(left: VariableView<'_>, right: VariableView<'_>) -> bool
     ensures { result ≡ same_datum (canonical (shown left.entry)) (canonical (shown right.entry)) }
 {
@@ -85,7 +86,7 @@ fn same_shown_ids(left: &IdsView<'_>, right: &IdsView<'_>) -> bool
         && same_id_records(left.variable(), right.variable())
 }
 
-/// Whether two bodies that are shown are the same, in place.
+/// Whether two bodies are equal, compared in place.
 fn same_shown_body(left: &BodyView<'_>, right: &BodyView<'_>) -> bool
     ensures { result ≡ same_body (body_of left.now) (body_of right.now) }
 {
@@ -200,7 +201,7 @@ fn same_shown_body(left: &BodyView<'_>, right: &BodyView<'_>) -> bool
     }
 }
 
-/// Whether two PDUs that are shown are the same order.
+/// Whether two PDUs are equal in all but timestamp and status.
 pub(crate) fn same_shown(left: &PduView<'_>, right: &PduView<'_>) -> bool
     ensures { result ≡ is_same_order (pdu_of left.now) (pdu_of right.now) }
 {

@@ -1,4 +1,4 @@
-//! Where the parts of a body end, before any of them is read.
+//! Checks that all parts of a body are complete, before any of them is read.
 
 ghost use Rattle.std.specs.Prelude.{◌≡◌, ◌+◌, ◌*◌, ◌≤◌, ◌<◌, length, replicate, IfOk, MatchResult, OnOk, Some, None, [], ◌∷◌};
 ghost use Rattle.dis_records.specs.Records.{variable_sizes};
@@ -8,17 +8,17 @@ use crate::fault::ViewFault;
 use dis_records::field::u32_at;
 use dis_records::{HEADER_SIZE, Kind, padded_size};
 
-/// The size of an entry of a list of fixed datum records, and of one of identifiers.
+/// Sizes in bytes of a fixed datum record and of a datum identifier.
 const FIXED_SIZE: usize = 8;
 
 const ID_SIZE: usize = 4;
 
-/// Where the counts of records stand: in a Comment, and in all other kinds that have records.
+/// Offsets of the two record counts: in a Comment, and in all other kinds that have records.
 const COMMENT_COUNTS: usize = 24;
 
 const COUNTS: usize = 32;
 
-/// Where a part ends, if it is wholly there.
+/// End of a part, if it is complete.
 fn part_end(bytes: &[u8], at: usize, size: usize) -> Result<usize, ViewFault>
     requires { at ≤ length bytes.now }
     ensures ends { result ≡ ends at (size ∷ []) (length bytes.now) }
@@ -30,8 +30,8 @@ fn part_end(bytes: &[u8], at: usize, size: usize) -> Result<usize, ViewFault>
     Ok(at + size)
 }
 
-/// Where so many parts of one size end. They are not walked: how many are there is told by the bytes
-/// that are left.
+/// End of `count` parts of equal size. It is computed from the number of bytes left, without a walk
+/// over the parts.
 #[tactic(auto, using(crate::proofs::Ends::parts_there, crate::proofs::Ends::parts_short))]
 fn parts_end(bytes: &[u8], start: usize, count: u32, size: usize) -> Result<usize, ViewFault>
     requires room { start ≤ length bytes.now }
@@ -47,7 +47,7 @@ fn parts_end(bytes: &[u8], start: usize, count: u32, size: usize) -> Result<usiz
     Ok(start + size * count)
 }
 
-/// Where variable datum records end.
+/// End of `count` variable datum records.
 fn variable_end(bytes: &[u8], start: usize, count: u32) -> Result<usize, ViewFault>
     requires { start ≤ length bytes.now }
     ensures ends { result ≡ ends start (variable_sizes count start bytes.now) (length bytes.now) }
@@ -61,7 +61,7 @@ fn variable_end(bytes: &[u8], start: usize, count: u32) -> Result<usize, ViewFau
     Ok(at)
 }
 
-/// Where datums end whose counts stand at an offset.
+/// End of the datums whose two counts are at offset `counts`.
 fn datums_end(bytes: &[u8], counts: usize) -> Result<usize, ViewFault>
     requires { counts + 8 ≤ length bytes.now }
     ensures { result ≡ ends (counts + 8) (datum_sizes counts bytes.now) (length bytes.now) }
@@ -70,7 +70,7 @@ fn datums_end(bytes: &[u8], counts: usize) -> Result<usize, ViewFault>
     variable_end(bytes, fixed, u32_at(bytes, counts + 4))
 }
 
-/// Where identifiers end whose counts stand at an offset.
+/// End of the identifiers whose two counts are at offset `counts`.
 fn ids_end(bytes: &[u8], counts: usize) -> Result<usize, ViewFault>
     requires { counts + 8 ≤ length bytes.now }
     ensures { result ≡ ends (counts + 8) (id_sizes counts bytes.now) (length bytes.now) }
@@ -79,7 +79,7 @@ fn ids_end(bytes: &[u8], counts: usize) -> Result<usize, ViewFault>
     parts_end(bytes, fixed, u32_at(bytes, counts + 4), ID_SIZE)
 }
 
-/// The size of the fixed part of a body, from offset 12 on, in bytes.
+/// Size in bytes of the fixed part of a body, from offset 12 on.
 fn fixed_size(kind: Kind) -> usize
     ensures { result ≡ fixed_part kind }
 {
@@ -118,7 +118,8 @@ fn body_end(kind: Kind, bytes: &[u8]) -> Result<usize, ViewFault>
     }
 }
 
-/// Refuses a body whose parts are not all there, or after which bytes are left.
+/// Checks that all parts of a body are complete and no bytes follow the last. Returns BodyShort or
+/// BodyLong.
 #[tactic(auto, using(crate::proofs::Ends::refused_whole))]
 pub fn check_body(kind: Kind, bytes: &[u8]) -> Result<(), ViewFault>
     requires { 12 ≤ length bytes.now }

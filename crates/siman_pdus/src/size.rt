@@ -1,4 +1,4 @@
-//! How many bytes the text of a PDU has.
+//! Size of the text of a PDU.
 
 ghost use Rattle.std.specs.Prelude.{◌+◌, ◌≤◌};
 ghost use Rattle.std.specs.Option.{SomeIff};
@@ -24,7 +24,7 @@ fn variable_size(records: &[VariableDatum], start: usize) -> Option<usize>
     Some(end)
 }
 
-/// Where datums end whose counts stand at an offset, if a datagram holds them.
+/// End of the datums whose two counts are at offset `counts`, if it is within a datagram.
 #[tactic(auto, using(crate::proofs::Texts::size_join, crate::proofs::Texts::size_fixed))]
 fn datums_size(fixed: &[FixedDatum], variable: &[VariableDatum], counts: usize) -> Option<usize>
     requires { counts ≤ 1000 }
@@ -40,7 +40,7 @@ fn datums_size(fixed: &[FixedDatum], variable: &[VariableDatum], counts: usize) 
     variable_size(variable, end)
 }
 
-/// Where identifiers end whose counts stand at an offset, if a datagram holds them.
+/// End of the identifiers whose two counts are at offset `counts`, if it is within a datagram.
 #[tactic(auto, using(crate::proofs::Texts::size_join, crate::proofs::Texts::size_ids))]
 fn ids_size(fixed: &[u32], variable: &[u32], counts: usize) -> Option<usize>
     requires { counts ≤ 1000 }
@@ -56,7 +56,7 @@ fn ids_size(fixed: &[u32], variable: &[u32], counts: usize) -> Option<usize>
     Some(end)
 }
 
-/// The number of bytes of the text of a PDU, or `None` where it would have more than 8192.
+/// Number of bytes of the text of a PDU, or `None` if it would have more than 8192.
 pub fn encoded_size(pdu: &Pdu) -> Option<u16>
     ensures { SomeIff result (pdu_size pdu.now ≤ LARGEST_DATAGRAM) (pdu_size pdu.now) }
 {

@@ -10,8 +10,8 @@ use crate::pdu::{Body, Pdu};
 use dis_records::{ClockTime, DatumsView, EntityId, IdsView, VariableDatum, VariableView, Version};
 use std::alloc::{AllocError, Global};
 
-/// What a PDU says, in place: the body of its kind, as in [`Body`], its records and identifiers
-/// where they stand in the datagram.
+/// Body of a PDU by kind, in place, as in [`Body`]; its records and identifiers are read from the
+/// datagram.
 #[derive(Drop)]
 pub enum BodyView<'a> {
     /// PDU type 11 (7.5.2).
@@ -35,7 +35,7 @@ pub enum BodyView<'a> {
         behaviour: u8,
         request: u32,
     },
-    /// PDU type 15 (7.5.6): what is acknowledged (flag), and how (response).
+    /// PDU type 15 (7.5.6): the acknowledge flag, and the response flag.
     Acknowledge {
         flag: u16,
         response: u16,
@@ -80,26 +80,25 @@ pub enum BodyView<'a> {
     },
 }
 
-/// A PDU in place, with the fields of [`Pdu`]: it borrows the datagram that it was read from, and
-/// takes no memory.
+/// A PDU in place, with the fields of [`Pdu`]: borrows its datagram, and takes no memory.
 #[derive(Drop)]
 pub struct PduView<'a> {
     pub version: Version,
-    /// The exercise identifier.
+    /// Exercise identifier.
     pub exercise: u8,
-    /// The timestamp, as in a [`Header`](dis_records::Header).
+    /// Timestamp, as in a [`Header`](dis_records::Header).
     pub stamp: u32,
-    /// The PDU status.
+    /// PDU status.
     pub status: u8,
-    /// The originating identifier.
+    /// Originating identifier.
     pub origin: EntityId,
-    /// The receiving identifier.
+    /// Receiving identifier.
     pub target: EntityId,
     pub body: BodyView<'a>,
 }
 
 impl PduView<'_> {
-    /// The PDU that is shown, the unused bits of its variable datums zero.
+    /// Owned PDU of this view, with the unused bits of its variable datums set to zero.
     pub fn to_pdu(&self, alloc: Global) -> Result<Pdu, AllocError>
         ensures { IfOk result (λ pdu. pdu ≡ pdu_of self.now) }
     {
@@ -116,7 +115,7 @@ impl PduView<'_> {
 }
 
 impl BodyView<'_> {
-    /// The body that is shown.
+    /// Owned body of this view.
     pub fn to_body(&self, alloc: Global) -> Result<Body, AllocError>
         ensures { IfOk result (λ body. body ≡ body_of self.now) }
     {
@@ -195,7 +194,7 @@ impl BodyView<'_> {
     }
 }
 
-/// Puts a byte, if there is one, in the place of the last.
+/// Replaces the last byte, if a byte is given.
 fn set_last(bytes: &mut Vec<u8>, last: Option<u8>)
     requires { IsSome last → 0 < length bytes.old.items }
     ensures { bytes.new.items ≡ with_last last bytes.old.items }
@@ -206,7 +205,7 @@ fn set_last(bytes: &mut Vec<u8>, last: Option<u8>)
     }
 }
 
-/// The datum of a record, its unused bits zero.
+/// Owned datum of a record, its unused bits zero.
 fn read_variable(alloc: Global, view: VariableView<'_>) -> Result<VariableDatum, AllocError>
     ensures { IfOk result (λ datum. datum ≡ canonical (shown view.entry)) }
 {

@@ -8,26 +8,26 @@ use Rattle.siman_pictures.specs.declared.element.Attribute.{Attribute}
 use Rattle.siman_pictures.specs.declared.element.Shown.{Shown}
 use Rattle.siman_pictures.specs.declared.element.Shown.TheVariants as shown
 
--- an attribute is a key and a value; one that is a number
+-- an attribute with a key and a number
 abbrev pub number : (key : List ℕ) → ℕ → List ℕ × List ℕ
 number key n = (key, decimal n)
 
--- and one that is a word
+-- an attribute with a key and a word
 abbrev pub word : (key value : List ℕ) → List ℕ × List ℕ
 word key value = (key, value)
 
--- behind a blank: KEY="VALUE"
+-- an attribute after a blank: KEY="VALUE"
 abbrev pub attribute_text : List ℕ × List ℕ → List ℕ
 attribute_text attribute = codes " " ++ attribute.0 ++ codes "=\"" ++ attribute.1 ++ codes "\""
 
 abbrev pub attributes_text : List (List ℕ × List ℕ) → List ℕ
 attributes_text attributes = flat_map attribute_text attributes
 
--- AN ELEMENT with nothing in it: <NAME KEY="VALUE" ../>
+-- AN EMPTY ELEMENT: <NAME KEY="VALUE" ../>
 unfoldable pub element_text : (name : List ℕ) → List (List ℕ × List ℕ) → List ℕ
 element_text name attributes = codes "<" ++ name ++ attributes_text attributes ++ codes "/>\n"
 
--- the beginning of words: <text KEY="VALUE" ..>
+-- the start tag of words: <text KEY="VALUE" ..>
 unfoldable pub begun_words : List (List ℕ × List ℕ) → List ℕ
 begun_words attributes = codes "<text" ++ attributes_text attributes ++ codes ">"
 
@@ -35,9 +35,9 @@ begun_words attributes = codes "<text" ++ attributes_text attributes ++ codes ">
 abbrev pub words_text : List (List ℕ × List ℕ) → List ℕ → List ℕ
 words_text attributes said = begun_words attributes ++ said ++ codes "</text>\n"
 
--- ---- how values are lent
+-- ---- values of the program
 
--- what is shown, as text
+-- the text of a value
 abbrev pub shown_text : Shown → List ℕ
 shown_text (shown.Number n) = decimal n
 shown_text (shown.Word word) = word.now
@@ -47,6 +47,6 @@ shown_text (shown.Address address) = address_text address
 shown_text (shown.Outsider outsider) = address_text (pair_at outsider)
 shown_text shown.Missing = codes "-"
 
--- a key and what is shown, as an attribute
+-- the key and the text of an attribute
 abbrev pub attribute_of : Attribute → List ℕ × List ℕ
 attribute_of attribute = (attribute.0.now, shown_text attribute.1)

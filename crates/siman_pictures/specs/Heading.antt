@@ -1,11 +1,11 @@
--- What stands above the rows: what the picture is of, how it looks, the signs, and what they mean (profile).
+-- The part of a picture above the rows: title, style, signs and legend (profile).
 use Rattle.std.specs.Prelude.{ℕ, ◌-◌, List, [], ◌∷◌, ◌++◌, length, codes, decimal}
 use Rattle.exercise_model.specs.Recording.{PlainRecording}
 use Rattle.siman_pictures.specs.declared.frame.Frame.{Frame}
 use Rattle.siman_pictures.specs.Element.{element_text, number, word}
 use Rattle.siman_pictures.specs.Frame.{width_of, height_of}
 
--- how large the picture is, twice: to be shown, and in its own units
+-- the size of the picture, twice: as it is displayed, and in its own units
 abbrev pub size_text : Frame → List ℕ
 size_text f =
     codes "<svg xmlns=\"http://www.w3.org/2000/svg\" width=\"" ++ decimal (width_of f) ++ codes "\" height=\"" ++ decimal (height_of f) ++ codes "\""
@@ -15,11 +15,11 @@ view_text f =
     codes " viewBox=\"0 0 " ++ decimal (width_of f) ++ codes " " ++ decimal (height_of f)
     ++ codes "\" font-family=\"Helvetica,Arial,sans-serif\" font-size=\"11\">\n"
 
--- the element that is the picture
+-- the start tag of the picture
 unfoldable pub opening_text : Frame → List ℕ
 opening_text f = size_text f ++ view_text f
 
--- how many stations and entries there are, and which steps are shown
+-- the number of stations and entries, and the range of shown steps
 unfoldable pub counts_text : Frame → PlainRecording → List ℕ
 counts_text f r =
     decimal (length r.setting.stations) ++ codes " stations, " ++ decimal (length r.entries) ++ codes " entries, "
@@ -28,13 +28,13 @@ counts_text f r =
 abbrev pub title_text : PlainRecording → List ℕ
 title_text r = codes "<title>Exercise " ++ decimal r.setting.exercise ++ codes "</title>\n<desc>"
 
--- WHAT THE PICTURE IS OF, for readers who do not see it
+-- TITLE AND DESCRIPTION, for readers who do not see the picture
 unfoldable pub about_text : Frame → PlainRecording → List ℕ
 about_text f r =
     title_text r ++ counts_text f r
     ++ codes ". Stations are columns, steps are rows, from above; behind each row stands its entry in words.</desc>\n"
 
--- HOW IT LOOKS in print, and where dark colours are preferred: each colour has another one
+-- THE STYLE in print, and for readers who prefer dark colours: each colour has a substitute
 unfoldable pub style_text : List ℕ
 style_text =
     codes "<style>\n"
@@ -56,7 +56,7 @@ style_text =
     ++ codes "}\n"
     ++ codes "</style>\n"
 
--- THE HEADS OF ARROWS, the cross of what was lost, and the signs
+-- THE DEFINITIONS of arrow heads, the cross of a loss, and the signs
 unfoldable pub signs_text : List ℕ
 signs_text =
     codes "<defs>\n"
@@ -72,7 +72,7 @@ signs_text =
     ++ codes "<g id=\"unanswered\" stroke=\"#dc2626\" stroke-width=\"2\"><circle r=\"6\"/><path d=\"M-3 -3L3 3\"/></g>\n"
     ++ codes "</defs>\n"
 
--- what it is drawn on
+-- the white background
 unfoldable pub paper_text : Frame → List ℕ
 paper_text f =
     element_text (codes "rect") (number (codes "width") (width_of f) ∷ number (codes "height") (height_of f) ∷ word (codes "fill") (codes "#ffffff") ∷ [])
@@ -83,11 +83,11 @@ caption_begin = codes "<g fill=\"#1f2933\">\n<text x=\"24\" y=\"28\" font-size=\
 abbrev pub name_text : PlainRecording → List ℕ
 name_text r = codes "Exercise " ++ decimal r.setting.exercise ++ codes "</text>\n<text x=\"24\" y=\"48\">"
 
--- WHAT IT IS OF, in it
+-- THE CAPTION inside the picture: exercise number and counts
 unfoldable pub caption_text : Frame → PlainRecording → List ℕ
 caption_text f r = caption_begin ++ name_text r ++ counts_text f r ++ codes "</text>\n"
 
--- WHAT COLOURS AND SIGNS MEAN
+-- THE LEGEND of colours and signs
 unfoldable pub legend_text : List ℕ
 legend_text =
     codes "<line x1=\"24\" y1=\"68\" x2=\"48\" y2=\"68\" stroke=\"#1d4ed8\" stroke-width=\"2\" marker-end=\"url(#to-request)\"/><text x=\"56\" y=\"72\">request</text>\n"

@@ -1,4 +1,4 @@
--- Arrows, what came from outside, and what was lost (profile).
+-- Arrows, receipts from outside, and losses (profile).
 use Rattle.std.specs.Prelude.{ℕ, ◌+◌, ◌-◌, List, [], ◌∷◌, ◌++◌, codes, nat_lt, if◌then◌else◌}
 use Rattle.std.specs.List.{flat_map}
 use Rattle.exercise_model.specs.Recording.{PlainRecording}
@@ -13,7 +13,7 @@ use Rattle.siman_pictures.specs.Element.{element_text, number, word}
 use Rattle.siman_pictures.specs.Frame.{column_x, step_y}
 use Rattle.siman_pictures.specs.Tone.{tone_of, tone_if, colour_of, head_of}
 
--- AN ARROW, from where it was sent to where it was received
+-- AN ARROW, from the send to the receipt
 abbrev pub arrow_text : Frame → Arrow → List ℕ
 arrow_text f a =
     element_text (codes "line")
@@ -22,7 +22,7 @@ arrow_text f a =
     ∷ word (codes "stroke") (colour_of (tone_if a.said)) ∷ word (codes "marker-end") (head_of (tone_if a.said)) ∷ word (codes "class") (codes "arrow")
     ∷ number (codes "data-from") a.from.entry ∷ number (codes "data-to") a.to.entry ∷ [])
 
--- WHAT CAME FROM OUTSIDE: a short arrow, level
+-- A RECEIPT FROM OUTSIDE: a short horizontal arrow
 abbrev pub outside_text : Frame → FromOutside → List ℕ
 outside_text f o =
     element_text (codes "line")
@@ -31,11 +31,12 @@ outside_text f o =
     ∷ word (codes "stroke") (colour_of (tone_of o.said)) ∷ word (codes "marker-end") (head_of (tone_of o.said)) ∷ word (codes "class") (codes "outside")
     ∷ word (codes "data-by") (address_text (pair_at o.by)) ∷ number (codes "data-to") o.to.entry ∷ [])
 
--- the cross stands before the column of station t, which it did not reach from station s
+-- the place of the cross: before the column of station t, which the datagram of station s did not
+-- reach
 abbrev pub lost_x : Frame → (s t : ℕ) → ℕ
 lost_x f s t = if nat_lt s t then column_x f t - 16 else column_x f t + 16
 
--- WHAT WAS LOST, level from where it was sent
+-- A LOSS: a horizontal line from its send
 abbrev pub loss_text : Frame → PlainRecording → Loss → List ℕ
 loss_text f r l =
     element_text (codes "line")
@@ -44,7 +45,7 @@ loss_text f r l =
     ∷ word (codes "stroke") (colour_of (tone_of l.said)) ∷ word (codes "class") (codes "lost")
     ∷ number (codes "data-from") l.from.entry ∷ word (codes "data-at") (address_text (station_at r l.at).address) ∷ [])
 
--- ---- all of them
+-- ---- groups
 
 unfoldable pub arrows_text : Frame → List Arrow → List ℕ
 arrows_text f arrows = codes "<g stroke-width=\"2\">\n" ++ flat_map (arrow_text f) arrows ++ codes "</g>\n"

@@ -20,20 +20,20 @@ use Rattle.siman_pictures.specs.Bars.{bars_text}
 use Rattle.siman_pictures.specs.Lines.{arrows_text, outsiders_text, losses_text}
 use Rattle.siman_pictures.specs.Signs.{deeds_text, all_unanswered_text}
 
--- rows are of one of n stations, and what was lost did not reach one of them
+-- the rows and the losses name only stations below n
 pub record AreOfStations (n : ℕ) (m : MarksData) : Type 0 where
   pub rows : All (λ (row : Row). row.at.station < n) m.rows
   pub losses : All (λ (loss : Loss). loss.at < n) m.losses
 
--- the places in it depend on the rows that are shown, and on how many stations there are
+-- the frame: the shown rows and the number of stations decide all places
 abbrev pub frame_of : PlainRecording → Rows → Frame
 frame_of r rows = record { rows = rows; stations = length r.setting.stations }
 
--- what lies below the lines
+-- the part below the lines: heading, rows, columns and bars
 unfoldable pub under_text : Frame → PlainRecording → MarksData → List ℕ
 under_text f r m = heading_text f r ++ rows_text f r m.rows ++ columns_text f ++ bars_text f m.bars
 
--- the lines, the signs, and the names of the stations
+-- the lines, the signs, the names of the stations and the end
 unfoldable pub over_text : Frame → PlainRecording → MarksData → List ℕ
 over_text f r m =
     arrows_text f m.arrows ++ outsiders_text f m.outside ++ losses_text f r m.losses ++ deeds_text f m.rows
@@ -42,13 +42,14 @@ over_text f r m =
 abbrev pub picture_in : Frame → PlainRecording → MarksData → List ℕ
 picture_in f r m = under_text f r m ++ over_text f r m
 
--- THE PICTURE of the marks of a recording, where these steps are shown
+-- THE PICTURE of the marks of a recording, with these steps shown
 abbrev pub picture_text : PlainRecording → MarksData → Rows → List ℕ
 picture_text r m rows = picture_in (frame_of r rows) r m
 
--- ---- what a function returned
+-- ---- results of functions
 
--- the picture of the rows of steps of a certificate; OverLimit says that the rows are too many, or the stretches of some station
+-- the picture of a range of steps of a certificate; OverLimit says that there are too many rows, or
+-- too many spans of some station
 abbrev pub Draws : PlainRecording → List Step → Rows → Result (String Global) ChartFault → Type 0
 Draws r steps w (Ok text) = string_bytes text ≡ picture_text r (marks_of r steps w) w
 Draws r steps w (Err OverLimit) = (MOST_ROWS < row_count (scene_of r steps w)) ⊎ IsOverfull r

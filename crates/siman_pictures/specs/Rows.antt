@@ -12,7 +12,7 @@ use Rattle.siman_pictures.specs.Element.{element_text, begun_words, number, word
 use Rattle.siman_pictures.specs.Frame.{words_x, step_y}
 use Rattle.siman_pictures.specs.Words.{did_words}
 
--- the rule that leads to the words of a row at a height
+-- the horizontal rule, at height y, that leads to the words of a row
 unfoldable pub rule_text : Frame → (y : ℕ) → List ℕ
 rule_text f y =
     element_text (codes "line")
@@ -25,7 +25,7 @@ row_words r row =
     ++ fields_spelled Text (Bare (codes "address") (Word (address_text (station_at r row.at.station).address)) ∷ [])
     ++ did_words (station_at r row.at.station).address row.did
 
--- A ROW: the rule, and the words, which are the mark
+-- A ROW: its rule, and its words, which carry the row's attributes
 abbrev pub row_text : Frame → PlainRecording → Row → List ℕ
 row_text f r row =
     rule_text f (step_y f row.at.step)

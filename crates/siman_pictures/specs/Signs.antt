@@ -1,4 +1,5 @@
--- The signs on the columns: what was sent, what means nothing, states that were told, and orders that were never answered there (profile).
+-- The signs on the columns: sends, datagrams that mean nothing, state reports, and requests that
+-- were never answered there (profile).
 use Rattle.std.specs.Prelude.{ℕ, List, [], ◌∷◌, codes}
 use Rattle.std.specs.List.{flat_map}
 use Rattle.exercise_chart.specs.declared.point.Point.{Point}
@@ -10,14 +11,14 @@ use Rattle.siman_pictures.specs.Element.{element_text, number, word}
 use Rattle.siman_pictures.specs.Frame.{column_x, step_y}
 use Rattle.siman_pictures.specs.Tone.{tone_of, colour_of}
 
--- a sign where an entry stands
+-- a sign at the place of an entry
 abbrev pub sign_text : Frame → Point → (sign colour class : List ℕ) → List ℕ
 sign_text f p sign colour class =
     element_text (codes "use")
     (word (codes "href") sign ∷ number (codes "x") (column_x f p.station) ∷ number (codes "y") (step_y f p.step) ∷ word (codes "fill") colour
     ∷ word (codes "class") class ∷ number (codes "data-entry") p.entry ∷ [])
 
--- THE SIGN OF WHAT A STATION DID; what is received and means something is shown by its arrow
+-- THE SIGN OF WHAT A STATION DID; a receipt that means something has none: its arrow shows it
 abbrev pub deed_text : Frame → Point → Did → List ℕ
 deed_text f p (deeds.Sent said again) = sign_text f p (codes "#sent") (colour_of (tone_of said)) (codes "sent")
 deed_text f p (deeds.Received said) = []
@@ -28,7 +29,7 @@ deed_text f p (deeds.Told e y) = sign_text f p (codes "#told") (codes "#ffffff")
 unfoldable pub deeds_text : Frame → List Row → List ℕ
 deeds_text f rows = flat_map (λ (row : Row). deed_text f row.at row.did) rows
 
--- THE SIGN OF AN ORDER that was never answered there
+-- THE SIGN OF A REQUEST that was never answered there
 unfoldable pub unanswered_text : Frame → Point → List ℕ
 unanswered_text f p = sign_text f p (codes "#unanswered") (codes "#ffffff") (codes "unanswered")
 

@@ -1,4 +1,4 @@
--- What colour a datagram is drawn in, and with which head (profile).
+-- Colour and arrow head of a datagram (profile).
 use Rattle.std.specs.Prelude.{ℕ, List, codes, Option, Some, None}
 use Rattle.exercise_review.specs.declared.word.Word.{Word}
 use Rattle.exercise_review.specs.declared.word.Word.TheVariants as words
@@ -22,11 +22,12 @@ abbrev pub said_tone : Option Word → Option ℕ → Tone
 said_tone (Some word) request = word_tone word
 said_tone None request = request_tone request
 
--- THE TONE OF WHAT IS SAID: an answer by its word, and of all else what has a request identifier
+-- THE TONE OF A PDU: of an answer by what it says, of all else by whether it has a request
+-- identifier
 unfoldable pub tone_of : Saying → Tone
 tone_of said = said_tone said.word said.request
 
--- where nothing is known of it, that of another answer
+-- the tone of a PDU, or that of other answers for a datagram that means nothing
 unfoldable pub tone_if : Option Saying → Tone
 tone_if (Some said) = tone_of said
 tone_if None = tones.Other
@@ -38,7 +39,7 @@ colour_of tones.Unable = codes "#c2410c"
 colour_of tones.Other = codes "#475569"
 colour_of tones.Notice = codes "#7c3aed"
 
--- the heads are among the signs
+-- the arrow heads; Heading defines them
 unfoldable pub head_of : Tone → List ℕ
 head_of tones.Request = codes "url(#to-request)"
 head_of tones.Able = codes "url(#to-able)"

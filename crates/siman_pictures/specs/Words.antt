@@ -1,4 +1,4 @@
--- What a station did, in words, named as a log names it (profile).
+-- What a station did, in words, with the names that a log uses (profile).
 use Rattle.std.specs.Prelude.{ℕ, List, [], ◌∷◌, ◌++◌, codes, Option, Some, None}
 use Rattle.dis_records.specs.Address.{Pair}
 use Rattle.dis_records.specs.Texts.{entity_text, kind_text, state_text}
@@ -16,13 +16,13 @@ use Rattle.siman_texts.specs.Line.{Number, Word, Bare, Keyed}
 use Rattle.siman_texts.specs.Spelled.{fields_spelled}
 use Rattle.siman_reports.specs.Report.{entity_of}
 
--- the word of an answer; a Data says so by its kind
+-- what an answer says; a Data needs no word, its kind says it
 abbrev pub answer_words : Option Said → List ℕ
 answer_words None = []
 answer_words (Some words.Data) = []
 answer_words (Some word) = codes " " ++ word_text word
 
--- its kind, and the word of an answer
+-- the kind of a PDU, and what an answer says
 abbrev pub kind_words : Saying → List ℕ
 kind_words said = fields_spelled Text (Bare (codes "kind") (Word (kind_text said.kind)) ∷ []) ++ answer_words said.word
 
@@ -57,7 +57,7 @@ told_words address e y =
     fields_spelled Text (Bare (codes "did") (Word (codes "told")) ∷ Keyed (codes "entity") (Word (entity_text (entity_of address e)))
     ∷ Keyed (codes "state") (Word (state_text y)) ∷ [])
 
--- WHAT THE STATION OF AN ADDRESS DID
+-- WHAT THE STATION WITH AN ADDRESS DID
 unfoldable pub did_words : Pair → Did → List ℕ
 did_words address (deeds.Sent said again) = sent_words said again
 did_words address (deeds.Received said) = received_words said

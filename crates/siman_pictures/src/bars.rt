@@ -1,4 +1,4 @@
-//! Bars: how entities lived.
+//! Bars: the spans of the entities' lives.
 
 ghost use Rattle.std.specs.Prelude.{◌≡◌, ◌++◌, OnOk, string_bytes};
 ghost use Rattle.std.specs.List.{flat_map};
@@ -11,7 +11,7 @@ use dis_records::EntityState;
 use exercise_chart::{Bar, Point};
 use std::alloc::AllocError;
 
-/// The colour of a state.
+/// The colour of a state: green for Running, else amber.
 fn state_colour(state: EntityState) -> &'static str
     ensures { result.now ≡ state_colour state }
 {
@@ -21,7 +21,7 @@ fn state_colour(state: EntityState) -> &'static str
     }
 }
 
-/// The entry of a change, or none.
+/// The entry of a change, or the value for none.
 fn change_shown<'a>(change: Option<Point>) -> Shown<'a>
     ensures { shown_text result ≡ change_text change }
 {
@@ -31,7 +31,7 @@ fn change_shown<'a>(change: Option<Point>) -> Shown<'a>
     }
 }
 
-/// The left side of a bar in a slot.
+/// Left edge of a bar in its slot.
 fn left_of(frame: Frame, bar: &Bar) -> u64
     ensures { result ≡ left_of frame bar.now }
 {
@@ -43,14 +43,14 @@ fn left_of(frame: Frame, bar: &Bar) -> u64
     }
 }
 
-/// How wide bars are.
+/// Width of a bar.
 fn width_of(frame: Frame) -> u64
     ensures { result ≡ width_of frame }
 {
     if frame.is_wide() { 11 } else { 7 }
 }
 
-/// A stretch of an entity's life.
+/// Writes the rectangle of a bar.
 fn put_stretch(text: &mut String, frame: Frame, bar: &Bar) -> Result<(), AllocError>
     ensures { OnOk result (string_bytes text.new ≡ string_bytes text.old ++ stretch_text frame bar.now) }
 {
@@ -72,7 +72,7 @@ fn put_stretch(text: &mut String, frame: Frame, bar: &Bar) -> Result<(), AllocEr
     Ok(())
 }
 
-/// The number of its entity, where it begins.
+/// Writes the number of the bar's entity, at its upper end.
 fn put_name(text: &mut String, frame: Frame, bar: &Bar) -> Result<(), AllocError>
     ensures { OnOk result (string_bytes text.new ≡ string_bytes text.old ++ bar_name_text frame bar.now) }
 {
@@ -85,7 +85,7 @@ fn put_name(text: &mut String, frame: Frame, bar: &Bar) -> Result<(), AllocError
     Ok(())
 }
 
-/// A bar: the stretch, and the number of its entity.
+/// Writes a bar: its rectangle and the number of its entity.
 fn put_bar(text: &mut String, frame: Frame, bar: &Bar) -> Result<(), AllocError>
     ensures { OnOk result (string_bytes text.new ≡ string_bytes text.old ++ bar_text frame bar.now) }
 {
@@ -93,14 +93,14 @@ fn put_bar(text: &mut String, frame: Frame, bar: &Bar) -> Result<(), AllocError>
     put_name(text, frame, bar)
 }
 
-/// How large the numbers of entities are.
+/// Font size of the entity numbers.
 fn font_of(frame: Frame) -> &'static str
     ensures { result.now ≡ font_of frame }
 {
     if frame.is_wide() { "12" } else { "8" }
 }
 
-/// What holds of all numbers of entities: they are turned, as the bars are narrow.
+/// Writes the start tag of the bars. The entity numbers run vertically, since the bars are narrow.
 fn begin_bars(text: &mut String, frame: Frame) -> Result<(), AllocError>
     ensures { OnOk result (string_bytes text.new ≡ string_bytes text.old ++ bars_begin frame) }
 {
@@ -110,7 +110,7 @@ fn begin_bars(text: &mut String, frame: Frame) -> Result<(), AllocError>
     Ok(())
 }
 
-/// The bars.
+/// Writes all bars.
 #[tactic(auto, unfolding(crate::specs::Bars::bars_text))]
 pub(crate) fn put_bars(text: &mut String, frame: Frame, bars: &[Bar]) -> Result<(), AllocError>
     ensures { OnOk result (string_bytes text.new ≡ string_bytes text.old ++ bars_text frame bars.now) }

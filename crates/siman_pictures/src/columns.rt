@@ -10,7 +10,7 @@ use crate::frame::{Frame, TOP, names_y};
 use exercise_model::ExerciseLog;
 use std::alloc::AllocError;
 
-/// The line of a column.
+/// Writes the vertical line of a station's column.
 fn put_column(text: &mut String, frame: Frame, station: u16) -> Result<(), AllocError>
     ensures { OnOk result (string_bytes text.new ≡ string_bytes text.old ++ column_text frame station) }
 {
@@ -25,7 +25,7 @@ fn put_column(text: &mut String, frame: Frame, station: u16) -> Result<(), Alloc
     Ok(())
 }
 
-/// The lines of the columns.
+/// Writes the lines of all columns.
 #[tactic(auto, unfolding(crate::specs::Columns::columns_text))]
 pub(crate) fn put_columns(text: &mut String, frame: Frame) -> Result<(), AllocError>
     ensures { OnOk result (string_bytes text.new ≡ string_bytes text.old ++ columns_text frame) }
@@ -38,7 +38,7 @@ pub(crate) fn put_columns(text: &mut String, frame: Frame) -> Result<(), AllocEr
     Ok(())
 }
 
-/// The name of a station at a height.
+/// Writes the name of a station at height `y`.
 fn put_name<L: ExerciseLog>(
     text: &mut String,
     frame: Frame,
@@ -58,7 +58,7 @@ fn put_name<L: ExerciseLog>(
     Ok(())
 }
 
-/// The names of all stations at a height.
+/// Writes the names of all stations at height `y`.
 #[tactic(auto, unfolding(crate::specs::Columns::names_at))]
 fn put_names_at<L: ExerciseLog>(
     text: &mut String,
@@ -75,7 +75,7 @@ fn put_names_at<L: ExerciseLog>(
     Ok(())
 }
 
-/// The names of all stations, above each block of rows.
+/// Writes the names of all stations, above each block of rows.
 #[tactic(auto, unfolding(crate::specs::Columns::names_text))]
 pub(crate) fn put_names<L: ExerciseLog>(
     text: &mut String,

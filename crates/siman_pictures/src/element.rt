@@ -8,7 +8,7 @@ use exercise_review::Outsider;
 use siman_texts::{Field, Spelling, Value, put_opening};
 use std::alloc::AllocError;
 
-/// What an attribute or a word says. Words are ASCII without quotes, `<` and `&`.
+/// Value of an attribute, or text of a word. Words are ASCII without quotes, `<` and `&`.
 #[derive(Clone, Copy)]
 pub(crate) enum Shown<'a> {
     /// A number.
@@ -27,11 +27,11 @@ pub(crate) enum Shown<'a> {
     Missing,
 }
 
-/// An attribute: its key, and what it says.
+/// An attribute: its key and its value.
 #[derive(Clone, Copy)]
 pub(crate) struct Attribute<'a>(pub &'a str, pub Shown<'a>);
 
-/// What is said.
+/// Writes a value.
 fn put_shown(text: &mut String, shown: &Shown<'_>) -> Result<(), AllocError>
     ensures { OnOk result (string_bytes text.new ≡ string_bytes text.old ++ shown_text shown.now) }
 {
@@ -52,7 +52,7 @@ fn put_shown(text: &mut String, shown: &Shown<'_>) -> Result<(), AllocError>
     }
 }
 
-/// `KEY="VALUE"`, behind a blank.
+/// Writes `KEY="VALUE"` after a blank.
 fn put_attribute(text: &mut String, attribute: &Attribute<'_>) -> Result<(), AllocError>
     ensures { OnOk result (string_bytes text.new ≡ string_bytes text.old ++ attribute_text (attribute_of attribute.now)) }
 {
@@ -63,7 +63,7 @@ fn put_attribute(text: &mut String, attribute: &Attribute<'_>) -> Result<(), All
     text.push('"')
 }
 
-/// Attributes, one after the other.
+/// Writes attributes, one after the other.
 fn put_attributes(text: &mut String, attributes: &[Attribute<'_>]) -> Result<(), AllocError>
     ensures { OnOk result (string_bytes text.new ≡ string_bytes text.old ++ attributes_text (map attribute_of attributes.now)) }
 {
@@ -73,7 +73,7 @@ fn put_attributes(text: &mut String, attributes: &[Attribute<'_>]) -> Result<(),
     Ok(())
 }
 
-/// An element with nothing in it, on a line.
+/// Writes an empty element, on a line of its own.
 #[tactic(auto, unfolding(crate::specs::Element::element_text))]
 pub(crate) fn put_element(
     text: &mut String,
@@ -88,7 +88,7 @@ pub(crate) fn put_element(
     text.push_str("/>\n")
 }
 
-/// The beginning of words.
+/// Writes the start tag of a `text` element.
 #[tactic(auto, unfolding(crate::specs::Element::begun_words))]
 pub(crate) fn begin_words(text: &mut String, attributes: &[Attribute<'_>]) -> Result<(), AllocError>
     ensures { OnOk result (string_bytes text.new ≡ string_bytes text.old ++ begun_words (map attribute_of attributes.now)) }
@@ -98,7 +98,7 @@ pub(crate) fn begin_words(text: &mut String, attributes: &[Attribute<'_>]) -> Re
     text.push('>')
 }
 
-/// A word where its attributes say, on a line.
+/// Writes a `text` element with one word, on a line of its own.
 pub(crate) fn put_words(
     text: &mut String,
     attributes: &[Attribute<'_>],

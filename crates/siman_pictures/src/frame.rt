@@ -1,4 +1,4 @@
-//! Where the parts of a picture stand, in whole numbers from its left upper corner.
+//! Places of the parts of a picture, as whole numbers (SVG units) from its upper left corner.
 
 ghost use Rattle.std.specs.Prelude.{◌≡◌, ◌<◌, ◌≤◌, ◌^◌};
 ghost use Rattle.siman_pictures.specs.Frame.{is_wide, column_x, words_x, width_of, slot_x, row_y, rows_shown, bottom_y, height_of, step_y, since_y, until_y, blocks_of, names_y};
@@ -7,14 +7,14 @@ use exercise_chart::{MOST_ENTITIES, MOST_ROWS, Point, Rows};
 
 /// The middle of the first column.
 pub(crate) const LEFT: u64 = 40;
-/// The height of the first names.
+/// The height of the first line of station names.
 pub(crate) const TOP: u64 = 128;
-/// From a row to the next.
+/// Distance between two rows.
 pub(crate) const ROW: u64 = 20;
-/// So many rows stand below the names of the stations, before these stand there again.
+/// Rows between two lines of station names.
 pub(crate) const BLOCK: u64 = 40;
 
-/// What the places in a picture depend on: the steps that are shown, and how many stations there are.
+/// What all places depend on: the shown steps and the number of stations.
 #[derive(Clone, Copy)]
 pub(crate) struct Frame {
     pub rows: Rows,
@@ -22,7 +22,7 @@ pub(crate) struct Frame {
 }
 
 impl Frame {
-    /// Whether there is room for wide columns.
+    /// Whether the columns are wide: with at most 4 stations.
     pub(crate) fn is_wide(self) -> bool
         ensures { result ≡ is_wide self }
     {
@@ -44,7 +44,7 @@ impl Frame {
         }
     }
 
-    /// Where the words of the rows begin.
+    /// Left end of the words of the rows.
     pub(crate) fn words_x(self) -> u64
         ensures x { result ≡ words_x self }
         ensures inside { LEFT ≤ result }
@@ -53,7 +53,7 @@ impl Frame {
         self.x(self.stations)
     }
 
-    /// How wide the picture is.
+    /// Width of the picture.
     #[tactic(auto, unfolding(crate::specs::Frame::width_of))]
     pub(crate) fn width(self) -> u64
         ensures { result ≡ width_of self }
@@ -75,7 +75,7 @@ impl Frame {
         }
     }
 
-    /// How many rows there are.
+    /// The number of shown rows.
     pub(crate) fn rows_shown(self) -> u64
         ensures count { result ≡ rows_shown self }
         ensures few { result < 2 ^ 16 }
@@ -83,7 +83,7 @@ impl Frame {
         self.rows.count().min(MOST_ROWS) as u64
     }
 
-    /// How often the names of the stations stand there.
+    /// How many times the station names are drawn: once above each block of rows.
     pub(crate) fn blocks(self) -> u64
         ensures { result ≡ blocks_of self }
     {
@@ -98,7 +98,7 @@ impl Frame {
         row_y(self.rows_shown())
     }
 
-    /// How high the picture is.
+    /// Height of the picture.
     #[tactic(auto, unfolding(crate::specs::Frame::height_of))]
     pub(crate) fn height(self) -> u64
         ensures { result ≡ height_of self }
@@ -106,7 +106,7 @@ impl Frame {
         self.bottom_y() + 24
     }
 
-    /// The height of a step: of its row, or of the edge that it lies beyond.
+    /// The height of a step: of its row, or of the edge beyond which it lies.
     #[tactic(auto, unfolding(crate::specs::Frame::step_y))]
     pub(crate) fn step_y(self, step: usize) -> u64
         ensures y { result ≡ step_y self step }
@@ -144,7 +144,7 @@ impl Frame {
     }
 }
 
-/// The height of a row by its number among those that are shown, from 0.
+/// The height of a row, by its number among the shown rows, from 0.
 #[tactic(auto, unfolding(crate::specs::Frame::row_y))]
 fn row_y(number: u64) -> u64
     requires { number < 2 ^ 16 }
@@ -154,7 +154,7 @@ fn row_y(number: u64) -> u64
     TOP + ROW * (number + number / BLOCK + 1)
 }
 
-/// The height of the names of the stations above so many rows as a block has, so many times.
+/// The height of the station names above a block of rows, by the block's number from 0.
 #[tactic(auto, unfolding(crate::specs::Frame::names_y))]
 pub(crate) fn names_y(block: u64) -> u64
     requires { block < 2 ^ 16 }

@@ -1,4 +1,4 @@
-//! What stands above the rows: what the picture is of, how it looks, the signs, and what they mean.
+//! The part of a picture above the rows: title, style, signs and legend.
 
 ghost use Rattle.std.specs.Prelude.{◌≡◌, ◌<◌, ◌^◌, ◌-◌, ◌++◌, length, OnOk, string_bytes};
 ghost use Rattle.siman_pictures.specs.Frame.{rows_shown, width_of, height_of};
@@ -9,7 +9,7 @@ use crate::frame::Frame;
 use exercise_model::ExerciseLog;
 use std::alloc::AllocError;
 
-/// The element that is the picture.
+/// Writes the start tag of the picture, with its size.
 #[tactic(auto, unfolding(crate::specs::Heading::opening_text))]
 fn put_opening(text: &mut String, frame: Frame) -> Result<(), AllocError>
     ensures { OnOk result (string_bytes text.new ≡ string_bytes text.old ++ opening_text frame) }
@@ -27,7 +27,7 @@ fn put_opening(text: &mut String, frame: Frame) -> Result<(), AllocError>
     Ok(())
 }
 
-/// How many stations and entries there are, and which steps are shown.
+/// Writes the number of stations and entries, and the range of shown steps.
 #[tactic(auto, unfolding(crate::specs::Heading::counts_text))]
 fn put_counts<L: ExerciseLog>(text: &mut String, frame: Frame, log: &L) -> Result<(), AllocError>
     ensures { OnOk result (string_bytes text.new ≡ string_bytes text.old ++ counts_text frame (L.recording log.now)) }
@@ -43,7 +43,7 @@ fn put_counts<L: ExerciseLog>(text: &mut String, frame: Frame, log: &L) -> Resul
     Ok(())
 }
 
-/// What the picture is of, for readers who do not see it.
+/// Writes the title and a description, for readers who do not see the picture.
 #[tactic(auto, unfolding(crate::specs::Heading::about_text))]
 fn put_about<L: ExerciseLog>(text: &mut String, frame: Frame, log: &L) -> Result<(), AllocError>
     ensures { OnOk result (string_bytes text.new ≡ string_bytes text.old ++ about_text frame (L.recording log.now)) }
@@ -57,7 +57,7 @@ fn put_about<L: ExerciseLog>(text: &mut String, frame: Frame, log: &L) -> Result
     Ok(())
 }
 
-/// How it looks in print, and where dark colours are preferred.
+/// Writes the style: page margins in print, and other colours if the reader prefers dark ones.
 #[tactic(auto, unfolding(crate::specs::Heading::style_text))]
 fn put_style(text: &mut String) -> Result<(), AllocError>
     ensures { OnOk result (string_bytes text.new ≡ string_bytes text.old ++ style_text) }
@@ -85,7 +85,7 @@ fn put_style(text: &mut String) -> Result<(), AllocError>
     Ok(())
 }
 
-/// The heads of arrows, and the signs.
+/// Writes the definitions of arrow heads and signs.
 #[tactic(auto, unfolding(crate::specs::Heading::signs_text))]
 fn put_signs(text: &mut String) -> Result<(), AllocError>
     ensures { OnOk result (string_bytes text.new ≡ string_bytes text.old ++ signs_text) }
@@ -107,7 +107,7 @@ fn put_signs(text: &mut String) -> Result<(), AllocError>
     Ok(())
 }
 
-/// What it is drawn on.
+/// Writes the white background.
 #[tactic(auto, unfolding(crate::specs::Heading::paper_text))]
 fn put_paper(text: &mut String, frame: Frame) -> Result<(), AllocError>
     ensures { OnOk result (string_bytes text.new ≡ string_bytes text.old ++ paper_text frame) }
@@ -121,7 +121,7 @@ fn put_paper(text: &mut String, frame: Frame) -> Result<(), AllocError>
     Ok(())
 }
 
-/// What the picture is of, in it.
+/// Writes the caption inside the picture: exercise number and counts.
 #[tactic(auto, unfolding(crate::specs::Heading::caption_text))]
 fn put_caption<L: ExerciseLog>(text: &mut String, frame: Frame, log: &L) -> Result<(), AllocError>
     ensures { OnOk result (string_bytes text.new ≡ string_bytes text.old ++ caption_text frame (L.recording log.now)) }
@@ -136,7 +136,7 @@ fn put_caption<L: ExerciseLog>(text: &mut String, frame: Frame, log: &L) -> Resu
     Ok(())
 }
 
-/// What colours and signs mean.
+/// Writes the legend of colours and signs.
 #[tactic(auto, unfolding(crate::specs::Heading::legend_text))]
 fn put_legend(text: &mut String) -> Result<(), AllocError>
     ensures { OnOk result (string_bytes text.new ≡ string_bytes text.old ++ legend_text) }
@@ -158,7 +158,7 @@ fn put_legend(text: &mut String) -> Result<(), AllocError>
     Ok(())
 }
 
-/// All of it.
+/// Writes the whole heading.
 #[tactic(auto, unfolding(crate::specs::Heading::heading_text))]
 pub(crate) fn put_heading<L: ExerciseLog>(
     text: &mut String,

@@ -1,11 +1,11 @@
-//! The picture of an exercise, drawn from its marks as a text in SVG: stations are columns, steps are
-//! rows, and behind each row stands its entry in words.
+//! The picture of an exercise, drawn from its marks as an SVG text: stations are columns, steps are
+//! rows, and each row ends with its entry in words.
 //!
-//! [`draw`] gives the whole text; its contract gives each byte, by the definition `picture_text` on the
-//! page `Picture`, as a function of the recording, its marks and the steps that are shown. It opens no
-//! file, writes to no stream, and judges neither the recording nor the certificate. What a mark is
-//! drawn as stands on the pages `Rows`, `Words`, `Lines`, `Signs` and `Bars`; where it stands, on
-//! `Frame`; all are elements with attributes (`Element`).
+//! [`draw`] returns the whole text. It opens no file, writes to no stream, and judges neither the
+//! recording nor the certificate. A caller may use its contract, which gives each byte by the
+//! definition `picture_text` of the page `Picture`, as a function of the recording, its marks and
+//! the shown steps. The pages `Rows`, `Words`, `Lines`, `Signs` and `Bars` define the elements of
+//! each mark, `Frame` their places, and `Element` the spelling of elements.
 #![tactic(auto)]
 
 mod bars;

@@ -1,4 +1,4 @@
-//! Arrows, what came from outside, and what was lost.
+//! Arrows, receipts from outside, and losses.
 
 ghost use Rattle.std.specs.Prelude.{◌≡◌, ◌<◌, ◌++◌, length, All, OnOk, string_bytes};
 ghost use Rattle.std.specs.List.{flat_map};
@@ -12,7 +12,7 @@ use exercise_chart::{Arrow, FromOutside, Loss};
 use exercise_model::ExerciseLog;
 use std::alloc::AllocError;
 
-/// An arrow, from where it was sent to where it was received.
+/// Writes an arrow, from the send to the receipt.
 fn put_arrow(text: &mut String, frame: Frame, arrow: &Arrow) -> Result<(), AllocError>
     ensures { OnOk result (string_bytes text.new ≡ string_bytes text.old ++ arrow_text frame arrow.now) }
 {
@@ -32,7 +32,7 @@ fn put_arrow(text: &mut String, frame: Frame, arrow: &Arrow) -> Result<(), Alloc
     Ok(())
 }
 
-/// A short arrow to where something came from outside.
+/// Writes a short horizontal arrow to a receipt from outside.
 fn put_outsider(text: &mut String, frame: Frame, outsider: &FromOutside) -> Result<(), AllocError>
     ensures { OnOk result (string_bytes text.new ≡ string_bytes text.old ++ outside_text frame outsider.now) }
 {
@@ -54,7 +54,8 @@ fn put_outsider(text: &mut String, frame: Frame, outsider: &FromOutside) -> Resu
     Ok(())
 }
 
-/// Where the cross of what was lost stands: before the column of the station that it did not reach.
+/// Horizontal place of the cross of a loss: 16 units before the column of the station that the
+/// datagram did not reach.
 fn lost_x(frame: Frame, from: u16, at: u16) -> u64
     ensures { result ≡ lost_x frame from at }
 {
@@ -65,7 +66,7 @@ fn lost_x(frame: Frame, from: u16, at: u16) -> u64
     }
 }
 
-/// What was lost, level from where it was sent.
+/// Writes the line of a loss, horizontal from its send.
 fn put_loss<L: ExerciseLog>(
     text: &mut String,
     frame: Frame,
@@ -95,7 +96,7 @@ fn put_loss<L: ExerciseLog>(
     Ok(())
 }
 
-/// The arrows.
+/// Writes all arrows.
 #[tactic(auto, unfolding(crate::specs::Lines::arrows_text))]
 pub(crate) fn put_arrows(
     text: &mut String,
@@ -112,7 +113,7 @@ pub(crate) fn put_arrows(
     Ok(())
 }
 
-/// What came from outside.
+/// Writes all receipts from outside.
 #[tactic(auto, unfolding(crate::specs::Lines::outsiders_text))]
 pub(crate) fn put_outsiders(
     text: &mut String,
@@ -129,7 +130,7 @@ pub(crate) fn put_outsiders(
     Ok(())
 }
 
-/// What was lost.
+/// Writes all losses.
 #[tactic(auto, unfolding(crate::specs::Lines::losses_text))]
 pub(crate) fn put_losses<L: ExerciseLog>(
     text: &mut String,

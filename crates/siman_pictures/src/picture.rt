@@ -1,4 +1,4 @@
-//! The picture of an exercise, as a text.
+//! The picture of an exercise, as an SVG text.
 
 ghost use Rattle.std.specs.Prelude.{◌≡◌, ◌-◌, ◌≤◌, ◌++◌, length, OnOk, IfOk, string_bytes};
 ghost use Rattle.exercise_model.specs.Recording.{IsRecording};
@@ -18,7 +18,7 @@ use exercise_model::ExerciseLog;
 use exercise_review::Register;
 use std::alloc::{AllocError, Global};
 
-/// The frame of the rows of a recording.
+/// The frame of the shown rows of a recording.
 fn frame_of<L: ExerciseLog>(log: &L, rows: Rows) -> Frame
     ensures frame { result ≡ frame_of (L.recording log.now) rows }
     ensures limits { IsRecording (L.recording log.now) }
@@ -29,7 +29,7 @@ fn frame_of<L: ExerciseLog>(log: &L, rows: Rows) -> Frame
     }
 }
 
-/// What lies below the lines: the heading, the words of the rows, the columns and the bars.
+/// Writes what lies below the lines: the heading, the words of the rows, the columns and the bars.
 #[tactic(auto, unfolding(crate::specs::Picture::under_text))]
 fn put_under<L: ExerciseLog>(
     text: &mut String,
@@ -46,7 +46,7 @@ fn put_under<L: ExerciseLog>(
     put_bars(text, frame, &marks.bars)
 }
 
-/// The lines, the signs, and the names of the stations.
+/// Writes the lines, the signs, the names of the stations and the end of the text.
 #[tactic(auto, unfolding(crate::specs::Picture::over_text))]
 fn put_over<L: ExerciseLog>(
     text: &mut String,
@@ -67,7 +67,7 @@ fn put_over<L: ExerciseLog>(
     text.push_str("</svg>\n")
 }
 
-/// The picture of marks in a frame.
+/// The picture of marks in a frame. The text takes memory.
 fn picture_in<L: ExerciseLog>(
     alloc: Global,
     frame: Frame,
@@ -84,9 +84,9 @@ fn picture_in<L: ExerciseLog>(
     Ok(text)
 }
 
-/// The picture of the rows of steps of a certificate of a recording, which is good or not.
-/// `OverLimit` where these are more than 2,000 rows, or where the entities of a station have more
-/// than 4,194,304 stretches; what is made takes memory.
+/// Draws a range of steps of a certificate of a recording; the certificate need not be good.
+/// `OverLimit` if the range has more than 2,000 rows, or the entities of a station have more than
+/// 4,194,304 spans. The text takes memory.
 pub fn draw<L: ExerciseLog>(
     alloc: Global,
     register: &Register<'_, L>,

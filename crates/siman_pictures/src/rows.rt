@@ -13,7 +13,7 @@ use exercise_model::ExerciseLog;
 use siman_texts::{Field, Spelling, Value, put_fields, put_opening};
 use std::alloc::AllocError;
 
-/// The rule that leads to the words of a row at a height.
+/// Writes the horizontal rule, at height `y`, that leads to the words of a row.
 #[tactic(auto, unfolding(crate::specs::Rows::rule_text))]
 fn put_rule(text: &mut String, frame: Frame, y: u64) -> Result<(), AllocError>
     requires { y < 2 ^ 24 }
@@ -30,7 +30,7 @@ fn put_rule(text: &mut String, frame: Frame, y: u64) -> Result<(), AllocError>
     Ok(())
 }
 
-/// The entry of a row, and what its station did.
+/// Writes the entry of a row, the address of its station, and what the station did.
 #[tactic(auto, unfolding(crate::specs::Rows::row_words))]
 fn put_row_words<L: ExerciseLog>(text: &mut String, log: &L, row: &Row) -> Result<(), AllocError>
     requires { row.now.at.station < length (L.recording log.now).setting.stations }
@@ -44,7 +44,7 @@ fn put_row_words<L: ExerciseLog>(text: &mut String, log: &L, row: &Row) -> Resul
     put_did(text, address, &row.did)
 }
 
-/// A row: its rule and its words.
+/// Writes a row: its rule and its words.
 fn put_row<L: ExerciseLog>(
     text: &mut String,
     frame: Frame,
@@ -69,7 +69,7 @@ fn put_row<L: ExerciseLog>(
     Ok(())
 }
 
-/// The rows.
+/// Writes all rows.
 #[tactic(auto, unfolding(crate::specs::Rows::rows_text))]
 pub(crate) fn put_rows<L: ExerciseLog>(
     text: &mut String,

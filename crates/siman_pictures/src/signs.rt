@@ -1,5 +1,5 @@
-//! The signs on the columns: what was sent, what means nothing, states that were told, and orders
-//! that were never answered there.
+//! The signs on the columns: sends, datagrams that mean nothing, state reports, and requests that
+//! were never answered there.
 
 ghost use Rattle.std.specs.Prelude.{◌≡◌, ◌++◌, OnOk, string_bytes};
 ghost use Rattle.std.specs.List.{flat_map};
@@ -11,7 +11,7 @@ use crate::tone::Tone;
 use exercise_chart::{Did, Point, Row};
 use std::alloc::AllocError;
 
-/// A sign where an entry stands, of this class.
+/// Writes a sign at the place of an entry, with a colour and a class.
 fn put_sign<'a>(
     text: &mut String,
     frame: Frame,
@@ -34,7 +34,8 @@ fn put_sign<'a>(
     Ok(())
 }
 
-/// The sign of what a station did, if it has one.
+/// Writes the sign of what a station did. A receipt that means something has none: its arrow shows
+/// it.
 fn put_deed(text: &mut String, frame: Frame, row: &Row) -> Result<(), AllocError>
     ensures { OnOk result (string_bytes text.new ≡ string_bytes text.old ++ deed_text frame row.now.at row.now.did) }
 {
@@ -50,7 +51,7 @@ fn put_deed(text: &mut String, frame: Frame, row: &Row) -> Result<(), AllocError
     }
 }
 
-/// The signs of what the stations did.
+/// Writes the signs of what the stations did.
 #[tactic(auto, unfolding(crate::specs::Signs::deeds_text))]
 pub(crate) fn put_deeds(text: &mut String, frame: Frame, rows: &[Row]) -> Result<(), AllocError>
     ensures { OnOk result (string_bytes text.new ≡ string_bytes text.old ++ deeds_text frame rows.now) }
@@ -61,7 +62,7 @@ pub(crate) fn put_deeds(text: &mut String, frame: Frame, rows: &[Row]) -> Result
     Ok(())
 }
 
-/// The sign of an order that was never answered there.
+/// Writes the sign of a request that was never answered there.
 #[tactic(auto, unfolding(crate::specs::Signs::unanswered_text))]
 fn put_unanswered_at(text: &mut String, frame: Frame, at: &Point) -> Result<(), AllocError>
     ensures { OnOk result (string_bytes text.new ≡ string_bytes text.old ++ unanswered_text frame at.now) }
@@ -69,7 +70,7 @@ fn put_unanswered_at(text: &mut String, frame: Frame, at: &Point) -> Result<(), 
     put_sign(text, frame, at, "#unanswered", "#ffffff", "unanswered")
 }
 
-/// The signs of orders that were never answered there.
+/// Writes the signs of all requests that were never answered there.
 #[tactic(auto, unfolding(crate::specs::Signs::all_unanswered_text))]
 pub(crate) fn put_unanswered(
     text: &mut String,

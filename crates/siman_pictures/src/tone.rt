@@ -1,4 +1,4 @@
-//! What colour a datagram is drawn in, and with which head.
+//! Colour and arrow head of a datagram.
 
 ghost use Rattle.std.specs.Prelude.{◌≡◌};
 ghost use Rattle.siman_pictures.specs.Tone.{word_tone, request_tone, tone_of, tone_if, colour_of, head_of};
@@ -6,7 +6,7 @@ ghost use Rattle.siman_pictures.specs.Tone.{word_tone, request_tone, tone_of, to
 use exercise_chart::Saying;
 use exercise_review::Word;
 
-/// What a datagram is drawn as.
+/// Class of a datagram, which decides its colour and its arrow head.
 #[derive(Clone, Copy)]
 pub(crate) enum Tone {
     /// A request.
@@ -21,7 +21,7 @@ pub(crate) enum Tone {
     Notice,
 }
 
-/// The tone of an answer with this word.
+/// The tone of an answer, by what it says.
 fn word_tone(word: Word) -> Tone
     ensures { result ≡ word_tone word }
 {
@@ -32,7 +32,7 @@ fn word_tone(word: Word) -> Tone
     }
 }
 
-/// The tone of what is no answer, with this request identifier.
+/// The tone of a PDU that is no answer: a request if it has a request identifier, else a notice.
 fn request_tone(request: Option<u32>) -> Tone
     ensures { result ≡ request_tone request }
 {
@@ -43,7 +43,7 @@ fn request_tone(request: Option<u32>) -> Tone
 }
 
 impl Tone {
-    /// The tone of what a datagram says.
+    /// The tone of a PDU.
     #[tactic(auto, unfolding(crate::specs::Tone::tone_of))]
     pub(crate) fn of(said: &Saying) -> Tone
         ensures { result ≡ tone_of said.now }
@@ -54,7 +54,7 @@ impl Tone {
         }
     }
 
-    /// The same, where it says something.
+    /// The tone of a PDU, or `Other` for a datagram that means nothing.
     #[tactic(auto, unfolding(crate::specs::Tone::tone_if))]
     pub(crate) fn of_any(said: &Option<Saying>) -> Tone
         ensures { result ≡ tone_if said.now }
@@ -65,7 +65,7 @@ impl Tone {
         }
     }
 
-    /// Its colour.
+    /// The colour, as `#rrggbb`.
     #[tactic(auto, unfolding(crate::specs::Tone::colour_of))]
     pub(crate) fn colour(self) -> &'static str
         ensures { result.now ≡ colour_of self }
@@ -79,7 +79,7 @@ impl Tone {
         }
     }
 
-    /// The head of its arrows.
+    /// The arrow head, as a `url(..)` of a marker.
     #[tactic(auto, unfolding(crate::specs::Tone::head_of))]
     pub(crate) fn head(self) -> &'static str
         ensures { result.now ≡ head_of self }

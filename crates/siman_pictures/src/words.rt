@@ -9,7 +9,7 @@ use exercise_review::Word;
 use siman_texts::{Field, Spelling, Value, put_fields};
 use std::alloc::AllocError;
 
-/// The word of an answer; a Data says so by its kind.
+/// Writes what an answer says. A Data needs no word: its kind says it.
 fn put_answer(text: &mut String, word: Option<Word>) -> Result<(), AllocError>
     ensures { OnOk result (string_bytes text.new ≡ string_bytes text.old ++ answer_words word) }
 {
@@ -19,7 +19,7 @@ fn put_answer(text: &mut String, word: Option<Word>) -> Result<(), AllocError>
     }
 }
 
-/// The kind of a PDU, and the word of an answer.
+/// Writes the kind of a PDU, and what an answer says.
 fn put_kind(text: &mut String, said: &Saying) -> Result<(), AllocError>
     ensures { OnOk result (string_bytes text.new ≡ string_bytes text.old ++ kind_words said.now) }
 {
@@ -28,7 +28,7 @@ fn put_kind(text: &mut String, said: &Saying) -> Result<(), AllocError>
     put_answer(text, said.word)
 }
 
-/// The request identifier, if there is one.
+/// Writes the request identifier, if the PDU has one.
 fn put_request(text: &mut String, request: Option<u32>) -> Result<(), AllocError>
     ensures { OnOk result (string_bytes text.new ≡ string_bytes text.old ++ request_words request) }
 {
@@ -41,7 +41,7 @@ fn put_request(text: &mut String, request: Option<u32>) -> Result<(), AllocError
     }
 }
 
-/// Whether it was sent before.
+/// Writes how a send repeats an earlier one, if it does.
 fn put_again(text: &mut String, again: Again) -> Result<(), AllocError>
     ensures { OnOk result (string_bytes text.new ≡ string_bytes text.old ++ again_words again) }
 {
@@ -52,7 +52,7 @@ fn put_again(text: &mut String, again: Again) -> Result<(), AllocError>
     }
 }
 
-/// What was sent, to whom.
+/// Writes that a PDU was sent, and to whom.
 fn put_sent(text: &mut String, said: &Saying, again: Again) -> Result<(), AllocError>
     ensures { OnOk result (string_bytes text.new ≡ string_bytes text.old ++ sent_words said.now again) }
 {
@@ -64,7 +64,7 @@ fn put_sent(text: &mut String, said: &Saying, again: Again) -> Result<(), AllocE
     put_again(text, again)
 }
 
-/// What was received, from whom.
+/// Writes that a PDU was received, and from whom.
 fn put_received(text: &mut String, said: &Saying) -> Result<(), AllocError>
     ensures { OnOk result (string_bytes text.new ≡ string_bytes text.old ++ received_words said.now) }
 {
@@ -75,7 +75,7 @@ fn put_received(text: &mut String, said: &Saying) -> Result<(), AllocError>
     put_request(text, said.request)
 }
 
-/// A datagram that means nothing here, which was sent or received.
+/// Writes that a datagram which means nothing was sent or received, with its length.
 fn put_other(text: &mut String, did: &str, bytes: usize) -> Result<(), AllocError>
     ensures { OnOk result (string_bytes text.new ≡ string_bytes text.old ++ other_words did.now bytes) }
 {
@@ -87,7 +87,7 @@ fn put_other(text: &mut String, did: &str, bytes: usize) -> Result<(), AllocErro
     put_fields(text, Spelling::Text, &fields)
 }
 
-/// The state that a station told of its entity.
+/// Writes the state that a station told of its entity.
 fn put_told(
     text: &mut String,
     address: Address,
@@ -109,7 +109,7 @@ fn put_told(
     put_fields(text, Spelling::Text, &fields)
 }
 
-/// What the station of an address did.
+/// Writes what the station with this address did.
 #[tactic(auto, unfolding(crate::specs::Words::did_words))]
 pub(crate) fn put_did(text: &mut String, address: Address, did: &Did) -> Result<(), AllocError>
     ensures { OnOk result (string_bytes text.new ≡ string_bytes text.old ++ did_words address did.now) }

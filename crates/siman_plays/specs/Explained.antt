@@ -1,4 +1,4 @@
--- Why a script is refused, and where its move stands that cannot be made (profile).
+-- Why a script is refused, and the place of a move that cannot be made (profile).
 use Rattle.std.specs.Prelude.{◌≡◌, ◌⊎◌, ⊤, ℕ, nat_le, List, [], length, take, Option, Some, None, Result, Ok, Err}
 use Rattle.siman_scripts.specs.declared.script_fault.ScriptFault.{ScriptFault}
 use Rattle.siman_scripts.specs.declared.script_fault.ScriptFault.TheVariants as scripts
@@ -13,16 +13,17 @@ use Rattle.siman_answers.specs.declared.fault.Fault.{Fault}
 use Rattle.siman_answers.specs.declared.fault.Fault.TheVariants.{Script, World, Memory}
 use Rattle.siman_answers.specs.declared.move_place.MovePlace.{MovePlace}
 
--- what reading a script gives
+-- the result of reading a script
 abbrev pub Scripted : Type 0
 Scripted = Result ScriptData ScriptFault
 
--- the text, where it is a script
+-- the text, if it is a script
 abbrev pub lines_if : Scripted → List ℕ → List ℕ
 lines_if (Ok s) text = text
 lines_if (Err fault) text = []
 
--- WHAT IS READ OF A TEXT: its script, or its first line that is refused; why that is refused; and the text, where it is a script
+-- WHAT IS READ OF A TEXT: its script, or its first refused line; why that is refused; and the text, if it is a
+-- script
 pub record TextRead : Type 0 where
   pub scripted : Scripted
   pub reason : Option LineReason
@@ -37,26 +38,26 @@ Refuses t (scripts.BadLine line) told = (told ≡ Memory) ⊎ (told ≡ Script (
 Refuses t (scripts.UnknownStation line) told = (told ≡ Memory) ⊎ (told ≡ Script (scripts.UnknownStation line) t.reason)
 Refuses t scripts.Memory told = told ≡ Memory
 
--- how many datagrams are sent by the first moves of a script
+-- how many datagrams the first moves of a script send
 abbrev pub sends_before : ScriptData → (number : ℕ) → ℕ
 sends_before s number =
     let w : WorldData = record { exercise = s.exercise; stations = s.stations } in length (sent_in (entries_of w (take number s.moves)))
 
--- where the move of a number, from 0, stands in its script
+-- the place of a move in its script, given its number, from 0
 pub record StandsAt (t : TextRead) (number : ℕ) (place : MovePlace) : Type 0 where
   pub line : line_of_move t.lines number ≡ Some place.line
   pub script : ScriptData
   pub read : t.scripted ≡ Ok script
   pub sends : place.sends ≡ Some (sends_before script number)
 
--- A WORLD DOES NOT RUN: the move that cannot be made stands there; or memory ran out
+-- A WORLD DOES NOT RUN, with the place of the move that cannot be made; or memory ran out
 abbrev pub Stopped : TextRead → WorldFault → Fault → Type 0
 Stopped t worlds.Stations told = told ≡ World worlds.Stations None
 Stopped t (worlds.Move number fault) told =
     (told ≡ Memory) ⊎ ((place : MovePlace) × StandsAt t number place × (told ≡ World (worlds.Move number fault) (Some place)))
 Stopped t worlds.Memory told = told ≡ Memory
 
--- what is told of a fault besides: why, or where
+-- the reason or place that a fault has
 abbrev pub TellsWhy : TextRead → Fault → Type 0
 TellsWhy t (Script fault why) = why ≡ t.reason
 TellsWhy t (World (worlds.Move number fault) there) = (place : MovePlace) × (there ≡ Some place) × StandsAt t number place

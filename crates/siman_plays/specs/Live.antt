@@ -30,7 +30,8 @@ use Rattle.siman_lines.specs.declared.station_at_line.StationAtLine.{StationAtLi
 use Rattle.siman_lines.specs.AtLines.{Telling, Misfits, posts_of}
 use Rattle.siman_scripts.specs.declared.act.Move.{Move}
 
--- WHAT COMES OF A SCRIPT BEFORE ITS MOVES: its stations begin, or it is told why not. The first line of the script that is refused, or stations that a world cannot have; a failed read may come in place of the script, want of memory at any time.
+-- A SCRIPT HAS NO STATIONS TO BEGIN WITH: its first refused line, or stations that a world cannot have; or the
+-- script could not be read; or memory ran out, which may happen at any time
 abbrev pub BeginsNone : Scripted → Fault → Type 0
 BeginsNone scripted (Script (scripts.BadLine line) why) = scripted ≡ Err (scripts.BadLine line)
 BeginsNone scripted (Script (scripts.UnknownStation line) why) = scripted ≡ Err (scripts.UnknownStation line)
@@ -39,7 +40,8 @@ BeginsNone scripted (World worlds.Stations there) = (s : ScriptData) × (scripte
 BeginsNone scripted Memory = ⊤
 BeginsNone scripted other = ⊥
 
--- the stations of a script were begun, each with its halves, and its moves are these
+-- the stations of a script in their initial state, each with its manager and application, and the moves of the
+-- script
 pub record IsBegun (scripted : Scripted) (begun : Begun) : Type 0 where
   pub script : ScriptData
   pub read : scripted ≡ Ok script
@@ -52,22 +54,22 @@ abbrev pub Begins : Scripted → Result Begun Fault → Type 0
 Begins scripted (Ok begun) = IsBegun scripted begun
 Begins scripted (Err fault) = BeginsNone scripted fault
 
--- so of what was read of a text, which is kept with it; and it is told why none was begun
+-- the stations and moves of what was read of a text, together with the text; or the reason why there are none
 abbrev pub BeginsText : TextRead → Result BegunText Fault → Type 0
 BeginsText t (Ok kept) = IsBegun t.scripted kept.begun × (kept.text.items ≡ t.lines)
 BeginsText t (Err fault) = BeginsNone t.scripted fault × TellsWhy t fault
 
--- WHAT COMES OF A FILE for `live` that has these bytes, where they are known; what is done then follows
+-- WHAT `live` BEGINS WITH, of a file with these bytes, if they are known
 abbrev pub BeginsFile : (known : Option (List ℕ)) → Result BegunText Fault → Type 0
 BeginsFile known begun = (text : List ℕ) × Has known text × BeginsText (text_read text) begun
 
--- how it is told that a file was not created: want of memory, or that one stands there, or else as a failed write
+-- the fault of a file that was not created: memory ran out, a file of that name exists, or else a failed write
 abbrev pub IsUncreated : ErrorKind → Fault → Type 0
 IsUncreated kind fault =
     ((kind ≡ OutOfMemory) × (fault ≡ Memory)) ⊎ ((kind ≡ AlreadyExists) × (fault ≡ Exists))
     ⊎ ((kind ≢ OutOfMemory) × (kind ≢ AlreadyExists) × (fault ≡ Output))
 
--- A FILE IS CREATED, in which the stations record what they do, and is left
+-- A FILE IS CREATED, in which the stations record what they do, and is closed
 abbrev pub CreatesLived : {L : Type 0} → Telling L → SettingData → List Move → List (StationAtLine L) → (name : List ℕ) → List Deed → Answered → Stream → Type 0
 CreatesLived told w moves posts name (Creates made (Err kind) ∷ []) answered out =
     (made ≡ name) × Keeps out.old out.new × ((fault : Fault) × IsUncreated kind fault × (answered ≡ Err fault))
@@ -75,11 +77,12 @@ CreatesLived told w moves posts name (Creates made (Ok fresh) ∷ Leaves left �
     (made ≡ name) × (let file : Stream = record { old = fresh; new = left } in Lives told w moves posts file answered out)
 CreatesLived told w moves posts name deeds answered out = ⊥
 
--- none is created, and nothing is out
+-- no file is created, and nothing is printed
 abbrev pub CreatesNone : Fault → List Deed → Answered → Stream → Type 0
 CreatesNone fault deeds answered out = (deeds ≡ []) × (answered ≡ Err fault) × Keeps out.old out.new
 
--- STATIONS STAND AT THEIR LINES, post i with node i, line i and station i; none does where there are not as many lines as stations, or where memory runs out
+-- STATIONS ARE ATTACHED TO THEIR LINKS, post i with node i, link i and station i; none is, if there are not as many
+-- links as stations, or if memory runs out
 abbrev pub StandsAtLines : {L : Type 0} → Telling L → Begun → List L → (name : List ℕ) → List Deed → Answered → Stream → Type 0
 StandsAtLines told begun lines name deeds answered out =
     (Misfits begun.nodes.items lines × CreatesNone LineFailed deeds answered out)
@@ -87,7 +90,7 @@ StandsAtLines told begun lines name deeds answered out =
     ⊎ ((length lines ≡ length begun.nodes.items)
     × CreatesLived told begun.recording.setting begun.moves.items (posts_of begun.nodes.items lines) name deeds answered out)
 
--- AS MANY LINES AS STATIONS are asked for; that none could be had is told as `live: line`, or as want of memory
+-- AS MANY LINKS AS STATIONS are requested; if there are none, the fault is `live: line`, or that memory ran out
 abbrev pub LivesAtLines : {L : Type 0} → Telling L → Begun → (name : List ℕ) → List Deed → Answered → Stream → Type 0
 LivesAtLines told begun name (Lines stations (Err kind) ∷ deeds) answered out =
     (stations ≡ length begun.nodes.items) × ((fault : Fault) × IsToldAs kind LineFailed fault × CreatesNone fault deeds answered out)
@@ -95,13 +98,13 @@ LivesAtLines {L} told begun name (Lines stations (Ok count) ∷ deeds) answered 
     (stations ≡ length begun.nodes.items) × ((lines : List L) × (length lines ≡ count) × StandsAtLines told begun lines name deeds answered out)
 LivesAtLines told begun name deeds answered out = ⊥
 
--- WHERE A FILE STANDS under the name nothing is done, and no line is asked for
+-- A FILE OF THAT NAME EXISTS: nothing is done, and no link is requested
 abbrev pub LivesBegun : {L : Type 0} → Telling L → Begun → (name : List ℕ) → List Deed → Answered → Stream → Type 0
 LivesBegun told begun name (LooksFor looked true ∷ deeds) answered out = (looked ≡ name) × CreatesNone Exists deeds answered out
 LivesBegun told begun name (LooksFor looked false ∷ deeds) answered out = (looked ≡ name) × LivesAtLines told begun name deeds answered out
 LivesBegun told begun name deeds answered out = ⊥
 
--- WHAT IS TOLD OF A MOVE that cannot be made: the line of the script that says it, unless memory ran out
+-- THE FAULT OF A MOVE that cannot be made has the line of the script with that move, unless memory ran out
 abbrev pub IsPlaced : (text : List ℕ) → (lived answered : Answered) → Type 0
 IsPlaced text lived answered =
     (answered ≡ lived)
@@ -112,7 +115,7 @@ abbrev pub LivesText : {L : Type 0} → Telling L → BegunText → (name : List
 LivesText told kept name deeds answered out =
     (lived : Answered) × LivesBegun told kept.begun name deeds lived out × IsPlaced kept.text.items lived answered
 
--- HOW `live` ENDS.
+-- THE END OF `live`.
 
 -- a file was created
 abbrev pub is_created : List Deed → Bool
@@ -120,7 +123,7 @@ is_created [] = false
 is_created (Creates name (Ok fresh) ∷ deeds) = true
 is_created (deed ∷ deeds) = is_created deeds
 
--- the recording that stands begun after a fault: the file that was created before
+-- the incomplete recording that a fault leaves: the file that was created before
 abbrev pub begun_in : (created : Bool) → (name : List ℕ) → Answered → Option (List ℕ)
 begun_in true name (Err fault) = Some name
 begun_in true name (Ok status) = None

@@ -1,4 +1,5 @@
--- What a trial of a script comes to: its world is run, its recording searched for an order, and the recording judged by that order.
+-- The result of a trial of a script: its world is run, its recording searched for a sequence, and the recording
+-- judged by that sequence.
 use Rattle.std.specs.Prelude.{◌≡◌, ℕ, Bool, true, false, List, ◌++◌, length, Option, Some, None, Result, Ok, Err}
 use Rattle.std.specs.Io.KnownBytes.{Appends, Keeps}
 use Rattle.byte_files.specs.Writing.{WritesPart}
@@ -20,25 +21,28 @@ use Rattle.siman_answers.specs.Recorded.{explained_text}
 use Rattle.siman_plays.specs.Explained.{Scripted, TextRead, text_read, Refuses, Stopped}
 use Rattle.siman_plays.specs.World.{recording_of, refusal_of, world_text}
 
--- THE TEXT OF A TRIAL, a function of the recording alone: the line of its world, the line of an order with a step for each entry, and the report
+-- THE TEXT OF A TRIAL, a function of the recording alone: the row of its world, the row of a sequence with a step
+-- for each entry, and the report
 abbrev pub trial_text : PlainRecording → List ℕ
 trial_text r = world_text r ++ explained_text (length r.entries) ++ report_text r
 
--- CLOSURE: the world of a script runs; the entries of its recording, in their order, are a run; and an order is found of it that `check` accepts
+-- CLOSURE: the world of a script runs; the entries of its recording, in their order, are a run; and a sequence is
+-- found that `check` accepts
 pub record IsClosed (s : ScriptData) : Type 0 where
   pub runs : refusal_of s ≡ None
   pub run : IsRun (recording_of s).setting (past (recording_of s).entries)
   pub steps : List Step
   pub good : IsGood (recording_of s) steps
 
--- A script was tried, and the whole text of its trial is out; or of that text a prefix.
+-- a script was tried, and the whole text of its trial is written; or a prefix of it
 abbrev pub IsTried : ScriptData → Option (List ℕ) → Option (List ℕ) → Type 0
 IsTried s old new = IsClosed s × Appends old new (trial_text (recording_of s))
 
 abbrev pub IsTriedInPart : ScriptData → Option (List ℕ) → Option (List ℕ) → Type 0
 IsTriedInPart s old new = IsClosed s × WritesPart old new (trial_text (recording_of s))
 
--- WHAT A TRIAL OF A SCRIPT ANSWERS: where it answers, yes, and its text, which the script alone decides, is out; else why its world does not run, with nothing out, or a failed write; want of memory may come at any time before anything is out
+-- THE RESULT OF A TRIAL OF A SCRIPT: yes, with its text written, which the script alone determines; or why its
+-- world does not run, with nothing written; or a failed write; or memory ran out, before anything was written
 abbrev pub Performs : ScriptData → Result Bool TrialFault → Option (List ℕ) → Option (List ℕ) → Type 0
 Performs s (Ok true) old new = IsTried s old new
 Performs s (Ok false) old new = ⊥
@@ -50,11 +54,12 @@ Performs s (Err (World worlds.Memory)) old new = ⊥
 Performs s (Err Write) old new = IsTriedInPart s old new
 Performs s (Err Memory) old new = Keeps old new
 
--- the text is that of a script, of which this holds
+-- the text is that of a script for which this holds
 abbrev pub OfScript : Scripted → (ScriptData → Type 0) → Type 0
 OfScript scripted Holds = (s : ScriptData) × (scripted ≡ Ok s) × Holds s
 
--- WHAT A TRIAL OF A TEXT ANSWERS: what the trial of the script answers that the text spells; or its first line that is refused, with nothing out; a failed read may come in place of the text
+-- THE RESULT OF A TRIAL OF A TEXT: that of the script that the text spells; or its first refused line, with nothing
+-- written; or the text could not be read
 abbrev pub Tries : Scripted → Result Bool TrialFault → Option (List ℕ) → Option (List ℕ) → Type 0
 Tries scripted (Ok true) old new = OfScript scripted (λ s. Performs s (Ok true) old new)
 Tries scripted (Ok false) old new = ⊥
@@ -66,7 +71,8 @@ Tries scripted (Err (World fault)) old new = OfScript scripted (λ s. Performs s
 Tries scripted (Err Write) old new = OfScript scripted (λ s. Performs s (Err Write) old new)
 Tries scripted (Err Memory) old new = Keeps old new
 
--- HOW IT IS TOLD that a trial of a text was not made: why it is no script, or where the move stands that cannot be made
+-- THE FAULT OF A TRIAL of a text that was not made: why it is no script, or the place of the move that cannot be
+-- made
 abbrev pub Untried : TextRead → TrialFault → Fault → Type 0
 Untried t (Read failed) told = told ≡ of_trial (Read failed)
 Untried t (Script fault) told = Refuses t fault told
@@ -74,16 +80,16 @@ Untried t (World fault) told = Stopped t fault told
 Untried t Write told = told ≡ of_trial Write
 Untried t Memory told = told ≡ of_trial Memory
 
--- the status of what was tried: 0 yes
+-- the status of a trial: 0 for yes
 abbrev pub Answers : TextRead → Result Bool TrialFault → Result ℕ Fault → Type 0
 Answers t (Ok true) answered = answered ≡ Ok 0
 Answers t (Ok false) answered = answered ≡ Ok 1
 Answers t (Err fault) answered = (told : Fault) × Untried t fault told × (answered ≡ Err told)
 
--- What a trial tells: its text is out, with status 0, or it met a fault.
+-- the effect of a trial: its text is written, with status 0, or there is a fault
 abbrev pub TellsTrial : TextRead → (answered : Result ℕ Fault) → (old new : Option (List ℕ)) → Type 0
 TellsTrial t answered old new = (tried : Result Bool TrialFault) × Tries t.scripted tried old new × Answers t tried answered
 
--- WHAT IS SAID of a script that standard input has, whose bytes are these where they are known
+-- THE TRIAL OF A SCRIPT of standard input, whose bytes are these if they are known
 abbrev pub TriesInput : (known : Option (List ℕ)) → Result ℕ Fault → (out : Stream) → Type 0
 TriesInput known answered out = (text : List ℕ) × Has known text × TellsTrial (text_read text) answered out.old out.new

@@ -31,9 +31,9 @@ use Rattle.siman_plays.specs.Live.{IsUncreated}
 use Rattle.siman_plays.specs.Explained.{Scripted, TextRead, text_read, TellsWhyNot}
 use Rattle.std.specs.Result.{result_err}
 
--- Of the words.
+-- Words.
 
--- the first word that says of no socket where it is
+-- the first word that is no endpoint
 abbrev pub bad_endpoint : List (List ℕ) → Option (List ℕ)
 bad_endpoint [] = None
 bad_endpoint (word ∷ words) = if is_some (endpoint_of word) then bad_endpoint words else Some word
@@ -42,7 +42,7 @@ bad_endpoint (word ∷ words) = if is_some (endpoint_of word) then bad_endpoint 
 abbrev pub bad_word : StationAsked → Option (List ℕ)
 bad_word asked = if is_some (address_of asked.address) then bad_endpoint (asked.bind ∷ asked.peers) else Some asked.address
 
--- how it is told: `station: address WORD` with the word as it was given
+-- its fault: `station: address WORD` with the word as it was typed
 abbrev pub TellsWord : List ℕ → Fault → Type 0
 TellsWord word fault = fault_text fault ≡ codes "station: address " ++ word
 
@@ -58,7 +58,8 @@ abbrev pub FindsEndpoints : List (List ℕ) → Result (Vec Endpoint Global) Fau
 FindsEndpoints words (Ok endpoints) = map endpoint_of words ≡ map Some endpoints.items
 FindsEndpoints words (Err fault) = (fault ≡ Memory) ⊎ ((word : List ℕ) × (bad_endpoint words ≡ Some word) × TellsWord word fault)
 
--- THE WORDS SAY where the station and its peers are, and there is room for a line of its text
+-- THE WORDS NAME the address and the endpoints of the station and its peers, and there is a buffer for a line of
+-- text
 pub record IsPlaced (asked : StationAsked) (placed : Placed) : Type 0 where
   pub address : address_of asked.address ≡ Some placed.address
   pub bind : endpoint_of asked.bind ≡ Some placed.bind
@@ -66,20 +67,22 @@ pub record IsPlaced (asked : StationAsked) (placed : Placed) : Type 0 where
   pub anyone : placed.anyone ≡ asked.anyone
   pub room : length placed.room.items ≡ LONGEST_LINE + 1
 
--- or one of them does not, which is told; want of memory may be told at any time
+-- the places that the words name; or the fault of one that is no address; or memory ran out, which may happen at
+-- any time
 abbrev pub Places : StationAsked → Result Placed Fault → Type 0
 Places asked (Ok placed) = IsPlaced asked placed
 Places asked (Err fault) = (fault ≡ Memory) ⊎ ((word : List ℕ) × (bad_word asked ≡ Some word) × TellsWord word fault)
 
--- Of the script.
+-- The script.
 
--- how it is told that a station of a script was not set up
+-- the fault of a station of a script that was not set up
 abbrev pub of_set_up : SetUpFault → Fault
 of_set_up set_ups.NotInSetup = NotInSetup
 of_set_up set_ups.Stations = World worlds.Stations None
 of_set_up set_ups.Memory = Memory
 
--- WHY THE STATION OF A SCRIPT AT AN ADDRESS IS NOT SET UP: the first line of the script that is refused, no station there, or one that a world cannot have; a failed read may come in place of the script, want of memory at any time
+-- WHY THE STATION OF A SCRIPT AT AN ADDRESS IS NOT SET UP: the first refused line of the script, no station there,
+-- or one that a world cannot have; or the script could not be read; or memory ran out, which may happen at any time
 abbrev pub SetsUpNone : Scripted → (address : Pair) → Fault → Type 0
 SetsUpNone scripted address (Script (scripts.BadLine line) why) = scripted ≡ Err (scripts.BadLine line)
 SetsUpNone scripted address (Script (scripts.UnknownStation line) why) = scripted ≡ Err (scripts.UnknownStation line)
@@ -93,11 +96,11 @@ abbrev pub SetsUpText : Scripted → (address : Pair) → Result SetUp Fault →
 SetsUpText scripted address (Ok set_up) = (s : ScriptData) × (scripted ≡ Ok s) × SetsUp s address (Ok set_up)
 SetsUpText scripted address (Err fault) = SetsUpNone scripted address fault
 
--- so of what was read of a text; and it is told why there is none
+-- a station is set up from what was read of a text; or the reason why there is none
 abbrev pub SetsUpRead : TextRead → (address : Pair) → Result SetUp Fault → Type 0
 SetsUpRead t address set_up = SetsUpText t.scripted address set_up × TellsWhyNot t set_up
 
--- so of a file with these bytes, where they are known
+-- a station is set up from a file with these bytes, if they are known
 abbrev pub SetsUpFile : (known : Option (List ℕ)) → (address : Pair) → Result SetUp Fault → Type 0
 SetsUpFile known address set_up = (text : List ℕ) × Has known text × SetsUpRead (text_read text) address set_up
 
@@ -105,22 +108,22 @@ SetsUpFile known address set_up = (text : List ℕ) × Has known text × SetsUpR
 abbrev pub IsOfScript : SetUp → Type 0
 IsOfScript set_up = (exercise : ℕ) × (addresses : List Pair) × (s : WorldStationData) × IsSetUp exercise addresses s set_up
 
--- Of the exercise.
+-- The exercise.
 
--- what stands on the writer of entries, and on that of faults
+-- the output of entries and that of faults
 pub record Streams : Type 0 where
   pub out : Stream
   pub errors : Stream
 
--- what a session told, or the fault in its place
+-- the result of a session, or the fault that prevented it
 abbrev pub Played : Type 0
 Played = Result Told Fault
 
--- nothing more is done, nothing is out, and nothing is told so far
+-- nothing more is done, printed or reported
 abbrev pub PlaysNone : Fault → List Deed → Played → Streams → Type 0
 PlaysNone fault deeds played s = (deeds ≡ []) × (played ≡ Err fault) × Keeps s.out.old s.out.new × Keeps s.errors.old s.errors.new
 
--- A FILE IS CREATED, in which the station records what it does with the lines of standard input, and is left
+-- A FILE IS CREATED, in which the station records what it does with the lines of standard input, and is closed
 abbrev pub CreatesPlayed : {L : Type 0} → (strangers : L → ℕ) → Ready L → (name : List ℕ) → (input : Option (List ℕ)) → List Deed → Played → Streams → Type 0
 CreatesPlayed strangers ready name input (Creates made (Err kind) ∷ []) played s =
     (made ≡ name) × ((fault : Fault) × IsUncreated kind fault × PlaysNone fault [] played s)
@@ -130,14 +133,16 @@ CreatesPlayed strangers ready name input (Creates made (Ok fresh) ∷ Leaves lef
     × IsLeft (open_setting ready.head) ready.post.station.node.application.outfit told.status fresh left)
 CreatesPlayed strangers ready name input deeds played s = ⊥
 
--- THE STATION STANDS AT ITS LINE, as it was set up, among the stations of its script; it does not where memory runs out
+-- THE STATION IS ATTACHED TO ITS LINK as it was set up, among the stations of its script; it is not if memory runs
+-- out
 abbrev pub Stands : {L : Type 0} → (strangers : L → ℕ) → SetUp → (address : Pair) → (name : List ℕ) → (input : Option (List ℕ)) → List Deed → Played → Streams → Type 0
 Stands {L} strangers set_up address name input deeds played s =
     PlaysNone Memory deeds played s
     ⊎ ((ready : Ready L) × (ready.head ≡ set_up.head) × IsBegun set_up.head.setting.exercise address set_up.node ready.post
     × (ready.stations ≡ set_up.stations) × CreatesPlayed strangers ready name input deeds played s)
 
--- ITS LINE is asked for, where the words have it and its peers; that it could not be had is told as `live: line`, or as want of memory
+-- ITS LINK is requested, with the endpoints that the words name; if there is none, the fault is `live: line`, or
+-- that memory ran out
 abbrev pub HasLine : {L : Type 0} → (strangers : L → ℕ) → SetUp → Placed → (name : List ℕ) → (input : Option (List ℕ)) → List Deed → Played → Streams → Type 0
 HasLine strangers set_up placed name input (Binds bind peers anyone (Err kind) ∷ deeds) played s =
     (bind ≡ placed.bind) × (peers ≡ placed.peers.items) × (anyone ≡ placed.anyone)
@@ -146,7 +151,7 @@ HasLine strangers set_up placed name input (Binds bind peers anyone (Ok x) ∷ d
     (bind ≡ placed.bind) × (peers ≡ placed.peers.items) × (anyone ≡ placed.anyone) × Stands strangers set_up placed.address name input deeds played s
 HasLine strangers set_up placed name input deeds played s = ⊥
 
--- WHERE A FILE STANDS under the name of the recording nothing is done, and no line is asked for
+-- A FILE OF THE RECORDING'S NAME EXISTS: nothing is done, and no link is requested
 abbrev pub PlaysSetUp : {L : Type 0} → (strangers : L → ℕ) → SetUp → Placed → (name : List ℕ) → (input : Option (List ℕ)) → List Deed → Played → Streams → Type 0
 PlaysSetUp strangers set_up placed name input (LooksFor looked true ∷ deeds) played s = (looked ≡ name) × PlaysNone Exists deeds played s
 PlaysSetUp strangers set_up placed name input (LooksFor looked false ∷ deeds) played s =
@@ -163,16 +168,17 @@ PlaysFile strangers asked placed input (Opens opened (Ok known) ∷ Reads read �
     ⊎ ((set_up : SetUp) × SetsUpFile known placed.address (Ok set_up) × PlaysSetUp strangers set_up placed asked.recording input deeds played s))
 PlaysFile strangers asked placed input deeds played s = ⊥
 
--- HOW `station` ENDS: with what its session told, or with its fault, which is then told
+-- THE END OF `station`: the result of its session, or its fault, which is then reported
 abbrev pub EndsPlayed : Played → Ended → (old new : Option (List ℕ)) → Type 0
 EndsPlayed (Ok told) ended old new = (ended.status ≡ told.status) × (ended.written ≡ told.written) × (new ≡ old)
 EndsPlayed (Err fault) ended old new = Ends (Err fault) ended old new
 
--- the fault in its place
+-- the fault that prevented a session
 abbrev pub played_fault : Played → Option Fault
 played_fault played = result_err played
 
--- Where a word is no address nothing is done. Of a recording that it began it tells itself.
+-- the effect of `station`: nothing, if a word is no address. The session itself reports a recording that it began
+-- and could not end.
 abbrev pub EndsStation : {L : Type 0} → (strangers : L → ℕ) → StationAsked → List Deed → (input : Option (List ℕ)) → Outcome → Type 0
 EndsStation strangers asked deeds input o =
     (o.begun ≡ None)

@@ -1,4 +1,4 @@
--- What there is to warn of in a script: an order for a station that it has not (profile).
+-- Warning of a script that has an order for a station that it lacks (profile).
 use Rattle.std.specs.Prelude.{◌≡◌, ℕ, ◌==◌, Bool, ◌||◌, List, is_some, slice_get, Option, Some, None, if◌then◌else◌}
 use Rattle.std.specs.List.{list_any}
 use Rattle.siman_scripts.specs.declared.act.Act.{Act}
@@ -12,11 +12,12 @@ use Rattle.siman_answers.specs.declared.notes.Warning.{Warning}
 use Rattle.siman_answers.specs.declared.notes.Warning.TheVariants.{NoSuchStation}
 use Rattle.siman_plays.specs.declared.warned.TheConstants.{EVERY}
 
--- one of these stations gets what is sent to this site and application
+-- one of these stations receives what is sent to this site and application
 abbrev pub is_got : List WorldStationData → (site application : ℕ) → Bool
 is_got stations site application = list_any (λ s. gets site application s.station.address) stations
 
--- THE RECEIVER OF AN ORDER THAT NOBODY GETS: its site and its application, where none of these stations is there; what is sent to every site somebody gets
+-- THE RECEIVER OF AN ORDER THAT NOBODY RECEIVES: its site and application, if none of these stations is there;
+-- something sent to every site is always received
 abbrev pub nobody_of : List WorldStationData → Act → Option (ℕ × ℕ)
 nobody_of stations (Command order) =
     if (order.target.site == EVERY) || is_got stations order.target.site order.target.application then None
@@ -25,11 +26,11 @@ nobody_of stations (Deliver k) = None
 nobody_of stations Tick = None
 nobody_of stations (Tell e) = None
 
--- nobody gets the order of a move
+-- nobody receives the order of a move
 abbrev pub is_lost : List WorldStationData → Move → Bool
 is_lost stations m = is_some (nobody_of stations m.act)
 
--- WHAT IS WARNED OF a script, which a text spells, is so: the order of that line is for this station, and nobody gets it
+-- A WARNING IS TRUE of a script, given its text: the order of that line is for this station, and nobody receives it
 pub record WarnsOf (text : List ℕ) (s : ScriptData) (warning : Warning) : Type 0 where
   pub number : ℕ
   pub move : Move

@@ -22,7 +22,7 @@ use Rattle.siman_plays.specs.Explained.{Scripted, TextRead, text_read, TellsWhyN
 use Rattle.siman_texts.specs.Line.{Number, Keyed, named_line}
 use Rattle.siman_texts.specs.Spelled.{line_text}
 
--- the world of a script, the recording that its moves make, and why they can't be made
+-- the world of a script, the recording that its moves make, and why they cannot be made
 abbrev pub world_of : ScriptData → WorldData
 world_of s = record { exercise = s.exercise; stations = s.stations }
 
@@ -32,7 +32,8 @@ recording_of s = world_recording (world_of s) s.moves
 abbrev pub refusal_of : ScriptData → Option WorldFault
 refusal_of s = world_refusal (world_of s) s.moves
 
--- A SCRIPT YIELDS A RECORDING: it is a script, its world runs, and the recording is that of the world; its entries, in their order, are a run
+-- A SCRIPT YIELDS A RECORDING: it is a script, its world runs, and the recording is that of the world; its entries,
+-- in their order, are a run
 pub record Yields (scripted : Scripted) (r : PlainRecording) : Type 0 where
   pub script : ScriptData
   pub read : scripted ≡ Ok script
@@ -44,7 +45,8 @@ pub record Yields (scripted : Scripted) (r : PlainRecording) : Type 0 where
 abbrev pub Stops : Scripted → WorldFault → Type 0
 Stops scripted fault = (s : ScriptData) × (scripted ≡ Ok s) × (refusal_of s ≡ Some fault)
 
--- IT YIELDS NONE: its first line that is refused, or else why its world does not run; a failed read may come in place of the script, want of memory at any time
+-- A SCRIPT YIELDS NO RECORDING: its first refused line, or else why its world does not run; or the script could not
+-- be read; or memory ran out, which may happen at any time
 abbrev pub YieldsNone : Scripted → Fault → Type 0
 YieldsNone scripted (Script (scripts.BadLine line) why) = scripted ≡ Err (scripts.BadLine line)
 YieldsNone scripted (Script (scripts.UnknownStation line) why) = scripted ≡ Err (scripts.UnknownStation line)
@@ -58,11 +60,11 @@ abbrev pub Runs : Scripted → Result PlainRecording Fault → Type 0
 Runs scripted (Ok r) = Yields scripted r
 Runs scripted (Err fault) = YieldsNone scripted fault
 
--- so of what was read of a text; and it is told why there is none
+-- the recording that was made of what was read of a text; or the reason why there is none
 abbrev pub RunsText : TextRead → Result PlainRecording Fault → Type 0
 RunsText t made = Runs t.scripted made × TellsWhyNot t made
 
--- what is written of the entry of an index
+-- the text of the entry of an index
 abbrev pub entry_written : PlainRecording → ℕ → List ℕ
 entry_written r i = option_map_or entry_text (slice_get r.entries i) []
 
@@ -77,7 +79,8 @@ abbrev pub world_text : PlainRecording → List ℕ
 world_text r =
     line_text (named_line (codes "world") (Keyed (codes "records") (Number (length r.entries)) ∷ Keyed (codes "sent") (Number (length (sent_in r.entries))) ∷ []))
 
--- WHAT IS WRITTEN OF A RECORDING: its text to the file, whole, and then its line; want of memory leaves a prefix of the file and no line
+-- THE OUTPUT OF A RECORDING: its whole text in the file, and then its row; if memory runs out, a prefix of the text
+-- and no row
 abbrev pub PutsWorld : PlainRecording → Result ℕ Fault → (file out : Stream) → Type 0
 PutsWorld r (Ok status) file out =
     (status ≡ 0) × Appends file.old file.new (recording_text r) × Appends out.old out.new (world_text r)
@@ -85,18 +88,19 @@ PutsWorld r (Err Output) file out = WritesShort (recording_text r) (world_text r
 PutsWorld r (Err Memory) file out = WritesPart file.old file.new (recording_text r) × Keeps out.old out.new
 PutsWorld r (Err other) file out = ⊥
 
--- What `world` tells: the script yields no recording, and nothing is written; or it yields one, and that is written.
+-- the effect of `world`: the script yields no recording, and nothing is written; or it yields one, which is written
 abbrev pub TellsWorld : Scripted → (answered : Result ℕ Fault) → (file out : Stream) → Type 0
 TellsWorld scripted answered file out =
     ((fault : Fault) × YieldsNone scripted fault × (answered ≡ Err fault) × Keeps file.old file.new × Keeps out.old out.new)
     ⊎ ((r : PlainRecording) × Yields scripted r × PutsWorld r answered file out)
 
--- HOW `world` ENDS: what it made of the script is in the file and out, and it ends as that asks for
+-- THE END OF `world`: what it made of the script is in the file and on the output, and it ends with the status of
+-- that
 abbrev pub EndsWorld : Scripted → (status : ℕ) → (file out errors : Stream) → Type 0
 EndsWorld scripted status file out errors =
     (answered : Result ℕ Fault) × TellsWorld scripted answered file out × EndsWith answered status errors.old errors.new
 
--- WHAT COMES OF A FILE for `world` that has these bytes, where they are known; and a file of that recording is made
+-- THE RECORDING that `world` makes of a file with these bytes, if they are known; and the file of that recording
 abbrev pub RunsFile : (known : Option (List ℕ)) → Result PlainRecording Fault → Type 0
 RunsFile known made = (text : List ℕ) × Has known text × RunsText (text_read text) made
 

@@ -1,4 +1,4 @@
-//! Why a script is refused, and where its move stands that cannot be made.
+//! Why a script is refused, and the place of a move that cannot be made.
 
 ghost use Rattle.std.specs.Prelude.{◌≡◌, Ok, Some, IfSome};
 ghost use Rattle.siman_scripts.specs.MoveLine.{line_of_move};
@@ -11,7 +11,7 @@ use siman_scripts::{Script, ScriptFault, line_of_move, read_script, reason_of_sc
 use siman_worlds::{WorldFault, run_world};
 use std::alloc::Global;
 
-/// How it is told that a text is no script: with its first reason.
+/// Fault of a text that is no script, with its first reason.
 pub(crate) fn refused(alloc: Global, text: &[u8], fault: ScriptFault) -> Fault<'static>
     ensures { Refuses (text_read text.now) fault result }
 {
@@ -24,7 +24,7 @@ pub(crate) fn refused(alloc: Global, text: &[u8], fault: ScriptFault) -> Fault<'
     }
 }
 
-/// How many datagrams the first moves of a script send.
+/// Number of datagrams that the moves before this one send.
 fn sends_before(alloc: Global, text: &[u8], number: usize) -> Option<usize>
     ensures { IfSome result (λ n. (s : ScriptData) × (script_at text.now ≡ Ok s) × (n ≡ sends_before s number)) }
 {
@@ -39,7 +39,7 @@ fn sends_before(alloc: Global, text: &[u8], number: usize) -> Option<usize>
     Some(sent_count(recording.entries()))
 }
 
-/// Where the move of a number, from 0, stands in a script.
+/// Place of a move in its script, given its number, from 0. `None` if memory runs out.
 fn place_of(alloc: Global, text: &[u8], number: usize) -> Option<MovePlace>
     ensures { IfSome result (StandsAt (text_read text.now) number) }
 {
@@ -51,8 +51,7 @@ fn place_of(alloc: Global, text: &[u8], number: usize) -> Option<MovePlace>
     })
 }
 
-/// How it is told that the world of a script does not run: with the place of the move that cannot be
-/// made.
+/// Fault of a world that does not run, with the place of the move that cannot be made.
 pub(crate) fn stopped(alloc: Global, text: &[u8], fault: WorldFault) -> Fault<'static>
     ensures { Stopped (text_read text.now) fault result }
 {

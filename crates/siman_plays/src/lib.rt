@@ -1,11 +1,11 @@
-//! The commands that play a script: `world`, which runs its world in memory, `live`, which makes its
-//! moves at lines, `station`, which plays one of its stations by lines of text, and the trial of a
-//! script that no words name.
-//!
-//! It opens no file and no socket itself, and ends no process. [`world_command`], [`perform`] and
-//! [`trial`] are functions over readers and writers; [`end_live`] and [`end_station`] answer how the
-//! command ends, over what a program may do (`siman_answers::Outside`). The contracts say what is
-//! written of each script, to the byte (`EndsWorld`, `EndsLive`, `EndsStation`, `Tries`).
+//! The commands that play a script: `world`, which runs its world in memory, `live`, which makes
+//! its moves over links, `station`, which plays one of its stations by lines of text, and the trial
+//! of a script, which no words of the command line name.
+//! The crate opens no file and no socket itself and ends no process: [`world_command`], [`perform`]
+//! and [`trial`] are functions over readers and writers, and [`end_live`] and [`end_station`] reach
+//! files and links only through the caller's `siman_answers::Outside`.
+//! The contract for the layer above: what is written for each script, to the byte (`EndsWorld`,
+//! `EndsLive`, `EndsStation`, `Tries`).
 #![tactic(auto)]
 
 mod explained;

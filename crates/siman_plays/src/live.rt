@@ -1,4 +1,4 @@
-//! The command `live`: the moves of a script, made by stations that each have a line of their own.
+//! The command `live`: makes the moves of a script by stations that each have their own link.
 
 ghost use Rattle.std.specs.Prelude.{◌≡◌, ℕ, List, Option, option_map, Ok, Err, length, true, false};
 ghost use Rattle.siman_scripts.specs.Script.{script_at};
@@ -31,24 +31,24 @@ use std::alloc::Global;
 use std::io;
 use std::io::{ErrorKind, Read, Write};
 
-/// The stations of a script as they are begun, and the moves that it asks for.
+/// The stations of a script in their initial state, and its moves.
 #[derive(Drop)]
 pub(crate) struct Begun {
-    /// A recording of the stations with no entries.
+    /// Recording of the stations, without entries.
     pub(crate) recording: Recording,
-    /// The halves of each station.
+    /// Manager and application of each station.
     pub(crate) nodes: Vec<Node>,
     pub(crate) moves: Vec<Move>,
 }
 
-/// What was begun of a script, and the text of that.
+/// The stations and moves of a script, with its text.
 #[derive(Drop)]
 struct BegunText {
     begun: Begun,
     text: Vec<u8>,
 }
 
-/// The stations of the script of a reader, and its moves.
+/// Reads a script, and sets up its stations and moves.
 fn begin_script<R: Read + Drop>(
     alloc: Global,
     script: R,
@@ -64,7 +64,8 @@ fn begin_script<R: Read + Drop>(
     }
 }
 
-/// The stations of a script, and its moves.
+/// Stations and moves of the script that a text spells. Notes the warning of its first order for a
+/// station that it lacks.
 fn begin_text(alloc: Global, text: &[u8], notes: &mut Notes) -> Result<Begun, Fault<'static>>
     ensures begins { Begins (script_at text.now) result }
     ensures why { TellsWhyNot (text_read text.now) result }
@@ -78,7 +79,7 @@ fn begin_text(alloc: Global, text: &[u8], notes: &mut Notes) -> Result<Begun, Fa
     }
 }
 
-/// The stations of a script, which this text spells, and its moves.
+/// Stations and moves of a script, given its text.
 fn begin_read(alloc: Global, text: &[u8], script: Script) -> Result<Begun, Fault<'static>>
     requires { script_at text.now ≡ Ok script }
     ensures begins { Begins (script_at text.now) result }
@@ -102,7 +103,7 @@ fn begin_read(alloc: Global, text: &[u8], script: Script) -> Result<Begun, Fault
     }
 }
 
-/// How it is told that a file could not be created.
+/// Fault of a file that could not be created.
 pub(crate) fn uncreated(error: &io::Error) -> Fault<'static>
     ensures { IsUncreated (error_kind error.now) result }
 {
@@ -113,8 +114,8 @@ pub(crate) fn uncreated(error: &io::Error) -> Fault<'static>
     }
 }
 
-/// What `live` answered, or the fault that it met, whether it created its file before, and what a line
-/// said last of a call that failed.
+/// Result of `live`: its status or fault, whether it created its file, and the last failed call of
+/// a link, if a link reports one.
 #[derive(Clone, Copy)]
 struct Lived<'a> {
     answered: Result<u8, Fault<'a>>,
@@ -122,7 +123,7 @@ struct Lived<'a> {
     trouble: Option<LineTrouble>,
 }
 
-/// A fault that came before a file was created.
+/// Result of a fault before a file was created.
 fn unlived(fault: Fault<'_>) -> Lived<'_>
     ensures answered { result.answered ≡ Err fault.entry }
     ensures created { result.created ≡ false }
@@ -134,8 +135,8 @@ fn unlived(fault: Fault<'_>) -> Lived<'_>
     }
 }
 
-/// Creates the file of a recording, in which the stations write what comes of their moves, and then
-/// tells the line. The stations are as they are begun.
+/// Creates the file of a recording, makes the moves, records them in it, and prints the row of
+/// counts. The stations are in their initial state.
 fn create_live<O: Outside, W: Write>(
     alloc: Global,
     head: &Recording,
@@ -168,7 +169,7 @@ fn create_live<O: Outside, W: Write>(
     }
 }
 
-/// Has the lines of stations, and then creates the file of what comes of their moves.
+/// Requests a link for each station, then creates the file and makes the moves.
 fn live_at_lines<O: Outside, W: Write>(
     alloc: Global,
     begun: Begun,
@@ -198,8 +199,7 @@ fn live_at_lines<O: Outside, W: Write>(
     }
 }
 
-/// What comes of a script, where no file stands under the name of its recording: the stations have
-/// their lines, and the file is created in which they write what comes of their moves.
+/// Makes the moves of a script over links, into a new file. Refuses if a file of this name exists.
 fn live_begun<O: Outside, W: Write>(
     alloc: Global,
     begun: Begun,
@@ -218,7 +218,8 @@ fn live_begun<O: Outside, W: Write>(
     live_at_lines(alloc, begun, name, outside, out)
 }
 
-/// What is told of a fault at a move: in which line of its script that stands, where it stands there.
+/// Adds the line of the script to the fault of a move that was not made. Leaves the fault as it is
+/// if memory runs out.
 fn placed<'a>(alloc: Global, text: &[u8], answered: Result<u8, Fault<'a>>) -> Result<u8, Fault<'a>>
     ensures { IsPlaced text.now answered.entry result }
 {
@@ -235,7 +236,7 @@ fn placed<'a>(alloc: Global, text: &[u8], answered: Result<u8, Fault<'a>>) -> Re
     }
 }
 
-/// As [`live_begun`], with the line of a move that was not made.
+/// As [`live_begun`], and adds the line of the script to the fault of a move that was not made.
 fn live_text<O: Outside, W: Write>(
     alloc: Global,
     script: BegunText,
@@ -257,8 +258,8 @@ fn live_text<O: Outside, W: Write>(
     }
 }
 
-/// Opens the file of the first name, and makes the moves of its script, whose recording is to stand
-/// under the second.
+/// Opens the script of the first name, and makes its moves, with a recording in the file of the
+/// second.
 fn live_of_file<'a, O: Outside, W: Write>(
     alloc: Global,
     names: (&'a str, &'a str),
@@ -279,7 +280,7 @@ fn live_of_file<'a, O: Outside, W: Write>(
     }
 }
 
-/// The recording that stands begun after a fault: the file of a name, where it was created before.
+/// Name of the incomplete recording that a fault leaves, if its file was created.
 fn begun_in<'a>(lived: Lived<'_>, name: &'a str) -> Option<&'a str>
     ensures { option_map (λ name. name.now) result ≡ begun_in lived.entry.created name.now lived.entry.answered }
 {
@@ -292,7 +293,7 @@ fn begun_in<'a>(lived: Lived<'_>, name: &'a str) -> Option<&'a str>
     }
 }
 
-/// Does what `live` is asked for with these words, and ends as that asks for.
+/// Runs `live` with these words, and returns its ending, with a fault reported on `errors`.
 pub fn end_live<'a, O: Outside, W: Write, E: Write>(
     alloc: Global,
     words: (&'a str, &'a str),

@@ -1,4 +1,5 @@
-//! What no words ask for: a script, whose world is run, searched for an order, and judged.
+//! Trial of a script, which no words of the command line name: its world is run, searched for a
+//! sequence, and judged.
 
 ghost use Rattle.std.specs.Prelude.{◌≡◌, ℕ, List, Ok, IfOk, OnOk, string_bytes};
 ghost use Rattle.exercise_model.specs.History.{past};
@@ -24,13 +25,14 @@ use siman_worlds::run_world;
 use std::alloc::{AllocError, Global};
 use std::io::{Read, Write};
 
-/// Runs the world of a script, searches its recording for an order that explains it, judges the
-/// recording by that order, and writes the line of the world, the line of the order and the report:
-/// a text that the script alone decides. The text is made whole before any of it is written.
+/// Runs the world of a script, searches its recording for a sequence that explains it, judges the
+/// recording by that sequence, and writes the row of the world, the row of the sequence and the
+/// report: a text that the script alone determines. The text is complete before any of it is
+/// written.
 ///
-/// Where it answers, it answers true: what the stations of a world do is always explained. World
-/// tells why the world does not run, and Memory want of memory, both with nothing out; after Write
-/// a prefix of the text is out.
+/// Returns true if it succeeds, since what the stations of a world do is always explained. Fails
+/// with World if the world does not run, and with Memory if memory runs out, both with nothing
+/// written; with Write after a prefix of the text.
 pub fn perform<W: Write>(alloc: Global, script: Script, out: &mut W) -> Result<bool, TrialFault>
     ensures { Performs script result (W.contents out.old) (W.contents out.new) }
 {
@@ -47,8 +49,8 @@ pub fn perform<W: Write>(alloc: Global, script: Script, out: &mut W) -> Result<b
     }
 }
 
-/// As [`perform`], of the script that a reader has, which is read whole first. Read tells a failed
-/// read, and Script the first line that is refused, both with nothing out. No more than 1,048,577
+/// As [`perform`], of the script of a reader, which is read whole first. Fails with Read after a
+/// failed read, and with Script for a refused line, both with nothing written. At most 1,048,577
 /// bytes are read; a script of more than 1,048,576 is a bad line 0.
 pub fn trial<R: Read + Drop, W: Write>(
     alloc: Global,
@@ -62,7 +64,7 @@ pub fn trial<R: Read + Drop, W: Write>(
     try_text(alloc, &text, out)
 }
 
-/// What no words ask for: the script of standard input is tried, with status 0.
+/// The command without words: tries the script of standard input, with status 0.
 pub struct TrialCommand;
 
 impl OfFile for TrialCommand {
@@ -113,7 +115,7 @@ fn trial_text(alloc: Global, log: &Recording) -> Result<String, AllocError>
     Ok(text)
 }
 
-/// The certificate of an order that explains a recording whose entries are a run.
+/// Certificate of a sequence that explains a recording whose entries are a run.
 #[tactic(auto, using(crate::proofs::Trials::file_order_explains))]
 fn explain(alloc: Global, log: &Recording) -> Result<Certificate, AllocError>
     requires { IsRun log.now.setting (past log.now.entries) }
@@ -126,7 +128,7 @@ fn explain(alloc: Global, log: &Recording) -> Result<Certificate, AllocError>
     }
 }
 
-/// What `check` answers to a recording and a good certificate of it, which is never a no.
+/// What `check` returns for a recording and a good certificate of it, which is never a no.
 #[tactic(auto, using(siman_answers::proofs::Offered::not_good))]
 fn accept(alloc: Global, log: &Recording, certificate: &Certificate) -> Result<Checked, AllocError>
     requires { IsGood log.now certificate.now.steps.items }
@@ -139,8 +141,8 @@ fn accept(alloc: Global, log: &Recording, certificate: &Certificate) -> Result<C
     }
 }
 
-/// How it is told that a trial was not made of a text: why that is no script, or where the move stands
-/// that cannot be made.
+/// Fault of a trial that was not made: why the text is no script, or the place of the move that
+/// cannot be made.
 fn untried(alloc: Global, text: &[u8], fault: TrialFault) -> Fault<'static>
     ensures { Untried (text_read text.now) fault result }
 {
@@ -151,7 +153,7 @@ fn untried(alloc: Global, text: &[u8], fault: TrialFault) -> Fault<'static>
     }
 }
 
-/// Tries the script of a text, and gives the status.
+/// Tries the script of a text, and returns the status.
 fn answer<W: Write>(alloc: Global, text: &[u8], out: &mut W) -> Result<u8, Fault<'static>>
     ensures { TellsTrial (text_read text.now) result (W.contents out.old) (W.contents out.new) }
 {

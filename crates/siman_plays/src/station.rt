@@ -1,4 +1,4 @@
-//! The command `station`: one station of a script, played over the network by the lines of standard
+//! The command `station`: plays one station of a script over the network, by the lines of standard
 //! input.
 
 ghost use Rattle.std.specs.Prelude.{◌≡◌, ◌+◌, ◌∷◌, ℕ, List, length, Option, None, Ok, map};
@@ -28,19 +28,19 @@ use siman_worlds::WorldFault;
 use std::alloc::Global;
 use std::io::{Read, Write};
 
-/// Where a station is in its exercise, where its socket is, and where its peers are; and room for a
-/// line of its text.
+/// Address of a station, endpoint of its socket, endpoints of its peers, and a buffer for a line of
+/// text.
 #[derive(Drop)]
 struct Placed {
     address: Address,
     bind: Endpoint,
     peers: Vec<Endpoint>,
-    /// Whether it hears anyone, and not its peers alone.
+    /// Whether it accepts datagrams from anyone, not from its peers alone.
     anyone: bool,
     room: Vec<u8>,
 }
 
-/// The address of a station that a word spells.
+/// Address that a word spells.
 fn station_address(word: &str) -> Result<Address, Fault<'_>>
     ensures { FindsAddress word.now result }
 {
@@ -50,7 +50,7 @@ fn station_address(word: &str) -> Result<Address, Fault<'_>>
     }
 }
 
-/// Where the socket is of which a word says it.
+/// Endpoint that a word spells.
 fn endpoint(word: &str) -> Result<Endpoint, Fault<'_>>
     ensures { FindsEndpoint word.now result }
 {
@@ -60,7 +60,7 @@ fn endpoint(word: &str) -> Result<Endpoint, Fault<'_>>
     }
 }
 
-/// Where the sockets are of which words say it.
+/// Endpoints that words spell.
 fn endpoints<'a>(alloc: Global, words: &'a [&'a str]) -> Result<Vec<Endpoint>, Fault<'a>>
     ensures { FindsEndpoints (map (λ word. word.now) words.now) result }
 {
@@ -76,7 +76,7 @@ fn endpoints<'a>(alloc: Global, words: &'a [&'a str]) -> Result<Vec<Endpoint>, F
     Ok(endpoints)
 }
 
-/// What the words say of the places of a station and its peers.
+/// Address, endpoints and line buffer of a station, from its words.
 fn place<'a>(alloc: Global, words: &StationWords<'a, &'a str>) -> Result<Placed, Fault<'a>>
     ensures { Places (named_by (λ word. word.now) words.now) result }
 {
@@ -93,7 +93,7 @@ fn place<'a>(alloc: Global, words: &StationWords<'a, &'a str>) -> Result<Placed,
     })
 }
 
-/// How it is told that a station of a script was not set up.
+/// Fault of a station that was not set up.
 fn of_set_up(fault: SetUpFault) -> Fault<'static>
     ensures { result ≡ of_set_up fault }
 {
@@ -104,7 +104,7 @@ fn of_set_up(fault: SetUpFault) -> Fault<'static>
     }
 }
 
-/// The station of a script at an address, as it is begun.
+/// Sets up the station of a script with this address.
 fn set_up_script(alloc: Global, script: Script, address: Address) -> Result<SetUp, Fault<'static>>
     ensures sets_up { SetsUpText (Ok script) address result }
     ensures why { (t : TextRead) → TellsWhyNot t result }
@@ -115,7 +115,7 @@ fn set_up_script(alloc: Global, script: Script, address: Address) -> Result<SetU
     }
 }
 
-/// The station at an address of the script of a text.
+/// Sets up the station with this address of the script that a text spells.
 fn set_up_text(alloc: Global, text: &[u8], address: Address) -> Result<SetUp, Fault<'static>>
     ensures sets_up { SetsUpText (script_at text.now) address result }
     ensures why { TellsWhyNot (text_read text.now) result }
@@ -126,7 +126,7 @@ fn set_up_text(alloc: Global, text: &[u8], address: Address) -> Result<SetUp, Fa
     }
 }
 
-/// The station at an address of the script of a reader.
+/// Sets up the station with this address of the script of a reader.
 fn set_up_file<R: Read + Drop>(
     alloc: Global,
     script: R,
@@ -139,8 +139,8 @@ fn set_up_file<R: Read + Drop>(
     set_up_text(alloc, &text, address)
 }
 
-/// Creates the file of a recording, and plays a station at its line by the lines of a reader, which it
-/// records there.
+/// Creates the file of a recording, and plays a station at its link by the lines of a reader,
+/// recorded in that file.
 fn create_played<O: Outside, R: Read, W: Write, E: Write>(
     alloc: Global,
     ready: Ready<O::Line>,
@@ -170,7 +170,7 @@ fn create_played<O: Outside, R: Read, W: Write, E: Write>(
     }
 }
 
-/// Puts a station that was set up at a line, and plays it.
+/// Attaches a configured station to its link, and plays it.
 fn play_at_line<O: Outside, R: Read, W: Write, E: Write>(
     alloc: Global,
     set_up: SetUp,
@@ -194,7 +194,7 @@ fn play_at_line<O: Outside, R: Read, W: Write, E: Write>(
     }
 }
 
-/// Has the line of a station that was set up, and plays it there.
+/// Requests the station's link, and plays the station there.
 fn play_placed<O: Outside, R: Read, W: Write, E: Write>(
     alloc: Global,
     set_up: SetUp,
@@ -229,7 +229,7 @@ fn play_placed<O: Outside, R: Read, W: Write, E: Write>(
     )
 }
 
-/// Plays a station that was set up, where no file stands under the name of its recording.
+/// Plays a configured station, with a new recording file. Refuses if a file of this name exists.
 fn play_set_up<O: Outside, R: Read, W: Write, E: Write>(
     alloc: Global,
     set_up: SetUp,
@@ -278,7 +278,7 @@ fn play_file<'a, O: Outside, R: Read, W: Write, E: Write>(
     }
 }
 
-/// Ends with what a session told, or tells the fault that came in its place.
+/// Ends with the result of a session, or reports the fault that prevented it.
 fn end_played<E: Write>(played: Result<Told, Fault<'_>>, errors: &mut E) -> Ended
     ensures { EndsPlayed played.entry result (E.contents errors.old) (E.contents errors.new) }
 {
@@ -291,8 +291,8 @@ fn end_played<E: Write>(played: Result<Told, Fault<'_>>, errors: &mut E) -> Ende
     }
 }
 
-/// Plays a station of a script as these words ask for it, by the lines of a reader, and ends as that
-/// asks for.
+/// Plays a station of a script with these words, by the lines of a reader, and returns its ending,
+/// with a fault reported on `errors`.
 pub fn end_station<'a, O: Outside, R: Read + Drop, W: Write, E: Write>(
     alloc: Global,
     words: StationWords<'a, &'a str>,

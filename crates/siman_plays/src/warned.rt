@@ -1,4 +1,4 @@
-//! What there is to warn of in a script: an order for a station that it has not.
+//! Warning of a script that has an order for a station that it lacks.
 
 ghost use Rattle.std.specs.Prelude.{◌≡◌, IfSome};
 ghost use Rattle.siman_sessions.specs.Receiver.{gets};
@@ -9,24 +9,24 @@ use siman_answers::Warning;
 use siman_scripts::{Act, Move, Script, WorldStation, line_of_move};
 use std::alloc::Global;
 
-/// The number of a receiving identifier that means every site, or every application of one.
+/// The site number that means every site, and the application number that means every application.
 const EVERY: u16 = 0xFFFF;
 
-/// Whether the station at an address gets what is sent to this site and application.
+/// Whether the station with this address receives what is sent to this site and application.
 fn gets(address: Address, site: u16, application: u16) -> bool
     ensures { result ≡ gets site application address }
 {
     address.site() == site && (application == EVERY || address.application() == application)
 }
 
-/// Whether one of these stations gets what is sent to this site and application.
+/// Whether one of these stations receives what is sent to this site and application.
 fn is_got(stations: &[WorldStation], site: u16, application: u16) -> bool
     ensures { result ≡ is_got stations.now site application }
 {
     stations.iter().any(|station| gets(station.station.address(), site, application))
 }
 
-/// The site and the application that an order is for, if none of these stations gets it.
+/// Site and application of an order, if none of these stations receives it.
 fn nobody_of(stations: &[WorldStation], act: &Act) -> Option<(u16, u16)>
     ensures { result ≡ nobody_of stations.now act.now }
 {
@@ -42,15 +42,15 @@ fn nobody_of(stations: &[WorldStation], act: &Act) -> Option<(u16, u16)>
     }
 }
 
-/// Whether nobody gets the order of a move.
+/// Whether a move is an order that no station receives.
 fn is_lost(stations: &[WorldStation], step: &Move) -> bool
     ensures { result ≡ is_lost stations.now step.entry.now }
 {
     nobody_of(stations, &step.act).is_some()
 }
 
-/// The warning of the first order of a script, which this text spells, for a station that the script
-/// has not. Where there is no memory to find its line, there is none.
+/// Warning of the first order of a script for a station that the script lacks, given its text.
+/// `None` also if there is no memory to find its line.
 pub(crate) fn no_such_station(alloc: Global, text: &[u8], script: &Script) -> Option<Warning>
     ensures { IfSome result (WarnsOf text.now script.now) }
 {

@@ -1,4 +1,4 @@
-//! The command `world`: the recording of the world that a script describes.
+//! The command `world`: writes the recording of the world that a script describes.
 
 ghost use Rattle.std.specs.Prelude.{◌≡◌, ◌⊎◌, ℕ, List, length, map, Ok, IfOk, string_bytes};
 ghost use Rattle.std.specs.Io.KnownBytes.{Keeps};
@@ -23,16 +23,17 @@ use std::alloc::{AllocError, Global};
 use std::io::{Read, Write};
 use std::marker::Model;
 
-/// Runs the world that the script of a reader describes, writes its recording, and then a line with
-/// the numbers of its entries and of those that were sent, with status 0. The line is written only
-/// after the whole recording.
+/// Runs the world that a script describes, writes its recording, and then the row with the number
+/// of its entries and of those that were sent, with status 0. The row is written only after the
+/// whole recording.
 ///
-/// Status 2 with a line on `errors` tells the first line of the script that is refused (`script:
-/// bad-line at line N`, `script: unknown-station at line N`), a failed read of it (`script: read`),
-/// why its world does not run (`world: stations`, `world: NAME at move N`), with nothing written, or
-/// a failed write (`output: write`), after which a prefix of the recording is written and no line,
-/// or the recording and a prefix of the line. Status 3 is want of memory (`memory`); a prefix of the
-/// recording may be written, and no line. Of the script no more than 1,048,577 bytes are read.
+/// Status 2 with a line on `errors` means: a refused line of the script
+/// (`script: bad-line at line N`, `script: unknown-station at line N`), a failed read of it
+/// (`script: read`), or a world that does not run (`world: stations`, `world: NAME at move N`), all
+/// with nothing written; or a failed write (`output: write`), after which a prefix of the recording
+/// is written and no row, or the recording and a prefix of the row. Status 3 means that memory ran
+/// out (`memory`); a prefix of the recording may be written, and no row. At most 1,048,577 bytes of
+/// the script are read.
 pub fn world_command<R: Read + Drop, F: Write, W: Write, E: Write>(
     alloc: Global,
     script: R,
@@ -50,8 +51,7 @@ pub fn world_command<R: Read + Drop, F: Write, W: Write, E: Write>(
     end(world(alloc, script, recording, out), errors).status
 }
 
-/// Writes the recording of the world that the script of a reader describes, and then its line, and
-/// gives the status.
+/// Writes the recording of a script's world, and then its row, and returns the status.
 fn world<R: Read + Drop, F: Write, W: Write>(
     alloc: Global,
     script: R,
@@ -68,7 +68,7 @@ fn world<R: Read + Drop, F: Write, W: Write>(
     }
 }
 
-/// The recording of the world that the script of a reader describes.
+/// Reads a script, and runs its world. Returns the recording.
 fn run_script<R: Read + Drop>(
     alloc: Global,
     script: R,
@@ -81,7 +81,8 @@ fn run_script<R: Read + Drop>(
     run_text(alloc, &text, notes)
 }
 
-/// The recording of the world that a script describes.
+/// Recording of the world of the script that a text spells. Notes the warning of its first order
+/// for a station that it lacks.
 fn run_text(alloc: Global, text: &[u8], notes: &mut Notes) -> Result<Recording, Fault<'static>>
     ensures { RunsText (text_read text.now) result }
 {
@@ -94,7 +95,7 @@ fn run_text(alloc: Global, text: &[u8], notes: &mut Notes) -> Result<Recording, 
     }
 }
 
-/// The recording of the world of a script, which this text spells.
+/// Recording of the world of a script, given its text.
 fn run_read(alloc: Global, text: &[u8], script: Script) -> Result<Recording, Fault<'static>>
     requires { script_at text.now ≡ Ok script }
     ensures { RunsText (text_read text.now) result }
@@ -110,7 +111,7 @@ fn run_read(alloc: Global, text: &[u8], script: Script) -> Result<Recording, Fau
     }
 }
 
-/// The recording of the world of a script, of which a file is to be made.
+/// Recording of a script's world, to be written to a file.
 #[derive(Drop)]
 pub struct WorldFile {
     recording: Recording,
@@ -124,7 +125,7 @@ impl Model for WorldFile {
     ghost view = { λ file. file.recording };
 }
 
-/// The file of the recording of a world.
+/// Writes the recording, and then its row.
 impl Making for WorldFile {
     ghost use Rattle.siman_plays.specs.World.{PutsWorld};
 
@@ -145,7 +146,7 @@ impl Making for WorldFile {
     }
 }
 
-/// What comes of a script: the file of the recording of its world.
+/// Makes the file of the recording of a script's world.
 impl Product for WorldFile {
     ghost use Rattle.siman_plays.specs.World.{RunsFile, MakesWorld};
 
@@ -176,7 +177,7 @@ impl Product for WorldFile {
     }
 }
 
-/// The line of a world: how many entries its recording has, and how many of them were sent.
+/// Row of a world: number of entries of its recording, and of those that were sent.
 pub(crate) fn world_line(alloc: Global, recording: &Recording) -> Result<String, AllocError>
     ensures { IfOk result (λ line. string_bytes line ≡ world_text recording.now) }
 {
@@ -194,7 +195,7 @@ fn is_sent(entry: &LogEntry) -> bool
     matches!(entry.view(), EntryView::Sent { .. })
 }
 
-/// How many of the entries say that a datagram was sent.
+/// Number of entries that say that a datagram was sent.
 pub(crate) fn sent_count(entries: &[LogEntry]) -> usize
     ensures { result ≡ length (sent_in (map kept entries.now)) }
 {

@@ -19,7 +19,8 @@ abbrev pub GoOn : {L : Type 0} → PostState L → List (PostState L) → PostSt
 GoOn a [] c = GoesOn a c
 GoOn a (b ∷ bs) c = GoesOn a b × GoOn b bs c
 
--- A POST AT THE START OF ITS RECORDING: the head is written, nothing came to the station and it made no order, and nothing is printed so far
+-- A POST AT THE START OF ITS RECORDING: the head is written, the station has received nothing and made no order,
+-- and nothing is printed
 pub record IsStarted {L : Type 0} (before start : Option (List ℕ)) (w : SettingData) (a : PostState L) : Type 0 where
   pub setting : IsSetting w
   pub starts : Starts before w a.recorder
@@ -27,13 +28,13 @@ pub record IsStarted {L : Type 0} (before start : Option (List ℕ)) (w : Settin
   pub fault : a.printing.fault ≡ None
   pub out : Keeps start a.printing.out
 
--- ALL IS KEPT of the station, where these entries are written whole
+-- THE INVARIANT of the station holds, when these entries are written whole
 pub record IsKeptSo {L : Type 0} (before : Option (List ℕ)) (w : SettingData) (a : PostState L) (es : List Entry) : Type 0 where
   pub setting : a.recorder.setting ≡ w
   pub written : IsWritten before a.recorder es
   pub kept : IsKept a.station.index a.station.node a.recorder es (Some (sent_through a.station.line))
 
--- THE LINES OF THE ENTRIES are printed that are written whole, all or a prefix
+-- THE ROWS OF THE ENTRIES that are written whole are printed, all or a prefix
 pub record IsPrintedSo {L : Type 0} (before start : Option (List ℕ)) (a : PostState L) (es : List Entry) : Type 0 where
   pub written : IsWritten before a.recorder es
   pub printed : IsPrinted start a.exercise es a.printing
@@ -41,7 +42,7 @@ pub record IsPrintedSo {L : Type 0} (before start : Option (List ℕ)) (a : Post
 abbrev pub Leaves : {L : Type 0} → (before start : Option (List ℕ)) → SettingData → PostState L → Type 0
 Leaves before start w a = ((es : List Entry) × IsKeptSo before w a es) × ((es : List Entry) × IsPrintedSo before start a es)
 
--- No datagram that was received names a recorded station as its originator, but what was sent before.
+-- no received datagram names a recorded station as its originator, except what was sent before
 abbrev pub HearsOwnSent : SettingData → History → Type 0
 HearsOwnSent w [] = Unit {0}
 HearsOwnSent w (Send s b ∷ h) = HearsOwnSent w h

@@ -1,4 +1,4 @@
--- Datagrams that were noted (profile).
+-- Logged datagrams (profile).
 use Rattle.std.specs.Prelude.{ℕ, List, [], ◌∷◌, map, Vec}
 use Rattle.std.specs.declared.alloc.Global.{Global}
 use Rattle.siman_lines.specs.LineDatagrams.{Datagrams}
@@ -7,7 +7,7 @@ use Rattle.siman_lines.specs.LineDatagrams.{Datagrams}
 abbrev pub datagrams_of : List (Vec ℕ Global × Unit {0}) → Datagrams
 datagrams_of items = map (λ d. d.0.items) items
 
--- the last datagram, or no byte where there is none
+-- the last datagram, or no bytes if there is none
 abbrev pub last_of : Datagrams → List ℕ
 last_of [] = []
 last_of (d ∷ []) = d

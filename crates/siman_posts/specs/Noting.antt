@@ -1,4 +1,4 @@
--- What a line that notes what goes through it tells (profile).
+-- What a link that logs its datagrams specifies (profile).
 use Rattle.std.specs.Prelude.{◌≡◌, ◌⊎◌, ℕ, List, [], ◌∷◌, ◌++◌, length, take, Option, Some, None, Result, Ok, Err}
 use Rattle.siman_lines.specs.declared.line.LineFault.{LineFault}
 use Rattle.siman_lines.specs.AtLines.{Telling}
@@ -6,14 +6,14 @@ use Rattle.siman_lines.specs.LineDatagrams.{Datagrams, Same, Grows, MayGrow}
 use Rattle.siman_posts.specs.declared.noting.NotingLine.{NotingLine}
 use Rattle.siman_posts.specs.Noted.{datagrams_of}
 
--- EACH DATAGRAM THAT IT WAS HANDED, the oldest first, and each that it handed out
+-- EACH DATAGRAM PASSED TO ITS SENDS, the oldest first, and each that its receives returned
 abbrev pub sent_through : {L : Type 0} → NotingLine L → Datagrams
 sent_through l = datagrams_of l.sent.all.items
 
 abbrev pub received_through : {L : Type 0} → NotingLine L → Datagrams
 received_through l = datagrams_of l.received.all.items
 
--- what such lines tell, of lines that pass over so many strangers
+-- what links of this kind specify, given the number of strangers that the inner link passed over
 abbrev pub telling : {L : Type 0} → (strangers : L → ℕ) → Telling (NotingLine L)
 telling strangers = record {
   received = λ l. Some (received_through l);
@@ -22,18 +22,20 @@ telling strangers = record {
   strangers = λ l. strangers l.line;
 }
 
--- what a kind of lines tells of the datagrams that went one way
+-- the datagrams of one direction that a kind of link specifies
 abbrev pub Tells : Type 0 → Type 0
 Tells L = L → Option Datagrams
 
--- A SEND HANDS THE DATAGRAM ON to the line below, which says this of it; where there is no room for it, that line is as it was
+-- A SEND PASSES THE DATAGRAM to the inner link, which promises this of it; if there is no room for it, the inner
+-- link is unchanged
 abbrev pub HandsOn : {L : Type 0} → Tells L → (says : L → L → Result (Unit {0}) LineFault → Type 0) → List ℕ → (old new : NotingLine L) → Result (Unit {0}) LineFault → Type 0
 HandsOn sent says d old new (Ok u) = Grows (sent old.line) (sent new.line) d × says old.line new.line (Ok tt)
 HandsOn sent says d old new (Err fault) =
     (new.line ≡ old.line)
     ⊎ (MayGrow (sent old.line) (sent new.line) d × ((f : LineFault) × says old.line new.line (Err f)))
 
--- A RECEIVE HANDS OUT WHAT THE LINE BELOW HANDED OUT, as much of it as went into the buffer, and notes that; it fails where that line does, or where there is no room for what came
+-- A RECEIVE RETURNS WHAT THE INNER LINK RETURNED, as much of it as fits the buffer, and logs it; it fails if the
+-- inner link does, or if there is no room for the datagram
 abbrev pub HandsOut : {L : Type 0} → Tells L → (says : L → L → Result (Option ℕ) LineFault → Type 0) → (old new : NotingLine L) → Result (Option ℕ) LineFault → Type 0
 HandsOut received says old new (Ok (Some n)) =
     says old.line new.line (Ok (Some n))

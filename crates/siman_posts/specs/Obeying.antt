@@ -1,4 +1,4 @@
--- What a post does with a line of text (profile).
+-- The effect of a line of text at a post (profile).
 use Rattle.std.specs.Prelude.{◌≡◌, ◌≢◌, ◌⊎◌, ℕ, Option, Some, None, Result, Ok, Err}
 use Rattle.dis_records.specs.Address.{Pair}
 use Rattle.exercise_recording.specs.Writer.{WriterState}
@@ -13,7 +13,7 @@ use Rattle.siman_scripts.specs.declared.command.Task.TheVariants as tasks
 use Rattle.siman_posts.specs.declared.obeying.Undone.{Undone}
 use Rattle.siman_posts.specs.declared.obeying.Undone.TheVariants as undone
 
--- how it is told that a station was hindered at its line
+-- the reason of a fault at a station
 abbrev pub undone_by : AtLineFault → Undone
 undone_by (below.Station fault) = undone.Station fault
 undone_by below.Line = undone.Line
@@ -24,7 +24,7 @@ abbrev pub told_as : Result (Unit {0}) AtLineFault → Result (Unit {0}) Undone
 told_as (Ok x) = Ok x
 told_as (Err fault) = Err (undone_by fault)
 
--- A STATION DOES WHAT IT IS ASKED TO, before and after, over its recorder
+-- A STATION DOES A TASK, before and after, with its recorder
 abbrev pub DoesTask : {L : Type 0} → Telling L → (now : ℕ) → Task → (p : StationAtLine L) → (w : WriterState) → (q : StationAtLine L) → (v : WriterState)
     → Result (Unit {0}) AtLineFault → Type 0
 DoesTask told now (tasks.Order order) p w q v done = OrdersAt told now order p w q v done
@@ -35,14 +35,15 @@ DoesTask told now (tasks.Tell e) p w q v done = (q ≡ p) × TellsAt e p w v don
 abbrev pub Rests : {L : Type 0} → (p : StationAtLine L) → (w : WriterState) → (q : StationAtLine L) → (v : WriterState) → Type 0
 Rests p w q v = (q ≡ p) × (v ≡ w)
 
--- the station that is named does it, where that is this one; another is unknown
+-- the station does a task, if the line names its address; another address is unknown
 abbrev pub DoesAsked : {L : Type 0} → Telling L → (own : Pair) → (now : ℕ) → (named : Pair) → Task → (p : StationAtLine L) → (w : WriterState)
     → (q : StationAtLine L) → (v : WriterState) → Result (Unit {0}) Undone → Type 0
 DoesAsked told own now named task p w q v result =
     ((named ≢ own) × (result ≡ Err undone.UnknownStation) × Rests p w q v)
     ⊎ ((named ≡ own) × ((done : Result (Unit {0}) AtLineFault) × (result ≡ told_as done) × DoesTask told now task p w q v done))
 
--- WHAT A POST DOES WITH A LINE that says this, where its clock shows one time before and another one after; memory may run out before anything is done
+-- THE EFFECT OF A LINE with this command at a post, given the time of its clock before and after; memory may run
+-- out before anything is done
 abbrev pub ObeysIt : {L : Type 0} → Telling L → (own : Pair) → Option Command → (now later : ℕ) → (p : StationAtLine L) → (w : WriterState)
     → (q : StationAtLine L) → (v : WriterState) → Result (Unit {0}) Undone → Type 0
 ObeysIt told own None now later p w q v result = (result ≡ Err undone.BadLine) × (later ≡ now) × Rests p w q v

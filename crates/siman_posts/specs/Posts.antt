@@ -17,7 +17,8 @@ use Rattle.siman_posts.specs.Noting.{sent_through, received_through}
 use Rattle.siman_posts.specs.Obeying.{Obeys}
 use Rattle.siman_posts.specs.Turns.{TakesTurns}
 
--- A POST AS IT IS BEGUN: station 0 with these halves, whose line was handed nothing and handed out nothing, and whose clock shows 0; nothing hinders printing
+-- A POST IN ITS INITIAL STATE: station 0 with this node, whose link was passed nothing and returned nothing, and
+-- whose clock shows 0; printing has not failed
 pub record IsBegun {L : Type 0} (exercise : ℕ) (address : Pair) (node : Node) (post : Post L) : Type 0 where
   pub index : post.station.index ≡ 0
   pub node_is : post.station.node ≡ node
@@ -29,7 +30,7 @@ pub record IsBegun {L : Type 0} (exercise : ℕ) (address : Pair) (node : Node) 
   pub address_is : post.address ≡ address
   pub clock : post.clock ≡ 0
 
--- Of what came of a line.
+-- Results of lines.
 
 abbrev pub is_unrecorded : Result (Unit {0}) Undone → Bool
 is_unrecorded (Err undone.Record) = true
@@ -47,7 +48,7 @@ is_undone (Err why) = true
 abbrev pub is_over : LineCame → Bool
 is_over came = is_unrecorded came.done || came.trouble.recorder
 
--- the exit status that it asks for
+-- the exit status of a line
 abbrev pub worst : LineCame → ℕ
 worst came =
     if is_unremembered came.done || came.trouble.memory then 3
@@ -57,7 +58,8 @@ worst came =
 abbrev pub no_trouble : Trouble
 no_trouble = record { line = false; memory = false; recorder = false }
 
--- WHAT A POST DOES WITH A LINE: what it asks for, and then it is served; it is not, where an entry was not recorded
+-- THE EFFECT OF A LINE at a post: it does what the line asks for, and is then served, unless an entry was not
+-- recorded
 pub record TakesLine {L : Type 0} (told : Telling (NotingLine L)) (said : Option Command) (old : Post L) (w : WriterState) (new : Post L) (v : WriterState)
     (came : LineCame) : Type 0 where
   pub mid : StationAtLine (NotingLine L)

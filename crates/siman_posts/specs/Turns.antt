@@ -10,11 +10,11 @@ use Rattle.siman_posts.specs.declared.turns.TheConstants.{MOST_TURNS}
 use Rattle.siman_posts.specs.declared.turns.Trouble.{Trouble}
 use Rattle.siman_posts.specs.Deeds.{ServesOnce}
 
--- what came of one receive
+-- the result of one receive
 abbrev pub Turn : Type 0
 Turn = Result Served ServeFault
 
--- it goes on after it: something was found, or a send failed, or memory ran out
+-- another turn follows: a datagram was found, or a send failed, or memory ran out
 abbrev pub is_followed : Turn → Bool
 is_followed (Ok served) = not served.idle
 is_followed (Err faults.Receive) = false
@@ -22,7 +22,7 @@ is_followed (Err faults.Send) = true
 is_followed (Err (faults.Record fault)) = false
 is_followed (Err faults.Memory) = true
 
--- a call of the line failed
+-- a call of the link failed
 abbrev pub is_lost : Turn → Bool
 is_lost (Ok served) = false
 is_lost (Err faults.Receive) = true
@@ -53,23 +53,24 @@ abbrev pub AreFollowed : List Turn → Type 0
 AreFollowed [] = Unit {0}
 AreFollowed (t ∷ ts) = (is_followed t ≡ true) × AreFollowed ts
 
--- a station over its recorder
+-- a station with its recorder
 pub record AtRecorder (L : Type 0) : Type 0 where
   pub station : StationAtLine L
   pub recorder : WriterState
 
--- these came of receives, one after the other
+-- turns with these results, one after the other
 abbrev pub Take : {L : Type 0} → Telling L → (now : ℕ) → List Turn → (old new : AtRecorder L) → Type 0
 Take told now [] old new = new ≡ old
 Take {L} told now (t ∷ ts) old new =
     (mid : AtRecorder L) × Take told now ts old mid × ServesOnce told now mid.station mid.recorder new.station new.recorder t
 
--- it ends with the first after which it does not go on, or as many were made as may be
+-- the turns end with the first that no other follows, or with the greatest number of them
 abbrev pub AreAllTurns : List Turn → Type 0
 AreAllTurns [] = ⊥
 AreAllTurns (t ∷ ts) = AreFollowed ts × ((is_followed t ≡ false) ⊎ (length (t ∷ ts) ≡ MOST_TURNS))
 
--- IT IS SERVED, turn after turn, until a receive finds nothing or fails, or an entry is not recorded, for at most 65,536 receives; and this failed
+-- A POST IS SERVED, turn after turn, until a receive finds nothing or fails, or an entry is not recorded, with at
+-- most 65,536 receives; with what failed
 pub record TakesTurns {L : Type 0} (told : Telling L) (now : ℕ) (p : StationAtLine L) (w : WriterState) (q : StationAtLine L) (v : WriterState)
     (trouble : Trouble) : Type 0 where
   pub turns : List Turn

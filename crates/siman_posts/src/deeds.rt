@@ -1,4 +1,4 @@
-//! A station at its post: what it does when it is asked to, and what of it is printed.
+//! Calls at the station of a post, and the printed rows of their entries.
 
 ghost use Rattle.std.specs.Prelude.{◌≡◌, ◌≤◌, Some};
 ghost use Rattle.exercise_model.specs.declared.recording.TheConstants.{MOST_ENTRIES};
@@ -19,9 +19,9 @@ use siman_manager::Order;
 use std::alloc::Global;
 use std::io::Write;
 
-/// Prints the entry of what a station sent, if one was recorded since there were so many entries. Its
-/// line had been handed so many datagrams then; where it was handed none since, what it sent is not
-/// known, and no more is printed.
+/// Prints the entry of a sent datagram, if one was recorded since the recording had `entries`
+/// entries and the link had sent `sent` datagrams. If the link has sent none since, the datagram is
+/// unknown, and nothing further is printed.
 fn print_sent<L: Line + Drop, W: Write, O: Write>(
     station: &StationAtLine<NotingLine<L>>,
     printer: &mut EntryPrinter,
@@ -51,9 +51,10 @@ fn print_sent<L: Line + Drop, W: Write, O: Write>(
     printer.print(out, entries, entry);
 }
 
-/// Prints the entries of a turn that were recorded since there were so many entries: of the datagram
-/// that came, and of the answer to it. Its line had handed out, and been handed, so many datagrams
-/// then.
+/// Prints the entries of a turn: that of the received datagram and that of the answer, if they were
+/// recorded since the recording had `entries` entries, and the link had returned `received`
+/// datagrams and sent `sent`. If the link has not returned exactly one since, nothing further is
+/// printed.
 fn print_turn<L: Line + Drop, W: Write, O: Write>(
     station: &StationAtLine<NotingLine<L>>,
     printer: &mut EntryPrinter,
@@ -86,7 +87,7 @@ fn print_turn<L: Line + Drop, W: Write, O: Write>(
     print_sent(station, printer, recorder, out, now, entries + 1, sent);
 }
 
-/// A new order is recorded and sent, as by [`order_at`], and the line of its entry printed.
+/// Records and sends a new order, as [`order_at`] does, and prints the row of its entry.
 pub(crate) fn order_at_post<L: Line + Drop, W: Write, O: Write>(
     alloc: Global,
     station: &mut StationAtLine<NotingLine<L>>,
@@ -108,8 +109,8 @@ pub(crate) fn order_at_post<L: Line + Drop, W: Write, O: Write>(
     done
 }
 
-/// The repeat that is due, if one is, is recorded and sent, as by [`repeat_at`], and the line of its
-/// entry printed.
+/// Records and sends the repeat that is due, if any, as [`repeat_at`] does, and prints the row of
+/// its entry.
 pub(crate) fn repeat_at_post<L: Line + Drop, W: Write, O: Write>(
     alloc: Global,
     station: &mut StationAtLine<NotingLine<L>>,
@@ -130,7 +131,7 @@ pub(crate) fn repeat_at_post<L: Line + Drop, W: Write, O: Write>(
     done
 }
 
-/// The state of an entity is recorded as told, as by [`tell_at`], and the line of its entry printed.
+/// Records the state of an entity as told, as [`tell_at`] does, and prints the row of its entry.
 pub(crate) fn tell_at_post<L: Line + Drop, W: Write, O: Write>(
     station: &StationAtLine<NotingLine<L>>,
     printer: &mut EntryPrinter,
@@ -156,7 +157,7 @@ pub(crate) fn tell_at_post<L: Line + Drop, W: Write, O: Write>(
     Ok(())
 }
 
-/// Serves a station for one receive, as by [`serve`], and counts a datagram that it dropped.
+/// Serves a station for one receive, as [`serve`] does, and counts a datagram that it dropped.
 fn serve_counting<L: Line + Drop, W: Write>(
     alloc: Global,
     station: &mut StationAtLine<NotingLine<L>>,
@@ -182,8 +183,8 @@ fn serve_counting<L: Line + Drop, W: Write>(
     }
 }
 
-/// Serves a station for one receive, as by [`serve`], counts a datagram that it dropped, and prints
-/// the lines of what it recorded.
+/// Serves a station for one receive, as [`serve`] does, counts a datagram that it dropped, and
+/// prints the rows of what it recorded.
 pub(crate) fn serve_at_post<L: Line + Drop, W: Write, O: Write>(
     alloc: Global,
     station: &mut StationAtLine<NotingLine<L>>,

@@ -1,13 +1,14 @@
-//! Posts: one station, commanded by lines of text, at its line, recorded as it goes.
-//!
-//! A [`Post`] takes one line of text after the other ([`Post::take_line`]), in the forms of the moves of
-//! a script: the station does what the line asks for, and is then served until nothing more came. Each
-//! entry is recorded before what it tells of is sent, and its line is printed, as `show` has it. No
-//! clock is read, no socket opened, and no line read here: a command above hands them in.
-//!
-//! What a line comes to is `TakesLine` (`specs/Posts.antt`, `Obeying.antt`, `Turns.antt`). The laws say
-//! what is left after every list of lines ([`posts_keep_their_recordings`]), and that what one station
-//! records is explained ([`own_recordings_are_explained`]).
+//! Posts: one station at its link, commanded by lines of text, with a recording and printed rows of
+//! its entries.
+//! A [`Post`] takes one line of text after the other ([`Post::take_line`]), in the forms of the
+//! moves of a script: the station does what the line asks for, and is then served until no datagram
+//! is waiting. Each entry is recorded before its datagram is sent, and its row is printed, as
+//! `show` has it.
+//! The crate reads no clock and no line and opens no socket: the caller passes them in.
+//! The contract for the layer above: the effect of a line is `TakesLine` (`specs/Posts.antt`,
+//! `Obeying.antt`, `Turns.antt`); the laws say what every list of lines leaves
+//! ([`posts_keep_their_recordings`]), and that the recording of one station is explained
+//! ([`own_recordings_are_explained`]).
 #![tactic(auto)]
 
 mod deeds;

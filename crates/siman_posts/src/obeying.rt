@@ -1,4 +1,4 @@
-//! What a post does with a line of text.
+//! The effect of a line of text at a post.
 
 ghost use Rattle.std.specs.Prelude.{◌≡◌};
 ghost use Rattle.siman_scripts.specs.Command.{command_of};
@@ -20,13 +20,13 @@ use std::io::Write;
 /// Why a post did not do what a line asks for.
 #[derive(Clone, Copy, Debug, PartialEq, Eq)]
 pub enum Undone {
-    /// The line is of no form that it may have.
+    /// The line has no valid form.
     BadLine,
     /// It names another station.
     UnknownStation,
-    /// The station cannot do it, and is as it was.
+    /// The station refuses it, and is unchanged.
     Station(StationFault),
-    /// A call of the line failed.
+    /// A call of the link failed.
     Line,
     /// An entry was not recorded, and no further one will be.
     Record,
@@ -34,7 +34,7 @@ pub enum Undone {
     Memory,
 }
 
-/// How it is told that a station was hindered at its line.
+/// Reason of a fault at a station.
 fn undone_by(fault: AtLineFault) -> Undone
     ensures { result ≡ undone_by fault }
 {
@@ -46,7 +46,7 @@ fn undone_by(fault: AtLineFault) -> Undone
     }
 }
 
-/// How what was done at a line is told.
+/// Result of a call at a station, with the reason of its fault.
 fn told_as(done: Result<(), AtLineFault>) -> Result<(), Undone>
     ensures { result ≡ told_as done }
 {
@@ -56,7 +56,7 @@ fn told_as(done: Result<(), AtLineFault>) -> Result<(), Undone>
     }
 }
 
-/// A station does what it is asked to, and the line of what it recorded is printed.
+/// Makes the station do a task, and prints the row of what it recorded.
 fn do_task<L: Line + Drop, W: Write, O: Write>(
     alloc: Global,
     station: &mut StationAtLine<NotingLine<L>>,
@@ -78,7 +78,7 @@ fn do_task<L: Line + Drop, W: Write, O: Write>(
     }
 }
 
-/// The station at this address does what it is asked to; another one is not known.
+/// Makes the station do a task, if the line names its address.
 fn do_asked<L: Line + Drop, W: Write, O: Write>(
     alloc: Global,
     station: &mut StationAtLine<NotingLine<L>>,
@@ -101,8 +101,8 @@ fn do_asked<L: Line + Drop, W: Write, O: Write>(
     told_as(do_task(alloc, station, printer, recorder, out, now, task))
 }
 
-/// Does what a line asks for, without its line feed: what it says is that of the station at this
-/// address, or of its clock, or nothing.
+/// Does what a line asks for, given without its line feed: a task of the station at this address, a
+/// new time of its clock, or nothing.
 pub(crate) fn obey<L: Line + Drop, W: Write, O: Write>(
     alloc: Global,
     station: &mut StationAtLine<NotingLine<L>>,

@@ -1,4 +1,5 @@
-//! A post: one station, commanded by lines of text, at its line, recorded as it goes.
+//! A post: one station at its link, commanded by lines of text, with a recording and printed rows
+//! of its entries.
 
 ghost use Rattle.std.specs.Prelude.{◌≡◌, None, [], IfOk};
 ghost use Rattle.siman_scripts.specs.Command.{command_of};
@@ -17,7 +18,7 @@ use siman_stations::Node;
 use std::alloc::{AllocError, Global};
 use std::io::Write;
 
-/// One station at its line. It is the only one of its recording, has the index 0 there, and its clock
+/// One station at its link. It is the only one of its recording, with the index 0, and its clock
 /// shows 0 before the first line that sets it.
 #[derive(Drop)]
 pub struct Post<L: Line + Drop> {
@@ -27,12 +28,12 @@ pub struct Post<L: Line + Drop> {
     clock: u64,
 }
 
-/// What came of a line of text.
+/// Result of a line of text.
 #[derive(Clone, Copy)]
 pub struct LineCame {
-    /// What the line asks for was done, or why it was not.
+    /// Whether the line was done, or why not.
     pub done: Result<(), Undone>,
-    /// What failed in the turns after it. Where an entry was not recorded before, there are none.
+    /// What failed in the turns after it. There are no turns if an entry was not recorded before.
     pub trouble: Trouble,
 }
 
@@ -44,8 +45,8 @@ impl LineCame {
         self.done == Err(Undone::Record) || self.trouble.recorder
     }
 
-    /// The exit status that it asks for: 3 where memory ran out, else 2 where anything failed or was
-    /// not done, else 0.
+    /// Exit status of the line: 3 if memory ran out, else 2 if anything failed or was not done,
+    /// else 0.
     pub fn status(self) -> u8
         ensures { result ≡ worst self }
     {
@@ -65,7 +66,7 @@ fn is_unrecorded(done: Result<(), Undone>) -> bool
 }
 
 impl<L: Line + Drop> Post<L> {
-    /// A station with these halves at a line, at its address in an exercise.
+    /// Begins a post: a station with this node at its link, with its address in an exercise.
     pub fn begin(
         alloc: Global,
         exercise: u8,
@@ -97,12 +98,12 @@ impl<L: Line + Drop> Post<L> {
         })
     }
 
-    /// Takes a line of text, without its line feed: does what it asks for, and then serves the station
-    /// until a receive finds nothing or fails, for at most 65,536 receives. A line is passed over, sets
-    /// the clock (`at`), or asks this station for an order, a repeat or a state, in the forms of the
-    /// moves of a script; it is served after a bad line too. Each entry is recorded before what it
-    /// tells of is sent, and its line printed after that. Where an entry is not recorded nothing more
-    /// is done, and no further line is to be taken.
+    /// Takes a line of text, without its line feed: does what it asks for, and then serves the
+    /// station until a receive finds nothing or fails, with at most 65,536 receives. A line does
+    /// nothing, sets the clock (`at`), or asks this station for an order, a repeat or a state, in
+    /// the forms of the moves of a script; the station is served after a bad line too. Each entry
+    /// is recorded before its datagram is sent, and its row is printed after that. If an entry is
+    /// not recorded, nothing more is done, and no further line is to be taken.
     pub fn take_line<W: Write, O: Write>(
         &mut self,
         alloc: Global,
@@ -135,33 +136,33 @@ impl<L: Line + Drop> Post<L> {
         LineCame { done, trouble }
     }
 
-    /// How many datagrams of over 8192 bytes it dropped; the most of 64 bits stands for more.
+    /// Number of datagrams of over 8192 bytes that it dropped; saturates at the greatest `u64`.
     pub fn dropped(&self) -> u64
         ensures { result ≡ self.now.station.dropped }
     {
         self.station.dropped
     }
 
-    /// How many datagrams from elsewhere than its peers its line passed over, as that tells it.
+    /// Number of datagrams from strangers that its link passed over.
     pub fn strangers(&self) -> u64
         ensures { result ≡ L.strangers self.now.station.line.line }
     {
         self.station.line.strangers()
     }
 
-    /// The last call of its line that failed, if one did and the line tells it.
+    /// Last failed call of its link, if there was any and the link records it.
     pub fn line_trouble(&self) -> Option<LineTrouble> {
         self.station.line.trouble()
     }
 
-    /// The address of its station.
+    /// Address of its station.
     pub fn address(&self) -> Address
         ensures { result ≡ self.now.address }
     {
         self.address
     }
 
-    /// Its line, with what went through it.
+    /// Its link, without the log of the datagrams.
     pub fn into_line(self) -> L
         ensures { result ≡ self.station.line.line }
     {
@@ -171,7 +172,7 @@ impl<L: Line + Drop> Post<L> {
         line.into_inner()
     }
 
-    /// Why no further entry is printed, if none is.
+    /// Why no further entry is printed. `None` if printing goes on.
     pub fn print_fault(&self) -> Option<PrintFault>
         ensures { result ≡ self.now.printer.fault }
     {

@@ -1,4 +1,4 @@
-//! The lines of entries, printed as they are recorded.
+//! Rows of entries, printed as they are recorded.
 
 ghost use Rattle.std.specs.Prelude.{◌≡◌, Some, None, MatchOption};
 ghost use Rattle.std.specs.Io.KnownBytes.{Appends, Keeps};
@@ -21,7 +21,7 @@ pub enum PrintFault {
     Memory,
 }
 
-/// Prints the line of each entry of an exercise, up to the first that it cannot print.
+/// Prints the row of each entry of an exercise, up to the first that it cannot print.
 #[derive(Drop)]
 pub(crate) struct EntryPrinter {
     exercise: u8,
@@ -29,7 +29,7 @@ pub(crate) struct EntryPrinter {
     fault: Option<PrintFault>,
 }
 
-/// Flushes what was written.
+/// Flushes the output.
 fn flush<O: Write>(out: &mut O) -> Option<PrintFault>
     ensures { Keeps (O.contents out.old) (O.contents out.new) }
 {
@@ -39,7 +39,7 @@ fn flush<O: Write>(out: &mut O) -> Option<PrintFault>
     }
 }
 
-/// Writes a line, and flushes it.
+/// Writes a row, and flushes the output.
 fn print_line<O: Write>(out: &mut O, line: &[u8]) -> Option<PrintFault>
     ensures { MatchOption result (Appends (O.contents out.old) (O.contents out.new) line.now) (λ fault. WritesPart (O.contents out.old) (O.contents out.new) line.now) }
 {
@@ -52,7 +52,7 @@ fn print_line<O: Write>(out: &mut O, line: &[u8]) -> Option<PrintFault>
 impl EntryPrinter {
     ghost use Rattle.siman_posts.specs.Printing.{Printing, line_of, PrintsLine};
 
-    /// Of the entries of this exercise; it printed none so far.
+    /// A printer for the entries of this exercise, which has printed none.
     pub(crate) fn new(alloc: Global, exercise: u8) -> EntryPrinter
         ensures exercise { result.exercise ≡ exercise }
         ensures fault { result.fault ≡ None }
@@ -64,15 +64,15 @@ impl EntryPrinter {
         }
     }
 
-    /// Why it prints no further entry, if it does not.
+    /// Why it prints no further entry. `None` if it goes on.
     pub(crate) fn fault(&self) -> Option<PrintFault>
         ensures { result ≡ self.now.fault }
     {
         self.fault
     }
 
-    /// Prints the line of an entry by its number, from 0, and flushes it; nothing where an earlier one
-    /// was not printed whole.
+    /// Prints the row of an entry, given its number, from 0, and flushes the output. Prints nothing
+    /// if an earlier row was not printed whole.
     pub(crate) fn print<O: Write>(&mut self, out: &mut O, number: u32, entry: EntryView<'_>)
         ensures exercise { self.new.exercise ≡ self.old.exercise }
         ensures printed { let old : Printing = record { out = O.contents out.old; fault = self.old.fault } in
@@ -97,7 +97,7 @@ impl EntryPrinter {
         };
     }
 
-    /// Prints no further entry, since one could not be had.
+    /// Stops the printing, since an entry is unknown.
     pub(crate) fn silence(&mut self)
         ensures exercise { self.new.exercise ≡ self.old.exercise }
         ensures fault { MatchOption self.old.fault (self.new.fault ≡ Some PrintFault.Memory) (λ fault. self.new.fault ≡ Some fault) }

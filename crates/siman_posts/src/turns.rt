@@ -13,13 +13,13 @@ use siman_lines::{Line, ServeFault, Served, StationAtLine};
 use std::alloc::Global;
 use std::io::Write;
 
-/// How many receives follow a line at most.
+/// Most receives after a line.
 const MOST_TURNS: u32 = 65_536;
 
-/// What failed while a post was served.
+/// What failed in the service of a post.
 #[derive(Clone, Copy)]
 pub struct Trouble {
-    /// A call of its line failed.
+    /// A call of its link failed.
     pub line: bool,
     /// Memory ran out.
     pub memory: bool,
@@ -39,7 +39,7 @@ impl Trouble {
         }
     }
 
-    /// What failed in one turn more.
+    /// What failed, after one more turn.
     fn after(self, turn: Result<Served, ServeFault>) -> Trouble
         ensures { result ≡ record { line = is_lost turn || self.line; memory = wants_memory turn || self.memory; recorder = is_unrecorded turn || self.recorder } }
     {
@@ -69,7 +69,7 @@ impl Trouble {
     }
 }
 
-/// Whether another turn follows: something was found, or a send failed, or memory ran out.
+/// Whether another turn follows: a datagram was found, or a send failed, or memory ran out.
 fn is_followed(turn: Result<Served, ServeFault>) -> bool
     ensures { result ≡ is_followed turn }
 {
@@ -80,8 +80,8 @@ fn is_followed(turn: Result<Served, ServeFault>) -> bool
     }
 }
 
-/// Serves a post until a receive finds nothing or fails, for at most 65,536 receives. Where a send
-/// fails or memory runs out it goes on; where an entry is not recorded it ends. What failed.
+/// Serves a post until a receive finds nothing or fails, with at most 65,536 receives. Goes on if a
+/// send fails or memory runs out; ends if an entry is not recorded. Returns what failed.
 pub(crate) fn take_turns<L: Line + Drop, W: Write, O: Write>(
     alloc: Global,
     station: &mut StationAtLine<NotingLine<L>>,

@@ -1,38 +1,39 @@
-//! A call that takes memory: what it says, and what is told of it.
+//! A call that takes memory, and the text of its outcome.
 
 use std::alloc::Global;
 use std::io;
 
-/// What a call said.
+/// Outcome of a call.
 #[derive(Clone, Copy)]
 pub enum Said {
-    /// What it says where memory lasts.
+    /// The expected result, with enough memory.
     Usual,
-    /// Want of memory, and what was lent is as before.
+    /// Memory ran out, and the inputs are as before.
     Memory,
-    /// A failed send, and the entry of what was to be sent stands.
+    /// A send failed, and its entry is recorded.
     Send,
     /// Anything else.
     Otherwise,
 }
 
-/// [`Said::Usual`] where it holds.
+/// [`Said::Usual`] if `holds`, else [`Said::Otherwise`].
 pub fn usual(holds: bool) -> Said {
     if holds { Said::Usual } else { Said::Otherwise }
 }
 
-/// [`Said::Memory`] where it holds.
+/// [`Said::Memory`] if `holds`, else [`Said::Otherwise`].
 pub fn refused(holds: bool) -> Said {
     if holds { Said::Memory } else { Said::Otherwise }
 }
 
-/// A call, on what it is lent.
+/// A call on inputs that it borrows.
 pub trait Call<L> {
     /// Makes the call.
     fn make(alloc: Global, lent: &mut L) -> Said;
 }
 
-/// What is told of a call: what it says, and where memory was refused, what it says again.
+/// Text of the outcome of a call. If memory ran out or a send failed, the call is made again, and
+/// the text says that outcome too.
 fn told<L, C: Call<L>>(alloc: Global, lent: &mut L) -> &'static str {
     let said = C::make(alloc, lent);
     match said {
@@ -49,7 +50,7 @@ fn told<L, C: Call<L>>(alloc: Global, lent: &mut L) -> &'static str {
     }
 }
 
-/// What is told of a call, if what it is lent could be made.
+/// Text of the outcome of a call; `not begun` if its inputs could not be made.
 pub fn told_of<C: Call<L>, L: Drop>(alloc: Global, lent: io::Result<L>) -> &'static str {
     match lent {
         Ok(mut lent) => told::<L, C>(alloc, &mut lent),

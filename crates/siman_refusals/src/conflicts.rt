@@ -1,4 +1,4 @@
-//! Recordings that no run explains.
+//! Calls on a recording that no sequence explains.
 
 use crate::call::{Call, Said, refused, usual};
 use exercise_audit::{Audit, Block, audit};
@@ -13,8 +13,8 @@ use exercise_model::{Cause, ExerciseLog, Recording};
 use exercise_review::Missing;
 use std::alloc::{AllocError, Global};
 
-/// 1:1 and 2:3 each receive a comment of the other before they send one, and 1:1 receives one more that
-/// 2:3 did not send.
+/// 1:1 and 2:3 each receive a comment of the other before they send one, and 1:1 receives one more
+/// that 2:3 never sent.
 pub(crate) const RING: [u8; 253] = [
     68, 83, 82, 67, 48, 48, 48, 49, 1, 0, 2, 0, 1, 0, 1, 0, 0, 0, 2, 0, 3, 0, 0, 2, 0, 0, 0, 0, 0,
     0, 0, 0, 0, 0, 0, 32, 7, 1, 22, 5, 0, 0, 0, 0, 0, 32, 0, 0, 0, 2, 0, 3, 0, 0, 0, 1, 0, 1, 0, 0,
@@ -27,10 +27,10 @@ pub(crate) const RING: [u8; 253] = [
     0, 0, 0, 0, 0, 5,
 ];
 
-/// What contradicts what in that recording is told.
+/// Computes every part of the conflict of that recording.
 pub(crate) struct Contradicting;
 
-/// What 2:3 did not send, and the entry that received it.
+/// The missing send of 2:3, and the entry that received it.
 const LACK: Lack = Lack {
     entry: 4,
     missing: Missing {
@@ -39,7 +39,7 @@ const LACK: Lack = Lack {
     },
 };
 
-/// Whether there are two waits, of stations that wait on each other.
+/// Whether there are exactly two waits, and they form a cycle.
 fn are_a_ring(alloc: Global, waits: &[Wait]) -> Result<bool, AllocError> {
     match cycle_at(alloc, waits, 0)? {
         Some(cycle) => Ok(waits.len() == 2 && cycle.as_slice() == [0, 1].as_slice()),
@@ -47,7 +47,7 @@ fn are_a_ring(alloc: Global, waits: &[Wait]) -> Result<bool, AllocError> {
     }
 }
 
-/// Whether the stations of a blocked list wait on each other.
+/// Whether the stations of blocked entries wait for each other.
 fn is_ring<L: ExerciseLog>(
     alloc: Global,
     findings: &Findings<'_, L>,
@@ -57,7 +57,7 @@ fn is_ring<L: ExerciseLog>(
     are_a_ring(alloc, &waits)
 }
 
-/// Whether it is told that the two wait on each other.
+/// Whether `audit` is blocked, and the two stations wait for each other.
 fn is_ring_told<L: ExerciseLog>(
     alloc: Global,
     findings: &Findings<'_, L>,
@@ -68,7 +68,7 @@ fn is_ring_told<L: ExerciseLog>(
     }
 }
 
-/// Whether it is told what is missing.
+/// Whether exactly [`LACK`] is missing.
 fn is_lack_told<L: ExerciseLog>(
     alloc: Global,
     findings: &Findings<'_, L>,
@@ -77,13 +77,14 @@ fn is_lack_told<L: ExerciseLog>(
     Ok(lacks.as_slice() == [LACK].as_slice())
 }
 
-/// That one send is missing, and is not enough.
+/// A repair by one added send, which is not enough.
 const NOT_ENOUGH: Repair = Repair {
     sends: 1,
     enough: Enough::No,
 };
 
-/// Whether a conflict is that of the recording: two ways in one ring, and nothing beside.
+/// Whether a conflict is that of the recording: two stations in one cycle, the lack, the
+/// repair, and nothing else.
 fn is_conflict(conflict: &Conflict) -> bool {
     conflict.ways.len() == 2
         && conflict.cycles.len() == 1
@@ -92,7 +93,7 @@ fn is_conflict(conflict: &Conflict) -> bool {
         && conflict.repair == NOT_ENOUGH
 }
 
-/// Whether all that the recording contradicts is told as one.
+/// Whether [`conflict_of`] finds the conflict of the recording.
 fn is_whole_told<L: ExerciseLog>(
     alloc: Global,
     findings: &Findings<'_, L>,
@@ -103,7 +104,7 @@ fn is_whole_told<L: ExerciseLog>(
     }
 }
 
-/// Whether the recording with the missing send has one entry more, and is not explained either.
+/// Whether the recording with the missing send has one entry more, and is still not explained.
 fn is_repair_told<L: ExerciseLog>(
     alloc: Global,
     findings: &Findings<'_, L>,
@@ -115,7 +116,7 @@ fn is_repair_told<L: ExerciseLog>(
     }
 }
 
-/// Why a certificate without steps is refused.
+/// The refusal of a certificate without steps.
 const WITHOUT_STEPS: Refusal = Refusal {
     step: 0,
     cause: Cause::CountDiffers,
@@ -128,7 +129,7 @@ const WITHOUT_STEPS: Refusal = Refusal {
     fault: Fault::Recording,
 };
 
-/// Whether it is told why a certificate without steps is refused.
+/// Whether a certificate without steps is refused as [`WITHOUT_STEPS`].
 fn is_refusal_told(alloc: Global, log: &Recording) -> Result<bool, AllocError> {
     let certificate = Certificate {
         steps: Vec::new(alloc),
@@ -139,8 +140,7 @@ fn is_refusal_told(alloc: Global, log: &Recording) -> Result<bool, AllocError> {
     }
 }
 
-/// Whether it is told that the two wait on each other, what is missing, and that this is the
-/// recording's fault.
+/// Whether the waits, the lack, the fault, the whole conflict and the repair are all as expected.
 fn is_told_by<L: ExerciseLog>(
     alloc: Global,
     findings: &Findings<'_, L>,
@@ -153,7 +153,7 @@ fn is_told_by<L: ExerciseLog>(
     Ok(ring && lack && fault == Fault::Recording && whole && repair)
 }
 
-/// Whether this is told of a log.
+/// Whether all results for a log are as expected.
 fn is_told(alloc: Global, log: &Recording) -> Result<bool, AllocError> {
     let findings = Findings::of(alloc, log)?;
     let told = is_told_by(alloc, &findings)?;
@@ -161,7 +161,7 @@ fn is_told(alloc: Global, log: &Recording) -> Result<bool, AllocError> {
     Ok(told && refused)
 }
 
-/// What was said of a log, which is as it was.
+/// The outcome of a call on a log, which must be unchanged.
 fn said(told: Result<bool, AllocError>, log: &Recording) -> Said {
     match told {
         Ok(told) => usual(told),
@@ -175,15 +175,15 @@ impl Call<Recording> for Contradicting {
     }
 }
 
-/// Whether the logs alone say what they say of the last entry of the recording.
+/// Whether the findings name the cause of the last entry of the recording.
 fn are_found<L: ExerciseLog>(findings: &Findings<'_, L>) -> bool {
     findings.cause(4) == Some(Cause::NeverSent) && findings.log().entry_count() == 5
 }
 
-/// All that a recording contradicts is told, and what was found in its log is given back.
+/// Computes the conflict of a recording, and returns its findings.
 pub(crate) struct FindingConflict;
 
-/// Whether this is told of a log.
+/// Whether the conflict and the findings of a log are as expected.
 fn is_conflict_found(alloc: Global, log: &Recording) -> Result<bool, AllocError> {
     let told = conflict_found(alloc, Findings::of(alloc, log)?)?;
     let is_whole = match &told.explanation {
@@ -199,10 +199,10 @@ impl Call<Recording> for FindingConflict {
     }
 }
 
-/// Why a certificate is refused is told, and what was found in the log is given back.
+/// Computes the refusal of a certificate, and returns the findings of the log.
 pub(crate) struct FindingRefusal;
 
-/// Whether this is told of a log, and a certificate without steps.
+/// Whether the refusal of a certificate without steps and the findings of a log are as expected.
 fn is_refusal_found(alloc: Global, log: &Recording) -> Result<bool, AllocError> {
     let certificate = Certificate {
         steps: Vec::new(alloc),

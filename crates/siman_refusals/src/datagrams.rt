@@ -1,4 +1,4 @@
-//! Datagrams that are read, written, shown and copied.
+//! Calls that decode, encode, view and copy datagrams.
 
 use crate::call::{Call, Said, refused, usual};
 use crate::recordings::unmade;
@@ -12,13 +12,13 @@ pub(crate) const COMMENT: [u8; 48] = [
     1, 0, 0, 0, 5, 0, 0, 0, 40, 72, 69, 76, 76, 79, 0, 0, 0,
 ];
 
-/// A Comment with a variable datum of 12 bits, of which the last byte has unused bits that are set.
+/// A Comment with a variable datum of 12 bits, with unused bits set in the last byte.
 const TWELVE_BITS: [u8; 48] = [
     7, 1, 22, 5, 0, 0, 0, 0, 0, 48, 0, 0, 0, 1, 0, 1, 0, 0, 0, 2, 0, 3, 0, 0, 0, 0, 0, 0, 0, 0, 0,
     1, 0, 0, 0, 5, 0, 0, 0, 12, 171, 197, 0, 0, 0, 0, 0, 0,
 ];
 
-/// The PDU that a datagram spells, to be lent.
+/// The PDU of a datagram, as the input of a call.
 pub(crate) fn pdu_of(alloc: Global, datagram: &[u8]) -> io::Result<Pdu> {
     match decode(alloc, datagram) {
         Ok(pdu) => Ok(pdu),
@@ -26,7 +26,7 @@ pub(crate) fn pdu_of(alloc: Global, datagram: &[u8]) -> io::Result<Pdu> {
     }
 }
 
-/// Whether a PDU is a Comment with one variable datum of 5, of so many bits and these bytes.
+/// Whether a PDU is a Comment with exactly one variable datum, with identifier 5 and these bits.
 fn says(pdu: &Pdu, bits: u32, bytes: &[u8]) -> bool {
     let Body::Comment { datums } = &pdu.body else {
         return false;
@@ -37,7 +37,7 @@ fn says(pdu: &Pdu, bits: u32, bytes: &[u8]) -> bool {
     }
 }
 
-/// A datagram is read.
+/// Decodes a datagram.
 pub(crate) struct Decoding;
 
 impl Call<()> for Decoding {
@@ -49,7 +49,7 @@ impl Call<()> for Decoding {
     }
 }
 
-/// A PDU is written behind a byte.
+/// Encodes a PDU behind a byte.
 pub(crate) struct Encoding;
 
 /// The Comment, and a byte.
@@ -70,7 +70,7 @@ impl Call<(Pdu, Vec<u8>)> for Encoding {
     }
 }
 
-/// A datagram is shown in place, and a PDU is made of what is shown.
+/// Views a datagram in place, and makes a PDU of the view.
 pub(crate) struct Showing;
 
 impl Call<()> for Showing {
@@ -85,7 +85,7 @@ impl Call<()> for Showing {
     }
 }
 
-/// A PDU is copied.
+/// Copies a PDU.
 pub(crate) struct Copying;
 
 impl Call<Pdu> for Copying {

@@ -1,6 +1,7 @@
-//! Calls of the crates below the commands that take memory, each on what a worked example lends it;
-//! and a manager, an application and a station that are called 100,000 times. `siman_hostile` makes
-//! them, and those of the commands beside them.
+//! Calls of the library that take memory, each with the inputs of a worked example, and calls of a
+//! manager, an application and a station that are made 100,000 times; `siman_hostile` runs them. It
+//! never calls a command, opens a file or uses a socket. The layer above may use no contract of it,
+//! only the outcomes that [`put_library_calls`], [`put_halves`] and [`put_station`] print.
 #![tactic(auto)]
 
 mod call;
@@ -32,7 +33,7 @@ use std::alloc::Global;
 use std::io;
 use std::io::Write;
 
-/// The calls, in their order.
+/// Names of the calls, in order.
 static CALLS: [&str; 31] = [
     "decode",
     "encode",
@@ -67,7 +68,7 @@ static CALLS: [&str; 31] = [
     "nudge",
 ];
 
-/// What is told of each of these calls.
+/// Outcome of each call, in the order of [`CALLS`].
 fn calls_told(alloc: Global) -> [&'static str; 31] {
     [
         told_of::<Decoding, _>(alloc, Ok(())),
@@ -104,7 +105,7 @@ fn calls_told(alloc: Global) -> [&'static str; 31] {
     ]
 }
 
-/// Makes each of these calls, and prints what is told of it.
+/// Makes each call, and prints its outcome.
 pub fn put_library_calls<W: Write>(alloc: Global, out: &mut W) -> io::Result<()> {
     let told = calls_told(alloc);
     for place in 0..31 {

@@ -12,10 +12,10 @@ use std::alloc::Global;
 use std::io::Write;
 use std::{io, slice};
 
-/// How often each is called.
+/// Number of calls of each.
 const MOST: u32 = 100_000;
 
-/// How many orders a manager makes before one is refused.
+/// Number of orders that a manager makes before one is refused.
 fn orders(manager: &mut Manager) -> u32 {
     for number in 0..MOST {
         if ordered(manager).is_err() {
@@ -25,12 +25,12 @@ fn orders(manager: &mut Manager) -> u32 {
     MOST
 }
 
-/// Whether an application takes and answers a creation under an identifier.
+/// Whether an application takes and answers a creation with this identifier.
 fn is_answered(application: &mut Application, id: u32) -> bool {
     matches!(application.take(&creation_under(id), 0), Ok(Some(_)))
 }
 
-/// How many requests an application takes and answers before one is refused.
+/// Number of requests that an application takes and answers before one is refused.
 fn requests(application: &mut Application) -> u32 {
     for id in 0..MOST {
         if !is_answered(application, id) {
@@ -40,7 +40,7 @@ fn requests(application: &mut Application) -> u32 {
     MOST
 }
 
-// What is alive where a call may refuse is dear to prove, so machines are made apart.
+// Values that are alive where a call may refuse are expensive to prove, so machines are made apart.
 fn order_count(alloc: Global) -> io::Result<u32> {
     Ok(orders(&mut manager(alloc)?))
 }
@@ -49,13 +49,13 @@ fn request_count(alloc: Global) -> io::Result<u32> {
     Ok(requests(&mut application(alloc)?))
 }
 
-/// Calls a manager and an application, and prints how far they came.
+/// Calls a manager and an application, and prints how many calls succeeded.
 pub fn put_halves<W: Write>(alloc: Global, out: &mut W) -> io::Result<()> {
     let (orders, requests) = (order_count(alloc)?, request_count(alloc)?);
     writeln!(out, "orders: {orders}\nrequests: {requests}")
 }
 
-/// How often a station does something before nothing comes of it.
+/// Number of times that a station does something before it fails or does nothing.
 fn times<W: Write>(
     alloc: Global,
     line: &mut MemoryLine,
@@ -72,8 +72,8 @@ fn times<W: Write>(
     MOST
 }
 
-/// How many datagrams a station answers in one call, how many orders it issues before one is refused,
-/// and how often it finds an order that is due; and how many datagrams are on the line then.
+/// Number of datagrams that a station answers in one call, of orders that it issues before one is
+/// refused, and of repeats that it sends; and number of datagrams on the link after that.
 type Counts = (u32, u32, u32, usize);
 
 fn counts(alloc: Global, recorded: &mut RecordedStation) -> io::Result<Counts> {
@@ -101,7 +101,7 @@ fn station_counts(alloc: Global) -> io::Result<Counts> {
     counts(alloc, &mut RecordedStation::begin(alloc, 2, 3, coming)?)
 }
 
-/// Calls a station at its line, and prints how far it came.
+/// Calls a station at its link, and prints how many calls succeeded.
 pub fn put_station<W: Write>(alloc: Global, out: &mut W) -> io::Result<()> {
     let (served, issued, nudged, sent) = station_counts(alloc)?;
     writeln!(

@@ -1,4 +1,4 @@
-//! Applications and managers.
+//! Calls of applications and managers.
 
 ghost use Rattle.std.specs.Prelude.{IsTrue};
 ghost use Rattle.siman_pdus.specs.Role.{is_request_body};
@@ -20,7 +20,7 @@ const FIXED_QUERY: [u8; 52] = [
     0, 0, 0, 0, 3, 0, 0, 0, 0, 0, 0, 0, 11, 0, 0, 0, 12, 0, 0, 0, 10,
 ];
 
-/// The values of 11 and 10.
+/// The answer with the values of 11 and 10.
 const FIXED_ANSWER: [u8; 56] = [
     7, 1, 20, 5, 0, 0, 0, 0, 0, 56, 0, 0, 0, 2, 0, 3, 0, 0, 0, 1, 0, 1, 0, 0, 0, 0, 0, 1, 0, 0, 0,
     0, 0, 0, 0, 2, 0, 0, 0, 0, 0, 0, 0, 11, 0, 0, 0, 6, 0, 0, 0, 10, 0, 0, 0, 5,
@@ -32,7 +32,7 @@ const VARIABLE_QUERY: [u8; 48] = [
     0, 0, 0, 0, 0, 0, 0, 0, 2, 0, 0, 0, 5, 0, 0, 0, 6,
 ];
 
-/// The value of 5.
+/// The answer with the value of 5.
 const VARIABLE_ANSWER: [u8; 56] = [
     7, 1, 20, 5, 0, 0, 0, 0, 0, 56, 0, 0, 0, 2, 0, 3, 0, 0, 0, 1, 0, 1, 0, 0, 0, 0, 0, 1, 0, 0, 0,
     0, 0, 0, 0, 0, 0, 0, 0, 1, 0, 0, 0, 5, 0, 0, 0, 40, 72, 69, 76, 76, 79, 0, 0, 0,
@@ -47,13 +47,13 @@ pub(crate) const VARIABLE: Exchange = (&VARIABLE_QUERY, &VARIABLE_ANSWER);
 
 pub(crate) const CREATION: Exchange = (&CREATE, &ABLE);
 
-/// The fixed datums that the application holds.
+/// Fixed datums of the application.
 const DATUMS: [FixedDatum; 2] = [
     FixedDatum { id: 10, value: 5 },
     FixedDatum { id: 11, value: 6 },
 ];
 
-/// The variable datum that the application holds.
+/// Variable datums of the application.
 fn variable(alloc: Global) -> io::Result<Vec<VariableDatum>> {
     let bytes = Vec::from_slice(alloc, b"HELLO")?;
     let Ok(datum) = VariableDatum::new(5, 40, bytes) else {
@@ -73,13 +73,13 @@ pub(crate) fn application(alloc: Global) -> io::Result<Application> {
     }
 }
 
-/// Whether an application is as it began.
+/// Whether an application is as it was begun.
 fn is_begun(application: &Application) -> bool {
     let datums = application.datum(10) == Some(5) && application.variable(5).is_some();
     datums && application.state(7) == EntityState::Absent
 }
 
-/// An application begins.
+/// Begins an application.
 pub(crate) struct Beginning;
 
 impl Call<Station> for Beginning {
@@ -91,10 +91,10 @@ impl Call<Station> for Beginning {
     }
 }
 
-/// An application takes a request.
+/// Makes an application take a request.
 pub(crate) struct Taking;
 
-/// An application, a request to it, and the answer that it should give.
+/// An application, a request to it, and the expected answer.
 #[derive(Drop)]
 pub(crate) struct Asked {
     application: Application,
@@ -102,10 +102,10 @@ pub(crate) struct Asked {
     answer: Pdu,
 }
 
-/// An application at 2:3, and a request to it with its answer.
+/// An application at 2:3, a request to it, and the answer.
 pub(crate) fn to_take(alloc: Global, exchange: Exchange) -> io::Result<Asked> {
     let (request, answer) = exchange;
-    // The application last: what is alive where a call may refuse is dear to prove.
+    // The application last: values that are alive where a call may refuse are expensive to prove.
     let (request, answer) = (pdu_of(alloc, request)?, pdu_of(alloc, answer)?);
     Ok(Asked {
         application: application(alloc)?,
@@ -132,7 +132,7 @@ pub(crate) fn manager(alloc: Global) -> io::Result<Manager> {
     }
 }
 
-/// A Create Entity of 1:1 for 2:3:7, under an identifier.
+/// A Create Entity of 1:1 for 2:3:7, with this request identifier.
 pub(crate) fn creation_under(request: u32) -> Pdu {
     Pdu {
         version: Version::V7,
@@ -149,7 +149,7 @@ pub(crate) fn creation_under(request: u32) -> Pdu {
     }
 }
 
-/// What is created: 2:3:7.
+/// The entity that is created: 2:3:7.
 const ENTITY: EntityId = EntityId {
     site: 2,
     application: 3,
@@ -166,13 +166,13 @@ pub(crate) fn creation() -> Order
     }
 }
 
-/// The identifier under which a creation is ordered.
+/// Orders a creation, and returns its request identifier.
 pub(crate) fn ordered(manager: &mut Manager) -> Result<u32, OrderFault> {
     let (id, _) = manager.request(creation(), 0, 0)?;
     Ok(id)
 }
 
-/// A manager makes an order.
+/// Makes a manager order a creation.
 pub(crate) struct Ordering;
 
 impl Call<Manager> for Ordering {

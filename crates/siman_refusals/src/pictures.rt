@@ -1,4 +1,4 @@
-//! Recordings that are drawn.
+//! The call that draws a recording.
 
 use crate::call::{Call, Said, refused, usual};
 use crate::recordings::FOUND;
@@ -9,7 +9,7 @@ use exercise_review::Register;
 use siman_pictures::draw;
 use std::alloc::Global;
 
-/// A creation is drawn, the log of whose application stands first.
+/// Draws a creation; the log of its application is first.
 pub(crate) struct Drawing;
 
 /// Whether a picture has the arrow of the answer, and an end.

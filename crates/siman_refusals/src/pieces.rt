@@ -1,4 +1,4 @@
-//! Pieces of a recording that are brought together.
+//! Calls that join pieces of a recording.
 
 use crate::call::{Call, Said, refused, usual};
 use crate::recordings::{APART, is_carried, room, unmade};
@@ -7,7 +7,7 @@ use exercise_recording::{FormWord, JoinFault, Joined, Joining, Joint, join};
 use std::alloc::Global;
 use std::io;
 
-/// The log of 1:1 in the creation, alone.
+/// The log of 1:1 for the creation, alone.
 const MANAGER: [u8; 108] = [
     68, 83, 82, 67, 48, 48, 48, 49, 1, 0, 1, 0, 1, 0, 1, 0, 0, 1, 0, 0, 0, 0, 0, 0, 0, 0, 0, 0, 0,
     28, 7, 1, 11, 5, 0, 0, 0, 0, 0, 28, 0, 0, 0, 1, 0, 1, 0, 0, 0, 2, 0, 3, 0, 7, 0, 0, 0, 1, 2, 0,
@@ -15,7 +15,7 @@ const MANAGER: [u8; 108] = [
     0, 1, 0, 0, 0, 1, 0, 1, 0, 0, 0, 1, 0, 0, 0, 0, 2,
 ];
 
-/// The log of 2:3, alone.
+/// The log of 2:3 for the creation, alone.
 const SIMULATOR: [u8; 108] = [
     68, 83, 82, 67, 48, 48, 48, 49, 1, 0, 1, 0, 2, 0, 3, 0, 0, 2, 0, 0, 0, 0, 0, 0, 0, 0, 0, 0, 0,
     28, 7, 1, 11, 5, 0, 0, 0, 0, 0, 28, 0, 0, 0, 1, 0, 1, 0, 0, 0, 2, 0, 3, 0, 7, 0, 0, 0, 1, 1, 0,
@@ -23,7 +23,7 @@ const SIMULATOR: [u8; 108] = [
     0, 1, 0, 0, 0, 1, 0, 1, 0, 0, 0, 1, 0, 0, 0, 0, 2,
 ];
 
-/// What is told of the two.
+/// The result of joining the two.
 const TOLD: Joined = Joined {
     pieces: 2,
     stations: 2,
@@ -31,15 +31,15 @@ const TOLD: Joined = Joined {
     form: Form::Closed,
 };
 
-/// Whether a file is that of both logs in the second format, closed, that of 2:3 first.
+/// Whether a file has both logs in the second format, closed, with that of 2:3 first.
 fn is_joined(file: &[u8]) -> bool {
     is_carried(file, &APART)
 }
 
-/// Both logs are read, brought together and written where there is room.
+/// Reads both logs, joins them, and writes the recording.
 pub(crate) struct Bringing;
 
-/// The readers of both.
+/// Readers of both logs.
 fn readers(alloc: Global) -> io::Result<Vec<&'static [u8]>> {
     let mut readers: Vec<&'static [u8]> = Vec::with_capacity(alloc, 2)?;
     readers.push(&SIMULATOR)?;
@@ -59,10 +59,10 @@ impl Call<Vec<u8>> for Bringing {
     }
 }
 
-/// A log is taken behind another.
+/// Adds a second log to a joining.
 pub(crate) struct Adding;
 
-/// A joining that has the log of 2:3.
+/// A joining with the log of 2:3.
 pub(crate) fn to_add(alloc: Global) -> io::Result<Joining> {
     let mut joining = Joining::start(alloc, FormWord::Unsaid);
     match joining.add(alloc, SIMULATOR.as_slice(), 1000) {
@@ -80,10 +80,10 @@ impl Call<Joining> for Adding {
     }
 }
 
-/// Both logs, taken, are brought together.
+/// Adds both logs, and ends the joining.
 pub(crate) struct Ending;
 
-/// Whether what was brought together is written as it is to be.
+/// Whether the joined recording is written as expected; true if there was no memory to write it.
 fn is_written(alloc: Global, joint: &Joint) -> bool {
     match room(alloc) {
         Ok(mut out) => joint.write(&mut out).is_ok() && is_joined(&out),

@@ -1,4 +1,4 @@
-//! Recordings and certificates that are read, carried over and judged.
+//! Calls that read, convert, check and search recordings and certificates.
 
 use crate::call::{Call, Said, refused, usual};
 use dis_records::{Address, EntityState};
@@ -14,7 +14,7 @@ use std::alloc::{AllocError, Global};
 use std::io;
 use std::io::ErrorKind;
 
-/// A Create Entity of 1:1 for 2:3:7, under 1.
+/// A Create Entity of 1:1 for 2:3:7, with request identifier 1.
 pub(crate) const CREATE: [u8; 28] = [
     7, 1, 11, 5, 0, 0, 0, 0, 0, 28, 0, 0, 0, 1, 0, 1, 0, 0, 0, 2, 0, 3, 0, 7, 0, 0, 0, 1,
 ];
@@ -25,7 +25,7 @@ pub(crate) const ABLE: [u8; 32] = [
     1,
 ];
 
-/// The file of the recording of that creation, at 1:1 and 2:3, in the order in which it happened.
+/// The file of a recording of that creation, at 1:1 and 2:3, with the entries in order of time.
 pub const RECORDING: [u8; 200] = [
     68, 83, 82, 67, 48, 48, 48, 49, 1, 0, 2, 0, 1, 0, 1, 0, 0, 0, 2, 0, 3, 0, 0, 1, 0, 0, 0, 0, 0,
     0, 0, 0, 0, 0, 0, 28, 7, 1, 11, 5, 0, 0, 0, 0, 0, 28, 0, 0, 0, 1, 0, 1, 0, 0, 0, 2, 0, 3, 0, 7,
@@ -36,7 +36,7 @@ pub const RECORDING: [u8; 200] = [
     1, 0, 0, 0, 1, 0, 1, 0, 0, 0, 1, 0, 0, 0, 0, 4,
 ];
 
-/// The same with the log of 2:3 first.
+/// A recording with those entries in which the log of 2:3 is first.
 pub(crate) const APART: [u8; 200] = [
     68, 83, 82, 67, 48, 48, 48, 49, 1, 0, 2, 0, 1, 0, 1, 0, 0, 0, 2, 0, 3, 0, 0, 2, 0, 1, 0, 0, 0,
     0, 0, 0, 0, 0, 0, 28, 7, 1, 11, 5, 0, 0, 0, 0, 0, 28, 0, 0, 0, 1, 0, 1, 0, 0, 0, 2, 0, 3, 0, 7,
@@ -47,13 +47,13 @@ pub(crate) const APART: [u8; 200] = [
     1, 0, 0, 0, 1, 0, 1, 0, 0, 0, 1, 0, 0, 0, 0, 4,
 ];
 
-/// The certificate of what stands in the order of [`FOUND`].
+/// The certificate of the sequence [`FOUND`].
 const STEPS: [u8; 44] = [
     68, 83, 67, 84, 48, 48, 48, 49, 0, 0, 0, 4, 0, 0, 0, 2, 255, 255, 255, 255, 0, 0, 0, 0, 0, 0,
     0, 2, 0, 0, 0, 1, 0, 0, 0, 0, 0, 0, 0, 3, 0, 0, 0, 1,
 ];
 
-/// The only order of [`APART`].
+/// The only sequence that explains [`APART`].
 pub(crate) const FOUND: [Step; 4] = [
     Step {
         place: 2,
@@ -64,7 +64,7 @@ pub(crate) const FOUND: [Step; 4] = [
     Step { place: 3, link: 1 },
 ];
 
-/// The order of [`RECORDING`].
+/// The only sequence that explains [`RECORDING`].
 const TAKEN: [Step; 4] = [
     Step {
         place: 0,
@@ -75,7 +75,7 @@ const TAKEN: [Step; 4] = [
     Step { place: 3, link: 2 },
 ];
 
-/// What can't be lent.
+/// The error of an input that could not be made.
 pub fn unmade() -> io::Error {
     io::Error::from(ErrorKind::Other)
 }
@@ -91,12 +91,12 @@ pub fn station(alloc: Global, site: u16, application: u16) -> io::Result<Station
     }
 }
 
-/// Room for what is written.
+/// Room for 1,024 bytes of output.
 pub fn room(alloc: Global) -> io::Result<Vec<u8>> {
     Ok(Vec::with_capacity(alloc, 1024)?)
 }
 
-/// The recording of a file, to be lent.
+/// The recording of a file, as the input of a call.
 pub(crate) fn recording_of(alloc: Global, file: &[u8]) -> io::Result<Recording> {
     match read_recording(alloc, file, 1000) {
         Ok(log) => Ok(log),
@@ -104,7 +104,7 @@ pub(crate) fn recording_of(alloc: Global, file: &[u8]) -> io::Result<Recording> 
     }
 }
 
-/// Whether a log is that of a creation.
+/// Whether a log is that of the creation in [`RECORDING`].
 fn is_creation<L: ExerciseLog>(log: &L) -> bool {
     let sent = EntryView::Sent {
         station: 1,
@@ -114,7 +114,7 @@ fn is_creation<L: ExerciseLog>(log: &L) -> bool {
     log.entry_count() == 4 && log.entry(2) == sent
 }
 
-/// A recording is read.
+/// Reads a recording.
 pub(crate) struct Reading;
 
 impl Call<()> for Reading {
@@ -126,7 +126,7 @@ impl Call<()> for Reading {
     }
 }
 
-/// A recording is seen in place.
+/// Views a recording in place.
 pub(crate) struct Seeing;
 
 impl Call<()> for Seeing {
@@ -138,7 +138,7 @@ impl Call<()> for Seeing {
     }
 }
 
-/// An entry more is kept.
+/// Pushes an entry.
 pub(crate) struct Pushing;
 
 impl Call<Recording> for Pushing {
@@ -155,7 +155,7 @@ impl Call<Recording> for Pushing {
     }
 }
 
-/// A certificate is judged.
+/// Checks a certificate.
 pub(crate) struct Checking;
 
 /// The recording of a creation, and its certificate.
@@ -164,7 +164,7 @@ pub(crate) fn to_check(alloc: Global) -> io::Result<(Recording, Certificate)> {
     Ok((recording_of(alloc, &RECORDING)?, Certificate { steps }))
 }
 
-/// Whether a yes holds what a creation says.
+/// Whether a yes has the states, links and counts of the creation.
 fn is_created(checked: &Checked) -> bool {
     let states = checked.states(1) == [(7, EntityState::Stopped)].as_slice();
     let entries = checked.pair(2) == Some(1) && checked.cause(3) == Some(2);
@@ -181,7 +181,7 @@ impl Call<(Recording, Certificate)> for Checking {
     }
 }
 
-/// An order is searched for.
+/// Searches for a sequence.
 pub(crate) struct Searching;
 
 impl Call<Recording> for Searching {
@@ -194,10 +194,10 @@ impl Call<Recording> for Searching {
     }
 }
 
-/// It is asked whether some order explains a recording.
+/// Decides whether a sequence explains a recording.
 pub(crate) struct Explaining;
 
-/// Whether some order explains a log.
+/// Whether a sequence explains a log.
 fn is_explained(alloc: Global, log: &Recording) -> Result<bool, AllocError> {
     let Explanation { is_explained, .. } = explanation_of(alloc, Findings::of(alloc, log)?)?;
     Ok(is_explained)
@@ -212,7 +212,7 @@ impl Call<Recording> for Explaining {
     }
 }
 
-/// A certificate is read.
+/// Reads a certificate.
 pub(crate) struct ReadingSteps;
 
 impl Call<()> for ReadingSteps {
@@ -221,7 +221,7 @@ impl Call<()> for ReadingSteps {
     }
 }
 
-/// All that a reader has of a certificate is read, and then the certificate.
+/// Fetches all bytes of a reader, and reads a certificate from them.
 pub(crate) struct FetchingSteps;
 
 impl Call<()> for FetchingSteps {
@@ -230,7 +230,7 @@ impl Call<()> for FetchingSteps {
     }
 }
 
-/// What came of reading the certificate.
+/// Outcome of reading the certificate.
 fn steps_said(read: Result<Certificate, CertificateFault>) -> Said {
     match read {
         Ok(read) => usual(read.steps.as_slice() == FOUND.as_slice()),
@@ -238,10 +238,11 @@ fn steps_said(read: Result<Certificate, CertificateFault>) -> Said {
     }
 }
 
-/// A recording is carried over to the second format, and written where there is room.
+/// Converts a recording to the second format, and writes it.
 pub(crate) struct Carrying;
 
-/// Whether a file is that of a recording of the first format in the second one, closed.
+/// Whether a file is that of this recording of the first format, converted to the second one,
+/// closed.
 pub(crate) fn is_carried(file: &[u8], recording: &[u8]) -> bool {
     match file.strip_prefix(b"DSRC0002\x01\x00") {
         Some(rest) => recording.strip_prefix(b"DSRC0001\x01") == Some(rest),

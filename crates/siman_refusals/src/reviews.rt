@@ -1,4 +1,4 @@
-//! Recordings that are reviewed.
+//! Calls that review recordings.
 
 use crate::call::{Call, Said, refused, usual};
 use dis_records::EntityState;
@@ -7,11 +7,11 @@ use exercise_model::{ExerciseLog, Recording};
 use exercise_review::{Fate, Review, ReviewFault, Reviewed, review_of};
 use std::alloc::{AllocError, Global};
 
-/// A creation is reviewed, the log of whose application stands first.
+/// Reviews a creation; the log of its application is first.
 pub(crate) struct Reviewing;
 
-/// Whether a review is that of the creation: the one order is done at 2:3, and its entity is stopped
-/// from its answer on.
+/// Whether a review is that of the creation: its only order is done at 2:3, and its entity is
+/// stopped from the answer on.
 fn is_of_creation(review: &Review) -> bool {
     let (told, spans) = (review.told.as_slice(), review.spans.as_slice());
     let done = told.len() == 1 && told[0].head == 2 && told[0].outcome.fate == Fate::Done;
@@ -20,7 +20,7 @@ fn is_of_creation(review: &Review) -> bool {
     review.orders == 1 && review.others == 0 && review.stations.len() == 2 && done && stopped
 }
 
-/// What a review of a log says.
+/// The review of a log.
 fn reviewed(alloc: Global, log: &Recording) -> Result<Review, ReviewFault> {
     review_of(alloc, Findings::of(alloc, log)?)
 }
@@ -34,10 +34,11 @@ impl Call<Recording> for Reviewing {
     }
 }
 
-/// The same creation is reviewed, and told one line after the other.
+/// Reviews a creation, for a reader that asks for one row after the other.
 pub(crate) struct Telling;
 
-/// Whether what is told is the creation: the one order, done at 2:3, and the stretch of its entity.
+/// Whether the review is that of the creation: its only order is done at 2:3, and its entity has
+/// one span, stopped.
 fn tells_creation(reviewed: &Reviewed<'_, Recording>) -> bool {
     if reviewed.told_count() != 1 || reviewed.span_count() != 1 || reviewed.order_count() != 1 {
         return false;
@@ -48,7 +49,7 @@ fn tells_creation(reviewed: &Reviewed<'_, Recording>) -> bool {
     reviewed.others() == 0 && reviewed.stations().len() == 2 && done && stopped
 }
 
-/// The review of a log, told so.
+/// The review of a log, for such a reader.
 fn told(alloc: Global, log: &Recording) -> Result<Reviewed<'_, Recording>, ReviewFault> {
     Reviewed::of(alloc, Findings::of(alloc, log)?)
 }
@@ -62,10 +63,10 @@ impl Call<Recording> for Telling {
     }
 }
 
-/// A number is put into a column that has none.
+/// Sets a number in an empty column.
 pub(crate) struct Putting;
 
-/// A column of three numbers, of which the second is 7 and the others are 9.
+/// A column of three numbers: the second is 7, the others are 9.
 fn column(alloc: Global) -> Result<Vec<u32>, AllocError> {
     let mut column = Vec::new(alloc);
     put_number(&mut column, 9, 3, 1, 7)?;

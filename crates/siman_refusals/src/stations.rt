@@ -1,4 +1,4 @@
-//! Stations that serve, issue and nudge at a line over memory.
+//! Calls of stations that serve, issue and nudge at a link in memory.
 
 use crate::call::{Call, Said, refused, usual};
 use crate::machines::{creation, ordered};
@@ -15,24 +15,24 @@ use std::alloc::Global;
 use std::io::Write;
 use std::{io, slice};
 
-/// What a station is called for.
+/// An action of a station.
 #[derive(Clone, Copy)]
 pub(crate) enum Deed {
-    /// To serve its line for so many turns.
+    /// Serves its link for this many turns.
     Serve(u32),
-    /// To issue a creation.
+    /// Issues a creation.
     Issue,
-    /// To send the repeat that is due at a time.
+    /// Sends the repeat that is due at this time.
     Nudge(u64),
 }
 
-/// What came of it.
+/// Result of an action.
 #[derive(Drop)]
 pub(crate) enum Came {
-    /// It was done: how many datagrams were taken and answered, under which identifier the order
-    /// was issued, how many repeats were sent.
+    /// Success, with the number of datagrams taken and answered, the identifier of the order
+    /// issued, or the number of repeats sent.
     Done(u32),
-    /// Memory was refused to the order.
+    /// Memory ran out before the order was made.
     Unmade,
     Memory,
     Send,
@@ -48,7 +48,7 @@ fn came_of(fault: IssueFault) -> Came {
     }
 }
 
-/// Has a station do something at its line.
+/// Makes a station carry out an action at its link.
 pub(crate) fn carry_out<W: Write>(
     alloc: Global,
     line: &mut MemoryLine,
@@ -81,18 +81,18 @@ pub(crate) fn carry_out<W: Write>(
     }
 }
 
-/// A station at a line, and the text of its recording.
+/// A station at a link, and the text of its recording.
 #[derive(Drop)]
 pub(crate) struct RecordedStation {
     pub(crate) station: Station,
     pub(crate) node: Node,
     pub(crate) line: MemoryLine,
     pub(crate) text: Vec<u8>,
-    /// The identifier of the next order, or the number of the next sending of the first.
+    /// The identifier of the next order, or the number of the next sending of the first order.
     next: u8,
 }
 
-/// So many creations as datagrams, under identifiers from `first` on, by steps.
+/// Datagrams of `count` creations, with identifiers from `first` on, `step` apart.
 pub(crate) fn creations(
     alloc: Global,
     count: u32,
@@ -110,8 +110,8 @@ pub(crate) fn creations(
 }
 
 impl RecordedStation {
-    /// A station without entities and datums to whose line these come, and whose manager has made no
-    /// order; there is room for a small recording.
+    /// A station without entities and datums, on whose link these datagrams arrive. Its manager has
+    /// made no order, and `text` has room for a small recording.
     pub(crate) fn begin(
         alloc: Global,
         site: u16,
@@ -135,7 +135,7 @@ impl RecordedStation {
         }
     }
 
-    /// Has it do something, with a recording of that alone.
+    /// Carries out an action, and records it alone.
     fn record(&mut self, alloc: Global, deed: Deed) -> Came {
         self.text.clear();
         match RecordingWriter::start(&mut self.text, 1, slice::from_ref(&self.station)) {
@@ -146,12 +146,12 @@ impl RecordedStation {
         }
     }
 
-    /// Whether nothing is on the line, and so many entries are written.
+    /// Whether nothing is on the link, and this many entries are written.
     fn is_silent(&self, entries: usize) -> bool {
         self.line.sent().is_empty() && entries_of(&self.text).count() == entries
     }
 
-    /// [`Said::Send`] where nothing is on the line, and so many entries are written.
+    /// [`Said::Send`] if nothing is on the link and this many entries are written.
     fn failed(&self, entries: usize) -> Said {
         if self.is_silent(entries) {
             Said::Send
@@ -160,7 +160,8 @@ impl RecordedStation {
         }
     }
 
-    /// Whether the last datagram on the line is this one, and its entry is written.
+    /// Whether the last datagram on the link is this one, and all datagrams there are recorded as
+    /// sent.
     fn has_sent(&self, datagram: &[u8]) -> bool {
         let is_recorded = entries_of(&self.text).have_all(0, self.line.sent());
         match self.line.sent().last() {
@@ -169,7 +170,7 @@ impl RecordedStation {
         }
     }
 
-    /// Whether the order of an identifier waits, and was sent so often; the next one follows.
+    /// Whether the order with this identifier waits after this many sends. Advances `next`.
     fn waits(&mut self, id: u8, sends: u8) -> bool {
         self.next = self.next.saturating_add(1);
         let status = self.node.manager.status(u32::from(id));
@@ -177,10 +178,10 @@ impl RecordedStation {
     }
 }
 
-/// A station serves one datagram.
+/// Serves one datagram.
 pub(crate) struct Serving;
 
-/// A station to which two copies of a creation come.
+/// A station with two copies of a creation on its link.
 pub(crate) fn to_serve(alloc: Global) -> io::Result<RecordedStation> {
     RecordedStation::begin(alloc, 2, 3, creations(alloc, 2, 1, 0)?)
 }
@@ -199,10 +200,10 @@ impl Call<RecordedStation> for Serving {
     }
 }
 
-/// A station issues an order.
+/// Issues an order.
 pub(crate) struct Issuing;
 
-/// A station to which nothing comes.
+/// A station with nothing on its link.
 pub(crate) fn to_issue(alloc: Global) -> io::Result<RecordedStation> {
     RecordedStation::begin(alloc, 1, 1, Vec::new(alloc))
 }
@@ -229,7 +230,7 @@ impl Call<RecordedStation> for Issuing {
     }
 }
 
-/// A station nudges an order that is due.
+/// Repeats an order that is due.
 pub(crate) struct Nudging;
 
 /// A station that has sent an order once.

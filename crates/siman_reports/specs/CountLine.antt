@@ -1,4 +1,4 @@
--- The line of a count.
+-- The row of a count.
 use Rattle.std.specs.Prelude.{ℕ, List, [], ◌∷◌}
 use Rattle.siman_texts.specs.Line.{Number, Keyed, Line, named_line}
 

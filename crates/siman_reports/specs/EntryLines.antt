@@ -1,4 +1,5 @@
--- The lines of a recording: its head, its stations with what they open with, and its entries (profile).
+-- The rows of a recording: its head, its stations with the entities that they begin with, and its
+-- entries (profile).
 use Rattle.std.specs.Prelude.{ℕ, List, [], ◌∷◌, ◌++◌, map, length, slice_get, codes, Option, Some, None}
 use Rattle.std.specs.Option.{option_map_or}
 use Rattle.dis_records.specs.declared.entity_state.EntityState.{EntityState}
@@ -17,7 +18,7 @@ use Rattle.siman_texts.specs.Spelled.{address_text, line_spelled, lines_spelled}
 use Rattle.siman_reports.specs.Head.{number_field, kind_field, head_fields}
 use Rattle.siman_reports.specs.Report.{texts_below}
 
--- what is said of the form: nothing of the first, and of the second format whether it is closed or open
+-- the form: nothing for the first format, closed or open for the second
 abbrev pub form_fields : Form → List Field
 form_fields First = []
 form_fields Closed = Keyed (codes "form") (Word (codes "closed")) ∷ []
@@ -26,7 +27,7 @@ form_fields Open = Keyed (codes "form") (Word (codes "open")) ∷ []
 abbrev pub count_fields : PlainRecording → List Field
 count_fields r = number_field (codes "stations") (length r.setting.stations) ∷ number_field (codes "records") (length r.entries) ∷ []
 
--- exercise=X stations=N records=N, and behind it what is said of the form
+-- exercise=X stations=N records=N, and the form
 abbrev pub counts_line : PlainRecording → Line
 counts_line r = opened_line (codes "recording") (number_field (codes "exercise") r.setting.exercise) (count_fields r ++ form_fields r.setting.form)
 
@@ -39,7 +40,7 @@ abbrev pub opening_line : ℕ → ℕ × EntityState → Line
 opening_line s opened =
     named_line (codes "opening") (Bare (codes "station") (Number s) ∷ Bare (codes "entity") (Number opened.0) ∷ Bare (codes "state") (Word (state_text opened.1)) ∷ [])
 
--- the line of a station, and one for each entity that it opens with
+-- the row of a station, and one for each entity that it begins with
 abbrev pub station_lines : ℕ → StationData → List Line
 station_lines s o = station_line s o ∷ map (opening_line s) o.opening
 
@@ -51,11 +52,11 @@ meant_fields b (Some pdu) = kind_field pdu ∷ head_fields pdu
 abbrev pub datagram_fields : ℕ → List ℕ → List Field
 datagram_fields x b = meant_fields b (meaning x b)
 
--- what was done at a station, and its stamp: sent INDEX stamp=N
+-- what happened at a station, and the stamp: sent INDEX stamp=N
 abbrev pub done_fields : List ℕ → ℕ → ℕ → List Field
 done_fields did s stamp = Bare (codes "did") (Word did) ∷ Bare (codes "station") (Number s) ∷ Called (codes "stamp") (codes "clock") (Clock stamp) ∷ []
 
--- what is told: told INDEX ENTITY STATE
+-- a state that a station told: told INDEX ENTITY STATE
 abbrev pub told_fields : ℕ → ℕ → EntityState → List Field
 told_fields s e y =
     Bare (codes "did") (Word (codes "told")) ∷ Bare (codes "station") (Number s) ∷ Bare (codes "entity") (Number e) ∷ Bare (codes "state") (Word (state_text y)) ∷ []
@@ -66,17 +67,18 @@ entry_fields x (Sent s stamp b) = done_fields (codes "sent") s stamp ++ datagram
 entry_fields x (Received s stamp b) = done_fields (codes "received") s stamp ++ datagram_fields x b
 entry_fields x (Told s e y) = told_fields s e y
 
--- the line of an entry, that begins with its number
+-- the row of an entry; in text it begins with the entry's number
 abbrev pub entry_line : ℕ → ℕ → Entry → Line
 entry_line x i entry = opened_line (codes "entry") (Bare (codes "entry") (Number i)) (entry_fields x entry)
 
--- what is shown of a station, and of an entry, by its number
+-- the text of a station, and of an entry, by its number
 abbrev pub station_shown : PlainRecording → ℕ → List ℕ
 station_shown r s = lines_spelled Text (station_lines s (station_at r s))
 
 abbrev pub entry_shown : PlainRecording → ℕ → List ℕ
 entry_shown r i = option_map_or (λ entry. line_spelled Text (entry_line r.setting.exercise i entry)) (slice_get r.entries i) []
 
--- THE TEXT OF A RECORDING: its head, its stations with what they open with, and its entries, both by rising numbers
+-- THE TEXT OF A RECORDING: its head, its stations with the entities that they begin with, and its
+-- entries, both in rising order
 abbrev pub show_text : PlainRecording → List ℕ
 show_text r = line_spelled Text (counts_line r) ++ texts_below (station_shown r) (length r.setting.stations) ++ texts_below (entry_shown r) (length r.entries)

@@ -23,7 +23,7 @@ identifier_field key id = Keyed key (Word (entity_text id))
 abbrev pub time_field : List ℕ → ClockTime → Field
 time_field key t = Keyed key (Word (clock_text t))
 
--- how many records there are, or identifiers
+-- the number of fixed and variable records, or identifiers
 abbrev pub counts : ℕ → ℕ → List Field
 counts fixed variable = number_field (codes "fixed") fixed ∷ number_field (codes "variable") variable ∷ []
 
@@ -53,7 +53,7 @@ header_fields pdu =
     number_field (codes "version") (version_code pdu.version) ∷ number_field (codes "exercise") pdu.exercise
     ∷ number_field (codes "stamp") pdu.stamp ∷ number_field (codes "status") pdu.status ∷ []
 
--- all that a PDU says but its kind and its records
+-- all fields of a PDU without its kind and its records
 abbrev pub head_fields : Pdu → List Field
 head_fields pdu =
     header_fields pdu ++ identifier_field (codes "from") pdu.origin ∷ identifier_field (codes "to") pdu.target ∷ body_fields pdu.body

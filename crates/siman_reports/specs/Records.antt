@@ -1,4 +1,4 @@
--- The lines of a PDU: its head, then a line for each record, or for each identifier that is asked for.
+-- The rows of a PDU: its head, then a row for each record, or for each requested identifier.
 use Rattle.std.specs.Prelude.{ℕ, List, [], ◌∷◌, ◌++◌, map, codes}
 use Rattle.hex.specs.Hex.{encode_lower}
 use Rattle.dis_records.specs.declared.datum.FixedDatum.{FixedDatum}
@@ -17,7 +17,7 @@ line_end = 10 ∷ []
 abbrev pub fixed_line : FixedDatum → Line
 fixed_line datum = named_line (codes "fixed") (Bare (codes "id") (Number datum.id) ∷ Bare (codes "value") (Number datum.value) ∷ [])
 
--- the bytes of a value in hex, or none
+-- the bytes of a value in hex, or missing
 abbrev pub hex_value : List ℕ → Value
 hex_value [] = Missing
 hex_value (b ∷ bs) = Word (encode_lower (b ∷ bs))
@@ -27,7 +27,7 @@ abbrev pub variable_line : Datum → Line
 variable_line datum =
     named_line (codes "variable") (Bare (codes "id") (Number datum.id) ∷ Bare (codes "bits") (Number datum.bits) ∷ Bare (codes "hex") (hex_value datum.bytes) ∷ [])
 
--- an identifier that is asked for: fixed ID, and variable ID
+-- a requested identifier: fixed ID, and variable ID
 abbrev pub id_line : List ℕ → ℕ → Line
 id_line name id = named_line name (Bare (codes "id") (Number id) ∷ [])
 

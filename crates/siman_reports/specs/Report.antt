@@ -1,4 +1,5 @@
--- The report of `check`: what a recording says that a certificate explains, and the line that tells the first bad step.
+-- The report of `check` for a recording that a certificate explains, and the row of the first bad
+-- step.
 use Rattle.std.specs.Prelude.{ℕ, zero, suc, List, [], ◌∷◌, ◌++◌, length, codes, Option, Some, None}
 use Rattle.std.specs.List.{flat_map}
 use Rattle.dis_records.specs.Address.{Pair}
@@ -13,7 +14,7 @@ use Rattle.exercise_model.specs.Account.{pair_of, change_behind, others_of, enti
 use Rattle.siman_texts.specs.Line.{Number, Word, Bare, Keyed, Spelt, Line, named_line}
 use Rattle.siman_texts.specs.Spelled.{line_text}
 
--- the texts that a function gives for 0, 1 and so on below n, one after the other
+-- the texts of a function for 0, 1 and so on below n, one after the other
 unfoldable pub texts_below : (ℕ → List ℕ) → ℕ → List ℕ
 texts_below text zero = []
 texts_below text (suc n) = texts_below text n ++ text n
@@ -35,12 +36,13 @@ abbrev pub entity_line : Pair → ℕ × EntityState → Line
 entity_line address present =
     named_line (codes "entity") (Bare (codes "entity") (Word (entity_text (entity_of address present.0))) ∷ Bare (codes "state") (Word (state_text present.1)) ∷ [])
 
--- the text of the line of an entry with the entry that belongs to it, or nothing where there is none
+-- the row of an entry with another that belongs to it, or nothing
 abbrev pub line_with : (ℕ → ℕ → Line) → ℕ → Option ℕ → List ℕ
 line_with line entry None = []
 line_with line entry (Some other) = line_text (line entry other)
 
--- what is said of an entry that is an answer, of one that tells a change, and of a station's entities
+-- the rows of an entry that is an answer, of a received Able Acknowledge with a change behind it,
+-- and of a station's entities
 abbrev pub answer_at : PlainRecording → ℕ → List ℕ
 answer_at r i = line_with answer_line i (pair_of r i)
 
@@ -50,7 +52,7 @@ known_at r i = line_with known_line i (change_behind r i)
 abbrev pub entities_at : PlainRecording → ℕ → List ℕ
 entities_at r s = flat_map (λ present. line_text (entity_line (station_at r s).address present)) (entities_of r s)
 
--- such a line, by its name and the key of the other entry
+-- a row of two entries, by its name and the key of the other entry
 abbrev pub pair_line : (name key : List ℕ) → ℕ → ℕ → Line
 pair_line name key entry other = named_line name (Bare (codes "entry") (Number entry) ∷ Spelt key (Number other) ∷ [])
 
@@ -58,7 +60,9 @@ pair_line name key entry other = named_line name (Bare (codes "entry") (Number e
 abbrev pub yes_line : ℕ → ℕ → Line
 yes_line records others = named_line (codes "yes") (Keyed (codes "records") (Number records) ∷ Keyed (codes "others") (Number others) ∷ [])
 
--- THE REPORT: its head; by rising entry numbers the request of each answer; by rising entry numbers the change behind each entry that tells one; by station and by rising numbers the entities that are not Absent at the end
+-- THE REPORT: its first row; in rising order the request of each answer; in rising order the change
+-- behind each received Able Acknowledge; by station and in rising order the entities that are not
+-- Absent at the end
 abbrev pub report_text : PlainRecording → List ℕ
 report_text r =
     line_text (yes_line (length r.entries) (others_of r)) ++ texts_below (answer_at r) (length r.entries) ++ texts_below (known_at r) (length r.entries)

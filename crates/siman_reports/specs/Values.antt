@@ -1,4 +1,4 @@
--- Numbers that there may be.
+-- Numbers that may be missing.
 use Rattle.std.specs.Prelude.{ℕ, Option, Some, None}
 use Rattle.siman_texts.specs.Line.{Value, Number, Clock, Missing}
 

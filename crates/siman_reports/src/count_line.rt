@@ -1,4 +1,4 @@
-//! The line of a count.
+//! The row of a count.
 
 ghost use Rattle.std.specs.Prelude.{◌≡◌, IfOk, string_bytes};
 ghost use Rattle.siman_texts.specs.Spelled.{line_text};
@@ -7,7 +7,7 @@ ghost use Rattle.siman_reports.specs.CountLine.{counted};
 use siman_texts::{Field, Spelling, Value, put_named};
 use std::alloc::{AllocError, Global};
 
-/// The line of a word that tells how many there are, as `explained steps=16`.
+/// The row of a word and a count, such as `explained steps=16`.
 pub fn counted(alloc: Global, word: &str, key: &str, count: usize) -> Result<String, AllocError>
     ensures { IfOk result (λ line. string_bytes line ≡ line_text (counted word.now key.now count)) }
 {

@@ -1,4 +1,4 @@
-//! The first line of a recording: what it counts, and its form.
+//! The first row of a recording: its counts and its form.
 
 ghost use Rattle.std.specs.Prelude.{◌≡◌, ◌++◌, IfOk, OnOk, string_bytes};
 ghost use Rattle.siman_texts.specs.declared.spelling.Spelling.TheVariants.{Text};
@@ -9,7 +9,7 @@ use exercise_model::{ExerciseLog, Form};
 use siman_texts::{Field, Spelling, Value, put_end, put_fields, put_opening};
 use std::alloc::{AllocError, Global};
 
-/// The first line: the exercise, how many stations and entries there are, and the form.
+/// The first row: the exercise, the number of stations and entries, and the form.
 pub fn counts_line<L: ExerciseLog>(alloc: Global, log: &L) -> Result<String, AllocError>
     ensures { IfOk result (λ line. string_bytes line ≡ line_spelled Text (counts_line (L.recording log.now))) }
 {
@@ -26,8 +26,7 @@ pub fn counts_line<L: ExerciseLog>(alloc: Global, log: &L) -> Result<String, All
     Ok(line)
 }
 
-/// What the first line says of the form: nothing of the first, and of the second format whether it
-/// is closed or open.
+/// Writes the form: nothing for the first format, `form=closed` or `form=open` for the second.
 pub fn put_form(line: &mut String, spelling: Spelling, form: Form) -> Result<(), AllocError>
     ensures { OnOk result (string_bytes line.new ≡ string_bytes line.old ++ fields_spelled spelling (form_fields form)) }
 {

@@ -1,4 +1,4 @@
-//! Laws of the lines in JSON.
+//! Laws of the rows in JSON.
 
 ghost use Rattle.std.specs.Prelude.{◌≡◌, ℕ, true};
 ghost use Rattle.siman_pdus.specs.declared.pdu.Pdu.{Pdu};
@@ -7,7 +7,7 @@ ghost use Rattle.siman_texts.specs.Keys.{has_no_key_twice};
 ghost use Rattle.siman_reports.specs.Head.{head_line};
 ghost use Rattle.siman_reports.specs.EntryLines.{entry_line};
 
-/// Laws of the lines in JSON: the head of a PDU has no key twice, and neither has the line of an entry.
+/// Law of the rows in JSON: neither the head of a PDU nor the row of an entry has a key twice.
 pub fn keys_come_once()
     ensures heads { (pdu : Pdu) → has_no_key_twice (head_line pdu) ≡ true }
     ensures entries { (exercise index : ℕ) (entry : Entry) → has_no_key_twice (entry_line exercise index entry) ≡ true }

@@ -1,15 +1,17 @@
-//! The lines that commands print of a datagram, a recording and its report, in both spellings, as
-//! functions of what they tell.
+//! The rows that commands print for a datagram, a recording and its report, as functions of these,
+//! in both spellings.
 //!
-//! It opens no file, judges nothing and writes to no stream: a command above asks for the lines and
-//! puts them out. A PDU has [`pdu_lines`], and its head alone [`put_head`]; a recording
-//! [`counts_line`], [`put_station`] and [`put_entry`], or [`put_entry_text`] where a line is lent for
-//! many; what a certificate explains [`report_text`], and what it does not [`no_line`]. Each contract
-//! gives the text to the byte, by the definitions of the pages `Head`, `Records`, `EntryLines` and
-//! `Report`. The law [`keys_come_once`] says that no line has a key twice. What is told of orders and
-//! of logs stands above, over lines that are made in place: what there may be is a field of one by
-//! [`add_entry_option`] and those like it. Why a datagram means nothing in an exercise is told by
-//! [`why_other`], which gives a reason exactly where it means nothing ([`others_have_reasons`]).
+//! It opens no file, judges nothing and writes to no stream: a command above asks for the rows and
+//! prints them. A caller may use the contracts, which give the text to the byte by the definitions
+//! of the pages `Head`, `Records`, `EntryLines` and `Report`: of [`pdu_lines`] for a PDU, and
+//! [`put_head`] for its head alone; of [`counts_line`], [`put_station`] and [`put_entry`] for a
+//! recording, or [`put_entry_text`], which reuses one line buffer; of [`report_text`] for a
+//! recording that a certificate explains, and [`no_line`] for one that it does not.
+//!
+//! [`add_entry_option`] and similar functions append a value that may be missing to a row in a line
+//! buffer, as the rows of reviews and logs need it. [`why_other`] gives the reason why a datagram
+//! means nothing in an exercise, exactly if it means nothing ([`others_have_reasons`]). The law
+//! [`keys_come_once`] says that no row has a key twice.
 #![tactic(auto)]
 
 mod count_line;

@@ -1,5 +1,5 @@
-//! What there may be, as a field of a line that is made in place, in either spelling: a key of up to 14
-//! bytes behind up to 900 bytes of a line.
+//! Values that may be missing, as fields of a row in a line buffer, in either spelling: a key of up
+//! to 14 bytes, after up to 900 bytes.
 
 ghost use Rattle.std.specs.Prelude.{◌≡◌, ◌+◌, ◌≤◌, ◌++◌, codes, length};
 ghost use Rattle.siman_texts.specs.Line.{Keyed};
@@ -8,7 +8,7 @@ ghost use Rattle.siman_reports.specs.Values.{number_value, clock_value};
 
 use siman_texts::{Spelling, TextLine, add_keyed, add_keyed_clock, add_keyed_missing};
 
-/// A number that there may be, under a key.
+/// Appends a number, or a missing value, with its key.
 #[inline(always)]
 pub fn add_number_option(
     line: &mut TextLine,
@@ -29,7 +29,7 @@ pub fn add_number_option(
     }
 }
 
-/// An entry that there may be, under a key.
+/// Appends an entry number, or a missing value, with its key.
 #[inline(always)]
 pub fn add_entry_option(
     line: &mut TextLine,
@@ -50,7 +50,7 @@ pub fn add_entry_option(
     }
 }
 
-/// What a clock has, if there is something, under a key.
+/// Appends a clock value, or a missing value, with its key.
 #[inline(always)]
 pub fn add_clock_option(
     line: &mut TextLine,

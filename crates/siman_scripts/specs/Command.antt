@@ -1,4 +1,4 @@
--- What a line of text asks of a station, in the forms of the moves of a script (profile).
+-- Commands that lines of text give to a station, in the forms of the moves of a script (profile).
 use Rattle.std.specs.Prelude.{ℕ, List, Option, Some, None}
 use Rattle.std.specs.Option.{option_and_then}
 use Rattle.dis_records.specs.Address.{Pair}
@@ -12,7 +12,7 @@ use Rattle.siman_scripts.specs.declared.statement.Statement.{Statement}
 use Rattle.siman_scripts.specs.declared.statement.Statement.TheVariants as says
 use Rattle.siman_scripts.specs.Statement.{statement_of}
 
--- what a move asks of its station: of a delivery nothing is asked, since the lines deliver
+-- the task of a move: none of a delivery, since the links deliver
 abbrev pub task_of : Act → Option Task
 task_of (acts.Command order) = Some (tasks.Order order)
 task_of (acts.Deliver place) = None
@@ -23,7 +23,7 @@ abbrev pub asked : Pair → Option Task → Option Command
 asked a None = None
 asked a (Some task) = Some (commands.Asks a task)
 
--- what a statement says to a station: nothing, what its clock shows, or what it is asked to do
+-- the command of a statement: nothing, a time of the clock, or a task
 abbrev pub command_said : Statement → Option Command
 command_said says.Nothing = Some commands.Nothing
 command_said (says.At now) = Some (commands.At now)
@@ -34,6 +34,6 @@ command_said (says.Opening a e y) = None
 command_said (says.Fixed a datum) = None
 command_said (says.Action a id) = None
 
--- WHAT A LINE SAYS TO A STATION, if it is passed over, or of the form of an `at` or of a move that is no `deliver`
+-- THE COMMAND OF A LINE, if it is ignored, or has the form of an `at` or of a move that is no `deliver`
 abbrev pub command_of : List ℕ → Option Command
 command_of line = option_and_then command_said (statement_of line)

@@ -1,4 +1,4 @@
--- What the lines of a script so far give, and what one more makes of it (profile).
+-- The draft of the lines of a script so far, and the effect of one more line on it (profile).
 use Rattle.std.specs.Prelude.{◌≡◌, ℕ, ◌-◌, Bool, true, false, ◌==◌, ◌&&◌, nat_lt, List, [], ◌∷◌, ◌++◌, length, position, slice_get, slice_set, Option, Some, None, Result, Ok, Err, if◌then◌else◌}
 use Rattle.std.specs.Option.{option_map, option_and_then}
 use Rattle.dis_records.specs.Address.{Pair}
@@ -16,7 +16,8 @@ use Rattle.siman_scripts.specs.declared.statement.Statement.{Statement}
 use Rattle.siman_scripts.specs.declared.statement.Statement.TheVariants as says
 use Rattle.siman_scripts.specs.Stations.{WorldStationData}
 
--- the part in which the next line may stand, or in a later one; the exercise, stations and moves so far; and what the clocks show
+-- the part to which the next line may belong, if not to a later one; the exercise, stations and moves so far; and
+-- the time of the clocks
 pub record DraftData : Type 0 where
   pub part : Part
   pub exercise : ℕ
@@ -28,7 +29,8 @@ pub record DraftData : Type 0 where
 abbrev pub blank : DraftData
 blank = record { part = parts.Exercise; exercise = 0; stations = []; moves = []; clock = 0 }
 
--- THE ORDER OF PARTS: the exercise line once and first; stations; what they open with, hold and know (their outfits); moves.
+-- THE ORDER OF PARTS: the exercise line once and first; stations; their outfits, which are the entities that they
+-- open with, their datums and actions; moves.
 
 abbrev pub wants_exercise : Part → Bool
 wants_exercise parts.Exercise = true
@@ -56,7 +58,7 @@ takes_moves parts.Moves = true
 
 -- Stations.
 
--- a station as its own line tells it: it opens with no entity, holds no datum, and knows no action
+-- a station as its own line describes it: it opens with no entity, holds no datum, and knows no action
 abbrev pub new_station : Pair → ManagerRules → WorldStationData
 new_station a rules = record {
   station = record { address = a; opening = [] };
@@ -67,23 +69,23 @@ new_station a rules = record {
   actions = [];
 }
 
--- the address of the last station, if there is one
+-- the address of the last station, if any
 abbrev pub last_address : List WorldStationData → Option Pair
 last_address ws = option_map (λ w. w.station.address) (slice_get ws (length ws - 1))
 
 abbrev pub is_at : Pair → WorldStationData → Bool
 is_at a w = (w.station.address.site == a.site) && (w.station.address.application == a.application)
 
--- the index of the station at an address, if there is one
+-- the index of the station at an address, if any
 abbrev pub index_of : Pair → List WorldStationData → Option ℕ
 index_of a ws = position (is_at a) ws
 
--- the number of the last entity, or this one where there is none
+-- the number of the last entity, or this one if there is none
 abbrev pub last_number : ℕ → List (ℕ × EntityState) → ℕ
 last_number n [] = n
 last_number n (x ∷ xs) = last_number x.0 xs
 
--- a station that opens with one more entity, if its number is above those before
+-- a station with one more entity that it opens with, if its number is above those before
 abbrev pub opened_with : ℕ → EntityState → WorldStationData → Option WorldStationData
 opened_with e y w =
     if is_opening (w.station.opening ++ (e, y) ∷ [])
@@ -110,16 +112,16 @@ abbrev pub with_outfit : DraftData → (WorldStationData → Option WorldStation
 with_outfit d change None = Err Unknown
 with_outfit d change (Some i) = with_changed d i (option_and_then change (slice_get d.stations i))
 
--- a move of the station that is named, if it is known
+-- a move of the station with this index, if it is known
 abbrev pub with_move : DraftData → Act → Option ℕ → Result DraftData LineFault
 with_move d act None = Err Unknown
 with_move d act (Some i) = Ok (record d { part = parts.Moves; moves = d.moves ++ record { now = d.clock; station = i; act = act } ∷ [] })
 
--- what a line that is in its part makes of it
+-- the effect of a line, if it is in its part
 abbrev pub in_part : Bool → Result DraftData LineFault → Result DraftData LineFault
 in_part test after = if test then after else Err Bad
 
--- WHAT A LINE THAT SAYS THIS MAKES OF THE LINES BEFORE IT, or why it is refused
+-- THE EFFECT OF A STATEMENT on the draft of the lines before it, or why it is refused
 abbrev pub after : DraftData → Statement → Result DraftData LineFault
 after d says.Nothing = Ok d
 after d (says.Exercise x) = in_part (wants_exercise d.part) (Ok (record d { part = parts.Stations; exercise = x }))
@@ -132,7 +134,7 @@ after d (says.Action a id) = in_part (takes_outfits d.part) (with_outfit d (λ w
 after d (says.At now) = in_part (takes_moves d.part) (Ok (record d { part = parts.Moves; clock = now }))
 after d (says.Does a act) = in_part (takes_moves d.part) (with_move d act (index_of a d.stations))
 
--- What a call leaves, or tells, where this is to come of it; of memory it says nothing.
+-- the fault of a call is that of this effect; lack of memory may happen with any
 abbrev pub Tells : LineFault → Result DraftData LineFault → Type 0
 Tells Bad wanted = wanted ≡ Err Bad
 Tells Unknown wanted = wanted ≡ Err Unknown
@@ -142,7 +144,7 @@ abbrev pub Leaves : {A : Type 0} → Result A LineFault → DraftData → Result
 Leaves (Ok x) new wanted = wanted ≡ Ok new
 Leaves (Err fault) new wanted = Tells fault wanted
 
--- The index of the station that a line names, where the line is in its part; or why the line is refused.
+-- the index of the station that a line names, if the line is in its part; or why the line is refused
 abbrev pub Finds : Bool → Option ℕ → Result ℕ LineFault → Type 0
 Finds takes index (Ok i) = (takes ≡ true) × (index ≡ Some i)
 Finds takes index (Err Bad) = takes ≡ false

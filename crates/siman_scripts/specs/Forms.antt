@@ -1,4 +1,4 @@
--- The forms of lines as a table: the name of each, and what stands at the places behind it (profile).
+-- The forms of lines as a table: the name of each, and what may follow at the places behind it (profile).
 use Rattle.std.specs.Prelude.{ℕ, Bool, nat_lt, nat_le, List, [], ◌∷◌, codes, find, slice_index_or, Option, Some, None, is_some, if◌then◌else◌}
 use Rattle.std.specs.Str.{bytes_eq}
 use Rattle.exercise_model.specs.Station.{is_entity}
@@ -63,14 +63,14 @@ abbrev pub all_forms : List Form
 all_forms =
     forms.Exercise ∷ forms.Station ∷ forms.At ∷ forms.Opening ∷ forms.Fixed ∷ forms.Action ∷ forms.Deliver ∷ forms.Tick ∷ forms.Tell ∷ forms.Do ∷ forms.Query ∷ forms.Set ∷ forms.Create ∷ forms.Remove ∷ forms.Start ∷ forms.Stop ∷ []
 
--- the form whose lines begin with this name, if there is one
+-- the form whose lines begin with this name, if any
 abbrev pub form_named : List ℕ → Option Form
 form_named name = find (λ form. bytes_eq name (form_name form)) all_forms
 
 abbrev pub bits_32 : Next
 bits_32 = Needed (kinds.Number 4294967295)
 
--- THE TABLE OF FORMS: what stands at the first four places behind the name
+-- THE TABLE OF FORMS: what may follow at the first four places behind the name
 abbrev pub row : Form → List Next
 row forms.Exercise = Needed (kinds.Number 255) ∷ End ∷ End ∷ End ∷ []
 row forms.Station = Needed kinds.Address ∷ Optional kinds.FirstId ∷ Needed kinds.Tries ∷ Needed kinds.Wait ∷ []
@@ -89,11 +89,11 @@ row forms.Remove = Needed kinds.Address ∷ Needed kinds.Receiver ∷ End ∷ En
 row forms.Start = Needed kinds.Address ∷ Needed kinds.Receiver ∷ End ∷ End ∷ []
 row forms.Stop = Needed kinds.Address ∷ Needed kinds.Receiver ∷ End ∷ End ∷ []
 
--- what stands at the places after the first four: a query may go on
+-- what may follow after the first four places: a query may go on
 abbrev pub beyond : Form → Next
 beyond forms.Query = Optional (kinds.Number 4294967295)
 beyond _ = End
 
--- what may stand at a place behind the name
+-- what may follow at a place behind the name
 abbrev pub next_word : Form → ℕ → Next
 next_word form place = if nat_lt place 4 then slice_index_or (row form) place End else beyond form

@@ -1,4 +1,4 @@
--- What a reason says of its line (profile).
+-- The meaning of a reason for its line (profile).
 use Rattle.std.specs.Prelude.{◌≡◌, ◌⊎◌, ℕ, ◌+◌, ◌-◌, ◌≤◌, true, false, List, length, drop, slice_get, Some, None}
 use Rattle.std.specs.Option.{option_map}
 use Rattle.siman_scripts.specs.declared.form.Form.{Form}
@@ -12,7 +12,7 @@ use Rattle.siman_scripts.specs.Forms.{fits, form_named, next_word}
 use Rattle.siman_scripts.specs.Nearest.{nearest}
 use Rattle.siman_scripts.specs.LineReason.{is_mark, is_comment}
 
--- this byte stands in this column
+-- this byte is in this column
 abbrev pub ByteAt : List ℕ → ℕ → ℕ → Type 0
 ByteAt line column b = slice_get line (column - 1) ≡ Some b
 
@@ -20,15 +20,15 @@ ByteAt line column b = slice_get line (column - 1) ≡ Some b
 abbrev pub Begins : List (ℕ × List ℕ) → Form → Type 0
 Begins words form = option_map (λ p. form_named p.1) (slice_get words 0) ≡ Some (Some form)
 
--- this word stands at a place behind the name of this form, in this column
+-- this word is at a place behind the name of this form, in this column
 abbrev pub StandsBehind : List (ℕ × List ℕ) → Form → ℕ → ℕ × List ℕ → Type 0
 StandsBehind words form place p = Begins words form × (slice_get words (place + 1) ≡ Some p)
 
--- a word of this kind may stand there
+-- a word of this kind may follow there
 abbrev pub Asks : Next → WordKind → Type 0
 Asks next kind = (next ≡ Needed kind) ⊎ (next ≡ Optional kind)
 
--- a reason, of a line with these words, says what is so
+-- a reason is true of a line with these words
 abbrev pub IsSo : List ℕ → List (ℕ × List ℕ) → ℕ → LineWhy → Type 0
 IsSo line words column whys.ByteOrderMark = is_mark (drop (column - 1) line) ≡ true
 IsSo line words column whys.NotAscii = (b : ℕ) × ByteAt line column b × (128 ≤ b)
@@ -44,6 +44,6 @@ IsSo line words column (whys.Missing form kind) = Begins words form × (column �
 IsSo line words column (whys.TooMany form) = (i : ℕ) × (w : List ℕ) × StandsBehind words form i (column, w) × (next_word form i ≡ End)
 IsSo line words column (whys.Wrong form kind) = (i : ℕ) × (w : List ℕ) × StandsBehind words form i (column, w) × (fits kind w ≡ false) × Asks (next_word form i) kind
 
--- WHAT A REASON SAYS OF ITS LINE IS SO
+-- THE REASON OF A LINE IS TRUE
 abbrev pub Holds : List ℕ → ℕ × LineWhy → Type 0
 Holds line reason = IsSo line (placed_words_of line) reason.0 reason.1

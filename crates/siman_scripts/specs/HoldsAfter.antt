@@ -1,4 +1,4 @@
--- What a reason says of the lines before its line (profile).
+-- The meaning of a reason for the lines before its line (profile).
 use Rattle.std.specs.Prelude.{◌≡◌, ℕ, ◌≤◌, true, false, length, slice_get, Option, Some, None}
 use Rattle.std.specs.Option.{IfSome}
 use Rattle.dis_records.specs.Address.{Pair}
@@ -11,7 +11,7 @@ use Rattle.siman_scripts.specs.Stations.{WorldStationData}
 use Rattle.siman_scripts.specs.Draft.{DraftData, wants_exercise, takes_stations, takes_outfits, last_address, index_of, last_number, opened_with}
 use Rattle.siman_scripts.specs.Reason.{draft_reason}
 
--- the station that a line names, if it names one
+-- the station that a line names, if any
 abbrev pub station_named : Statement → Option Pair
 station_named says.Nothing = None
 station_named (says.Exercise x) = None
@@ -22,22 +22,22 @@ station_named (says.Action a id) = Some a
 station_named (says.At now) = None
 station_named (says.Does a act) = Some a
 
--- no station has the address that the line names, which is of this site and application
+-- no station has the address that the line names, which has this site and application
 abbrev pub IsUnknown : DraftData → Statement → ℕ → ℕ → Type 0
 IsUnknown d s site application = (a : Pair) × (station_named s ≡ Some a) × (site ≡ a.site) × (application ≡ a.application) × (index_of a d.stations ≡ None)
 
--- the last station, which is of this site and application, is not below the one that the line names
+-- the last station, which has this site and application, is not below the one that the line names
 abbrev pub IsNotAbove : DraftData → Statement → ℕ → ℕ → Type 0
 IsNotAbove d s site application =
     (before : Pair) × (a : Pair) × (last_address d.stations ≡ Some before) × (station_named s ≡ Some a) × (site ≡ before.site) × (application ≡ before.application) × (is_below before a ≡ false)
 
--- the station that an opening names opens with an entity of this number last, and not with one more
+-- the station that an opening names has an entity of this number last, and cannot open with this one besides
 abbrev pub IsNotNext : DraftData → Statement → ℕ → Type 0
 IsNotNext d (says.Opening a e y) number =
     (i : ℕ) × (w : WorldStationData) × (index_of a d.stations ≡ Some i) × (slice_get d.stations i ≡ Some w) × (number ≡ last_number 0 w.station.opening) × (opened_with e y w ≡ None)
 IsNotNext d _ number = ⊥
 
--- a reason of a line that says this says what is so of the lines before
+-- the reason of a statement is true of the lines before
 abbrev pub IsSoAfter : DraftData → Statement → Why → Type 0
 IsSoAfter d s (whys.Line why) = ⊥
 IsSoAfter d s whys.SecondExercise = wants_exercise d.part ≡ false
@@ -52,6 +52,6 @@ IsSoAfter d s whys.NoExercise = ⊥
 IsSoAfter d s whys.NoStation = ⊥
 IsSoAfter d s whys.TooLong = ⊥
 
--- WHAT THE REASON OF A LINE THAT SAYS THIS SAYS OF THE LINES BEFORE IS SO
+-- THE REASON OF A STATEMENT IS TRUE OF THE LINES BEFORE
 abbrev pub HoldsAfter : DraftData → Statement → Type 0
 HoldsAfter d s = IfSome (draft_reason d s) (λ r. IsSoAfter d s r.1)

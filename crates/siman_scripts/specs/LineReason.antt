@@ -12,13 +12,13 @@ use Rattle.siman_scripts.specs.Words.{placed_words_of}
 use Rattle.siman_scripts.specs.Forms.{fits, form_named, next_word}
 use Rattle.siman_scripts.specs.Nearest.{nearest}
 
--- a column, and why the line is refused there
+-- a column, and why the line is refused there; or none
 abbrev pub Told : Type 0
 Told = Option (ℕ × LineWhy)
 
 -- Bytes.
 
--- a byte order mark stands at the begin
+-- the bytes begin with a byte order mark
 abbrev pub is_mark : List ℕ → Bool
 is_mark bs = (slice_index bs 0 == 239) && ((slice_index bs 1 == 187) && (slice_index bs 2 == 191))
 
@@ -29,7 +29,7 @@ foreign_why bs = if is_mark bs then whys.ByteOrderMark else whys.NotAscii
 abbrev pub foreign_reason : List ℕ → Told
 foreign_reason line = option_map (λ i. (i + 1, foreign_why (drop i line))) (position (λ b. nat_le 128 b) line)
 
--- of a blank in this column, behind this byte
+-- the reason of a blank in this column, behind this byte
 abbrev pub blank_why : ℕ → ℕ → Bool → Option LineWhy
 blank_why column before last =
     if column == 1 then Some whys.BlankAtBegin
@@ -37,7 +37,8 @@ blank_why column before last =
     else if last then Some whys.BlankAtEnd
     else None
 
--- of a byte in this column, behind another one, and whether it is the last of its line
+-- the reason of a byte in this column, behind another one; the last argument says whether it is the last of its
+-- line
 abbrev pub byte_why : ℕ → ℕ → ℕ → Bool → Option LineWhy
 byte_why column before b last =
     if b == 9 then Some whys.Tab
@@ -63,32 +64,32 @@ abbrev pub is_comment : List ℕ → Bool
 is_comment [] = false
 is_comment (b ∷ bs) = b == 35
 
--- of a word that is not to be there, in a line of this form
+-- the reason of a word too many in a line of this form
 abbrev pub extra_why : Form → List ℕ → LineWhy
 extra_why form word = if is_comment word then whys.Comment form else whys.TooMany form
 
--- of a word where the line might have ended, in a line of this form
+-- the reason of a word of another kind, where a line of this form may end
 abbrev pub optional_why : Form → WordKind → List ℕ → LineWhy
 optional_why form kind word = if is_comment word then whys.Comment form else whys.Wrong form kind
 
--- of a word at a place where this may stand, in a line of this form
+-- the reason of a word in a line of this form, where this may follow
 abbrev pub word_reason : Form → Next → ℕ × List ℕ → Told
 word_reason form (Needed kind) p = if fits kind p.1 then None else Some (p.0, whys.Wrong form kind)
 word_reason form (Optional kind) p = if fits kind p.1 then None else Some (p.0, optional_why form kind p.1)
 word_reason form End p = Some (p.0, extra_why form p.1)
 
--- of the end of the line, in this column, where this may stand
+-- the reason of the end of a line in this column, where this may follow
 abbrev pub end_reason : Form → Next → ℕ → Told
 end_reason form (Needed kind) column = Some (column, whys.Missing form kind)
 end_reason form (Optional kind) column = None
 end_reason form End column = None
 
--- of the words from a place on behind the name of a form; the line ends before this column
+-- the reason of the words from a place on behind the name of a form; the line ends before this column
 abbrev pub words_reason : Form → ℕ → ℕ → List (ℕ × List ℕ) → Told
 words_reason form place column [] = end_reason form (next_word form place) column
 words_reason form place column (p ∷ ps) = option_or (word_reason form (next_word form place) p) (words_reason form (place + 1) column ps)
 
--- of the words of a line, by its form
+-- the reason of the words of a line, given its form
 abbrev pub named_reason : ℕ → ℕ × List ℕ → List (ℕ × List ℕ) → Option Form → Told
 named_reason column p ps (Some form) = words_reason form 0 column ps
 named_reason column p ps None = Some (p.0, whys.UnknownName (nearest p.1))
@@ -102,7 +103,7 @@ abbrev pub spacing_first : List ℕ → Told → Told
 spacing_first line None = None
 spacing_first line (Some reason) = Some (unwrap_or (spacing_reason line) reason)
 
--- of a line of ASCII
+-- the reason of a line of ASCII
 abbrev pub ascii_reason : List ℕ → Told
 ascii_reason line =
     if is_passed_over line then None else spacing_first line (form_reason (length line + 1) (placed_words_of line))

@@ -5,18 +5,18 @@ use Rattle.std.specs.Str.{bytes_eq, str_to_ascii_lowercase}
 use Rattle.siman_scripts.specs.declared.form.Form.{Form}
 use Rattle.siman_scripts.specs.Forms.{form_name, form_named, all_forms}
 
--- how many bytes two words begin with alike
+-- the length of the longest common prefix of two words
 abbrev pub common_length : List ℕ → List ℕ → ℕ
 common_length [] ys = 0
 common_length (x ∷ xs) [] = 0
 common_length (x ∷ xs) (y ∷ ys) = if x == y then common_length xs ys + 1 else 0
 
--- each begins with two bytes, the other one's the other way round
+-- the first two bytes of one word are those of the other, swapped
 abbrev pub is_swapped : List ℕ → List ℕ → Bool
 is_swapped (x ∷ x' ∷ xs) (y ∷ y' ∷ ys) = (x == y') && (x' == y)
 is_swapped xs ys = false
 
--- one byte of one of them is left out, changed, or swapped with the next, and what follows is alike
+-- one byte of one of them is left out, changed, or swapped with the next, and the rests pass the test
 abbrev pub edited_alike : (List ℕ → List ℕ → Bool) → List ℕ → List ℕ → Bool
 edited_alike alike xs ys =
     alike (drop 1 xs) (drop 1 ys) || (alike (drop 1 xs) ys || (alike xs (drop 1 ys) || (is_swapped xs ys && alike (drop 2 xs) (drop 2 ys))))
@@ -25,7 +25,7 @@ edited_alike alike xs ys =
 abbrev pub is_one_edit : List ℕ → List ℕ → Bool
 is_one_edit xs ys = edited_alike bytes_eq (drop (common_length xs ys) xs) (drop (common_length xs ys) ys)
 
--- at most two edits do
+-- at most two edits make one word of another
 abbrev pub is_two_edits : List ℕ → List ℕ → Bool
 is_two_edits xs ys = edited_alike is_one_edit (drop (common_length xs ys) xs) (drop (common_length xs ys) ys)
 

@@ -31,19 +31,19 @@ use Rattle.siman_scripts.specs.Words.{placed_words_of}
 use Rattle.siman_scripts.specs.Forms.{form_named}
 use Rattle.siman_scripts.specs.LineReason.{line_reason}
 
--- What the lines before refuse: a word of the line, counted from 0, and why.
+-- Refusals after the lines before: a word of the line, counted from 0, and the reason.
 
 abbrev pub Refused : Type 0
 Refused = Option (ℕ × Why)
 
--- of a line that is before the exercise, or late for its part
+-- the reason of a line that is before the exercise, or late for its part
 abbrev pub part_why : Part → Why → Why
 part_why part late = if wants_exercise part then whys.BeforeExercise else late
 
 abbrev pub part_reason : Part → Bool → Why → Refused → Refused
 part_reason part takes late reason = if takes then reason else Some (0, part_why part late)
 
--- of a station after this one, if there is one
+-- the reason of a station that is not above this one, if there is one
 abbrev pub rising_reason : Option Pair → Pair → Refused
 rising_reason None a = None
 rising_reason (Some before) a = if is_below before a then None else Some (1, whys.StationNotAbove before.site before.application)
@@ -51,24 +51,24 @@ rising_reason (Some before) a = if is_below before a then None else Some (1, why
 abbrev pub station_reason : List WorldStationData → Pair → Refused
 station_reason stations a = if nat_lt (length stations) 256 then rising_reason (last_address stations) a else Some (0, whys.TooManyStations)
 
--- of an entity with which a station is to open, if it is known
+-- the reason of an entity of a station, if the station is known
 abbrev pub opening_reason : ℕ → EntityState → Option WorldStationData → Refused
 opening_reason e y None = Some (2, whys.EntityNotAbove 0)
 opening_reason e y (Some w) = if is_some (opened_with e y w) then None else Some (2, whys.EntityNotAbove (last_number 0 w.station.opening))
 
--- of a station in this word that is not known, or what comes of its index
+-- the reason of a station in this word that is not known, or that of its index
 abbrev pub known_reason : ℕ → Pair → (ℕ → Refused) → Option ℕ → Refused
 known_reason place a next None = Some (place, whys.UnknownStation a.site a.application)
 known_reason place a next (Some i) = next i
 
--- the word of a move in which its station is named
+-- the word of a move that names its station
 abbrev pub station_place : Act → ℕ
 station_place (acts.Deliver place) = 2
 station_place (acts.Command order) = 1
 station_place acts.Tick = 1
 station_place (acts.Tell e) = 1
 
--- WHY A LINE THAT SAYS THIS IS REFUSED AFTER THE LINES BEFORE IT
+-- WHY A STATEMENT IS REFUSED AFTER THE LINES BEFORE IT
 abbrev pub draft_reason : DraftData → Statement → Refused
 draft_reason d says.Nothing = None
 draft_reason d (says.Exercise x) = if wants_exercise d.part then None else Some (0, whys.SecondExercise)
@@ -86,11 +86,11 @@ draft_reason d (says.Does a act) = part_reason d.part (takes_moves d.part) whys.
 abbrev pub column_of : List ℕ → ℕ → ℕ
 column_of line place = unwrap_or (option_map (λ p. p.0) (slice_get (placed_words_of line) place)) 1
 
--- of line n: a column, and why
+-- the reason of line n: a column, and why
 abbrev pub at_line : ℕ → ℕ × Why → LineReason
 at_line n reason = record { line = n; column = reason.0; why = reason.1 }
 
--- of a line by itself
+-- the reason of a line that is refused by itself
 abbrev pub by_itself : Option (ℕ × LineWhy) → Option (ℕ × Why)
 by_itself told = option_map (λ r. (r.0, whys.Line r.1)) told
 
@@ -102,7 +102,7 @@ said_reason d line (Some s) = option_map (λ r. (column_of line r.0, r.1)) (draf
 abbrev pub refusal_of : DraftData → List ℕ → Option (ℕ × Why)
 refusal_of d line = said_reason d line (statement_of line)
 
--- of the end of a text of n lines
+-- the reason of a text of n lines that ends too early
 abbrev pub end_reason : DraftData → ℕ → Option LineReason
 end_reason d n =
     if wants_exercise d.part then Some (record { line = n + 1; column = 0; why = whys.NoExercise })
@@ -113,7 +113,7 @@ abbrev pub after_line : Result DraftData LineFault → (DraftData → Option Lin
 after_line (Err fault) next = None
 after_line (Ok d) next = next d
 
--- of lines that come after n others
+-- the first reason of lines that follow n others
 abbrev pub lines_reason : DraftData → ℕ → List (List ℕ) → Option LineReason
 lines_reason d n [] = end_reason d n
 lines_reason d n (l ∷ ls) = option_or (option_map (at_line (n + 1)) (refusal_of d l)) (after_line (line_after d l) (λ e. lines_reason e (n + 1) ls))
@@ -123,7 +123,7 @@ abbrev pub reason_at : List ℕ → Option LineReason
 reason_at text =
     if nat_lt LARGEST_SCRIPT (length text) then Some (record { line = 0; column = 0; why = whys.TooLong }) else lines_reason blank 0 (lines_of text)
 
--- Lines that are typed for a station.
+-- Typed lines.
 
 -- lines of this form are no orders for a station
 abbrev pub is_setup : Form → Bool
@@ -146,11 +146,11 @@ abbrev pub named_setup : Option Form → Option CommandReason
 named_setup None = None
 named_setup (Some form) = if is_setup form then Some (not_for_station form) else None
 
--- of a line whose first word names a form that is no order
+-- the reason of a line whose first word names a form that is no order
 abbrev pub setup_reason : List ℕ → Option CommandReason
 setup_reason line = named_setup (form_named (first_word line))
 
--- the form of a statement that is no order
+-- the form of an act that is no order for a station
 abbrev pub delivery_form : Act → Option Form
 delivery_form (acts.Deliver place) = Some forms.Deliver
 delivery_form (acts.Command order) = None
@@ -167,7 +167,7 @@ setup_form (says.Action a id) = Some forms.Action
 setup_form (says.At now) = None
 setup_form (says.Does a act) = delivery_form act
 
--- of a line by itself
+-- the reason of a line that is refused by itself
 abbrev pub by_line : Option (ℕ × LineWhy) → Option CommandReason
 by_line told = option_map (λ r. record { column = r.0; why = commands.Line r.1 }) told
 
@@ -175,7 +175,7 @@ abbrev pub unsaid_reason : List ℕ → Option Statement → Option CommandReaso
 unsaid_reason line None = option_or (setup_reason line) (by_line (line_reason line))
 unsaid_reason line (Some s) = option_map not_for_station (setup_form s)
 
--- WHY A LINE IS NO ORDER FOR A STATION: it is of a form that is none, or it is refused by itself
+-- WHY A LINE IS NO ORDER FOR A STATION: its form is none of an order, or it is refused by itself
 abbrev pub command_reason : List ℕ → Option CommandReason
 command_reason line = unsaid_reason line (statement_of line)
 

@@ -32,7 +32,7 @@ pieces_text p = five (piece_text p.first) (piece_text p.second) (piece_text p.th
 
 -- What is expected.
 
--- a line of a form
+-- the form of a line, as it is written
 abbrev pub form_text : Form → List ℕ
 form_text forms.Exercise = codes "exercise X"
 form_text forms.Station = codes "station S:A, or station S:A first=F tries=T wait=W"
@@ -51,7 +51,7 @@ form_text forms.Remove = codes "remove S:A S:A:E"
 form_text forms.Start = codes "start S:A S:A:E"
 form_text forms.Stop = codes "stop S:A S:A:E"
 
--- a word of a kind; a number goes on with the largest
+-- what is expected instead of a word that is not of this kind; for a number the largest follows
 abbrev pub kind_words : WordKind → List ℕ
 kind_words (kinds.Number largest) = codes "a number is expected, from 0 to "
 kind_words kinds.Address = codes "a station address S:A is expected, each from 1 to 65534"
@@ -68,7 +68,7 @@ kind_largest _ = []
 
 -- Why a line by itself is refused.
 
--- where it is said in the same words each time
+-- the fixed words of a reason; empty if the words vary
 abbrev pub plain_line_text : LineWhy → List ℕ
 plain_line_text lines.ByteOrderMark = codes "a byte order mark: save the file as plain ASCII, without one"
 plain_line_text lines.NotAscii = codes "a character that is not ASCII: write plain letters, digits and signs"
@@ -118,7 +118,7 @@ why_text (whys.EntityNotAbove number) = five (codes "the entity has to be above 
 why_text (whys.UnknownStation site application) = five (codes "no line says station ") (decimal site) (codes ":") (decimal application) (codes ": add one")
 why_text why = plain_text why
 
--- where it is; nothing where the whole text is meant
+-- the place; empty if the reason is about the whole text
 abbrev pub place_text : ℕ → ℕ → List ℕ
 place_text line column = if column == 0 then [] else five (codes "line ") (decimal line) (codes ", column ") (decimal column) (codes ": ")
 
@@ -126,7 +126,7 @@ place_text line column = if column == 0 then [] else five (codes "line ") (decim
 abbrev pub reason_text : LineReason → List ℕ
 reason_text reason = place_text reason.line reason.column ++ why_text reason.why
 
--- Of a line that was typed for a station.
+-- A typed line.
 
 abbrev pub command_why_text : CommandWhy → List ℕ
 command_why_text (commands.Line why) = line_text why

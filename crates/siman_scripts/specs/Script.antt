@@ -1,4 +1,4 @@
--- Scripts: what a text spells, and the first line that is refused (profile).
+-- Scripts: the script that a text spells, and the first refused line (profile).
 use Rattle.std.specs.Prelude.{◌≡◌, ℕ, ◌+◌, Bool, ◌&&◌, not, nat_lt, List, [], ◌∷◌, length, Option, Some, None, Result, Ok, Err, if◌then◌else◌}
 use Rattle.siman_scripts.specs.declared.script.TheConstants.{LARGEST_SCRIPT}
 use Rattle.siman_scripts.specs.declared.act.Move.{Move}
@@ -12,7 +12,7 @@ use Rattle.siman_scripts.specs.Stations.{WorldStationData}
 use Rattle.siman_scripts.specs.Statement.{statement_of}
 use Rattle.siman_scripts.specs.Draft.{DraftData, blank, after, wants_exercise}
 
--- a script apart from memory
+-- a script, without its memory
 pub record ScriptData : Type 0 where
   pub exercise : ℕ
   pub stations : List WorldStationData
@@ -28,16 +28,16 @@ abbrev pub after_if : DraftData → Option Statement → Result DraftData LineFa
 after_if d None = Err lines.Bad
 after_if d (Some s) = after d s
 
--- what one more line makes of the lines before it: it is of a form and in its part, or it is refused
+-- the draft after one more line, which has a form and is in its part, or the line's fault
 abbrev pub line_after : DraftData → List ℕ → Result DraftData LineFault
 line_after d line = after_if d (statement_of line)
 
--- going on after line n, unless it is refused
+-- the rest after line n, unless that is refused
 abbrev pub unless_refused : ℕ → Result DraftData LineFault → (DraftData → Result DraftData ScriptFault) → Result DraftData ScriptFault
 unless_refused n (Ok d) next = next d
 unless_refused n (Err fault) next = Err (fault_at n fault)
 
--- what lines make of n lines before them, or the first of them that is refused, by its number
+-- the draft after more lines, behind n lines before them, or the first of them that is refused, by its number
 abbrev pub lines_after : DraftData → ℕ → List (List ℕ) → Result DraftData ScriptFault
 lines_after d n [] = Ok d
 lines_after d n (l ∷ ls) = unless_refused (n + 1) (line_after d l) (λ e. lines_after e (n + 1) ls)
@@ -49,17 +49,18 @@ is_whole d = not (wants_exercise d.part) && nat_lt 0 (length d.stations)
 abbrev pub script_of : DraftData → ScriptData
 script_of d = record { exercise = d.exercise; stations = d.stations; moves = d.moves }
 
--- after the last of n lines
+-- the script after the last of n lines
 abbrev pub whole_after : ℕ → Result DraftData ScriptFault → Result ScriptData ScriptFault
 whole_after n (Err fault) = Err fault
 whole_after n (Ok d) = if is_whole d then Ok (script_of d) else Err (BadLine (n + 1))
 
--- THE SCRIPT THAT A TEXT SPELLS, OR ITS FIRST REFUSAL by the order of lines. A text of more than 1,048,576 bytes is a bad line 0, before all else.
+-- THE SCRIPT THAT A TEXT SPELLS, OR ITS FIRST REFUSAL by the order of lines. A text of more than 1,048,576 bytes is
+-- a bad line 0, before all else.
 abbrev pub script_at : List ℕ → Result ScriptData ScriptFault
 script_at text =
     if nat_lt LARGEST_SCRIPT (length text) then Err (BadLine 0) else whole_after (length (lines_of text)) (lines_after blank 0 (lines_of text))
 
--- What a call answered is what reading gives, unless memory ran out.
+-- the fault of a call is this result of reading; lack of memory may happen with any
 abbrev pub Refuses : {Y : Type 0} → ScriptFault → Result Y ScriptFault → Type 0
 Refuses (BadLine n) read = read ≡ Err (BadLine n)
 Refuses (UnknownStation n) read = read ≡ Err (UnknownStation n)

@@ -1,4 +1,4 @@
--- What a line of a script says: its forms, word by word (profile).
+-- The statement of a line of a script: its forms, word by word (profile).
 use Rattle.std.specs.Prelude.{ℕ, Bool, true, ◌==◌, nat_le, List, [], ◌∷◌, codes, Option, Some, None, if◌then◌else◌}
 use Rattle.std.specs.Option.{option_and_then}
 use Rattle.std.specs.Str.{bytes_eq}
@@ -85,7 +85,7 @@ number_named name word = do
   value ← value_of name word
   number_to 4294967295 value
 
--- how a manager half orders: `first=F tries=T wait=W`, T at least 1, or nothing, which means first=1 tries=3 wait=10
+-- the rules of a manager: `first=F tries=T wait=W`, T at least 1, or nothing, which means first=1 tries=3 wait=10
 abbrev pub rules_of : List (List ℕ) → Option ManagerRules
 rules_of [] = Some (record { first_id = 1; tries = 3; wait = 10 })
 rules_of (f ∷ t ∷ w ∷ []) = do
@@ -96,7 +96,7 @@ rules_of (f ∷ t ∷ w ∷ []) = do
   if nat_le 1 tries then Some (record { first_id = first_id; tries = tries; wait = wait }) else None
 rules_of words = None
 
--- `station S:A` and how it orders
+-- `station S:A` and the rules of its manager
 abbrev pub station_form : List (List ℕ) → Option Statement
 station_form [] = None
 station_form (s ∷ words) = do
@@ -141,7 +141,7 @@ at_form words = None
 abbrev pub never : ClockTime
 never = record { hour = 0; past = 0 }
 
--- what has no further words
+-- a value, if no words follow
 abbrev pub alone : {A : Type 0} → List (List ℕ) → A → Option A
 alone [] x = Some x
 alone (w ∷ ws) x = None
@@ -183,7 +183,7 @@ body_of name words =
     else if bytes_eq name (codes "set") then set_body words
     else (plain_body name >>= alone words)
 
--- an order: its receiver `S:A:E`, and what else its name wants
+-- an order: its receiver `S:A:E`, and the further words of its name
 abbrev pub command_act : List ℕ → List (List ℕ) → Option Act
 command_act name [] = None
 command_act name (to ∷ words) = do
@@ -198,14 +198,14 @@ tell_act (e ∷ []) = do
   Some (Tell entity)
 tell_act words = None
 
--- what the station does, by the words after its address
+-- the act of a station, by the words after its address
 abbrev pub act_of : List ℕ → List (List ℕ) → Option Act
 act_of name words =
     if bytes_eq name (codes "tick") then alone words Tick
     else if bytes_eq name (codes "tell") then tell_act words
     else command_act name words
 
--- a move of the station that is named first
+-- a move of the station that the first word names
 abbrev pub acting_form : List ℕ → List (List ℕ) → Option Statement
 acting_form name [] = None
 acting_form name (s ∷ words) = do
@@ -223,7 +223,7 @@ deliver_form words = None
 
 -- Lines.
 
--- what a station opens with, holds or knows, or else a move of a station
+-- an entity, a datum or an action of a station, or else a move
 abbrev pub station_line : List ℕ → List (List ℕ) → Option Statement
 station_line name words =
     if bytes_eq name (codes "opening") then opening_form words
@@ -241,12 +241,12 @@ form_of (name ∷ words) =
     else if bytes_eq name (codes "at") then at_form words
     else station_line name words
 
--- a line that is passed over: it is empty, or its first byte is `#`
+-- a line is ignored: it is empty, or its first byte is `#`
 abbrev pub is_passed_over : List ℕ → Bool
 is_passed_over [] = true
 is_passed_over (b ∷ bs) = b == 35
 
--- WHAT A LINE SAYS, if it is ASCII text and of a form
+-- THE STATEMENT OF A LINE, if it is ASCII text and has a form
 abbrev pub statement_of : List ℕ → Option Statement
 statement_of line =
     if is_ascii line then (if is_passed_over line then Some says.Nothing else form_of (words_of line)) else None

@@ -1,4 +1,4 @@
--- The text of a script, apart from what its lines say: lines, words, numbers (profile).
+-- Lines, words and numbers of a script, without their meaning (profile).
 use Rattle.std.specs.Prelude.{ℕ, ◌+◌, ◌-◌, ◌*◌, Bool, ◌==◌, ◌&&◌, nat_lt, nat_le, List, [], ◌∷◌, take, drop, position, Option, Some, None, if◌then◌else◌}
 use Rattle.std.specs.Option.{option_map}
 use Rattle.std.specs.List.{onto_first, slice_split, list_all}
@@ -8,22 +8,22 @@ abbrev pub lines_of : List ℕ → List (List ℕ)
 lines_of [] = []
 lines_of (b ∷ bs) = if b == 10 then [] ∷ lines_of bs else onto_first b (lines_of bs)
 
--- each byte is one of ASCII
+-- all bytes are ASCII
 abbrev pub is_ascii : List ℕ → Bool
 is_ascii line = list_all (λ b. nat_lt b 128) line
 
--- the words of a line: one space (32) stands between two of them
+-- the words of a line, which single spaces (32) separate
 abbrev pub words_of : List ℕ → List (List ℕ)
 words_of line = slice_split (λ b. b == 32) line
 
--- what stands before the first byte c of a word, and what after it, if there is one
+-- the parts of a word before and after the first byte c, if any
 abbrev pub cut_at : ℕ → List ℕ → Option (List ℕ × List ℕ)
 cut_at c word = option_map (λ i. (take i word, drop (i + 1) word)) (position (λ b. b == c) word)
 
 abbrev pub is_digit : ℕ → Bool
 is_digit b = nat_le 48 b && nat_le b 57
 
--- the number that decimal digits spell after those that spell this one
+-- the number that decimal digits spell behind those of this number
 abbrev pub digits_after : ℕ → List ℕ → Option ℕ
 digits_after n [] = Some n
 digits_after n (b ∷ bs) = if is_digit b then digits_after (10 * n + (b - 48)) bs else None

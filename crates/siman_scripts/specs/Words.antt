@@ -2,7 +2,7 @@
 use Rattle.std.specs.Prelude.{◌≡◌, ℕ, ◌+◌, ◌-◌, List, [], ◌∷◌, length, take, drop}
 use Rattle.siman_scripts.specs.Text.{words_of}
 
--- words that stand in a row from this column on, each with the column of its first byte: one space stands between two of them
+-- words in a row from this column on, each with the column of its first byte; single spaces separate them
 abbrev pub placed_from : ℕ → List (List ℕ) → List (ℕ × List ℕ)
 placed_from column [] = []
 placed_from column (w ∷ ws) = (column, w) ∷ placed_from (column + length w + 1) ws
@@ -11,6 +11,6 @@ placed_from column (w ∷ ws) = (column, w) ∷ placed_from (column + length w +
 abbrev pub placed_words_of : List ℕ → List (ℕ × List ℕ)
 placed_words_of line = placed_from 1 (words_of line)
 
--- the word stands at its column in the line
+-- the word is at its column in the line
 abbrev pub StandsAt : List ℕ → ℕ × List ℕ → Type 0
 StandsAt line p = take (length p.1) (drop (p.0 - 1) line) ≡ p.1

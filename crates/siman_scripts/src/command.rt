@@ -1,4 +1,4 @@
-//! What a line of text asks of a station, in the forms of the moves of a script.
+//! Commands that lines of text give to a station, in the forms of the moves of a script.
 
 ghost use Rattle.std.specs.Prelude.{◌≡◌, IfOk};
 ghost use Rattle.siman_scripts.specs.Command.{task_of, asked, command_said, command_of};
@@ -10,29 +10,29 @@ use dis_records::Address;
 use siman_manager::Order;
 use std::alloc::{AllocError, Global};
 
-/// What a station is asked to do.
+/// Task of a station.
 #[derive(Drop)]
 pub enum Task {
-    /// To issue an order.
+    /// Issue an order.
     Order(Order),
-    /// To send the repeat that is due, if one is.
+    /// Send the repeat that is due, if any.
     Repeat,
-    /// To tell the state of an entity.
+    /// Tell the state of an entity.
     Tell(u16),
 }
 
-/// What a line says to a station.
+/// Command of a line to a station.
 #[derive(Drop)]
 pub enum Command {
-    /// Nothing: the line is passed over.
+    /// None: the line is ignored.
     Nothing,
-    /// The clock shows this from here on.
+    /// Set the clock to this time.
     At(u64),
-    /// The station at an address is asked to do something.
+    /// Give a task to the station with this address.
     Asks { address: Address, task: Task },
 }
 
-/// What a move asks of its station; of a delivery nothing is asked.
+/// Task of a move; none of a delivery.
 fn task_of(act: Act) -> Option<Task>
     ensures { result ≡ task_of act }
 {
@@ -53,7 +53,7 @@ fn asked(address: Address, task: Option<Task>) -> Option<Command>
     }
 }
 
-/// What a statement says to a station; of its setting up nothing is said here.
+/// Command of a statement; none of a statement that sets a station up.
 fn command_said(statement: Statement) -> Option<Command>
     ensures { result ≡ command_said statement }
 {
@@ -69,8 +69,8 @@ fn command_said(statement: Statement) -> Option<Command>
     }
 }
 
-/// What a line says to a station, without its line feed: it is passed over, or in the form of an
-/// `at` or of a move of a script that is no `deliver`. `None`: it is of none of these forms.
+/// Command of a line, without its line feed: the line is ignored, or has the form of an `at` or of
+/// a move of a script that is no `deliver`. `None` if it has none of these forms.
 pub fn read_command(alloc: Global, line: &[u8]) -> Result<Option<Command>, AllocError>
     ensures { IfOk result (λ command. command ≡ command_of line.now) }
 {

@@ -1,4 +1,4 @@
-//! Why a line that was typed for a station is no order.
+//! Why a typed line is no order for a station.
 
 ghost use Rattle.std.specs.Prelude.{◌≡◌, IfOk, is_some, is_none};
 ghost use Rattle.siman_scripts.specs.Command.{command_of};
@@ -42,7 +42,7 @@ fn not_for_station(form: Form) -> CommandReason
     }
 }
 
-/// Of a line whose first word names a form that is no order.
+/// Reason of a line whose first word names a form that is no order.
 fn setup_reason(line: &[u8]) -> Option<CommandReason>
     ensures { result ≡ setup_reason line.now }
 {
@@ -52,7 +52,7 @@ fn setup_reason(line: &[u8]) -> Option<CommandReason>
     }
 }
 
-/// The form of a move that is no order.
+/// Form of an act that is no order for a station.
 fn delivery_form(act: &Act) -> Option<Form>
     ensures { result ≡ delivery_form act.now }
 {
@@ -62,7 +62,7 @@ fn delivery_form(act: &Act) -> Option<Form>
     }
 }
 
-/// The form of a statement that is no order.
+/// Form of a statement that is no order for a station.
 fn setup_form(statement: &Statement) -> Option<Form>
     ensures { result ≡ setup_form statement.now }
 {
@@ -77,7 +77,7 @@ fn setup_form(statement: &Statement) -> Option<Form>
     }
 }
 
-/// Of a line by itself.
+/// Reason of a line that is refused by itself.
 fn by_line(told: Option<(usize, LineWhy)>) -> Option<CommandReason>
     ensures { result ≡ by_line told }
 {
@@ -90,8 +90,8 @@ fn by_line(told: Option<(usize, LineWhy)>) -> Option<CommandReason>
     }
 }
 
-/// Why a line, without its line feed, is no order for a station; `None` if it is one or is passed
-/// over ([`a_line_has_a_reason_or_is_an_order`]).
+/// Why a typed line, without its line feed, is no order for a station; `None` if it is one or is
+/// ignored ([`a_line_has_a_reason_or_is_an_order`]).
 pub fn reason_of_command(alloc: Global, line: &[u8]) -> Result<Option<CommandReason>, AllocError>
     ensures { IfOk result (λ reason. reason ≡ command_reason line.now) }
 {
@@ -107,8 +107,8 @@ pub fn reason_of_command(alloc: Global, line: &[u8]) -> Result<Option<CommandRea
     }
 }
 
-/// A law of lines that are typed for a station: each has a reason to be refused, or it is an order
-/// or passed over. The call does nothing when it runs.
+/// A law of typed lines: each has a reason to be refused, or it is an order or ignored. The call
+/// does nothing at run time.
 pub fn a_line_has_a_reason_or_is_an_order(line: &[u8])
     ensures { is_none (command_reason line.now) ≡ is_some (command_of line.now) }
 {}

@@ -1,4 +1,4 @@
-//! What the lines of a script so far give.
+//! The script as its lines are read.
 
 ghost use Rattle.std.specs.Prelude.{◌≡◌, ◌<◌, ◌≤◌, length, position, IfOk, IfSome, Some, None, Ok, Result};
 ghost use Rattle.siman_scripts.specs.Draft.{DraftData, blank, is_at, index_of, last_address, after, wants_exercise, takes_outfits, takes_moves, Leaves, Finds};
@@ -39,7 +39,7 @@ impl Model for Draft {
     ghost invariant = { λ d. length d.stations.items ≤ 256 };
 }
 
-/// The index of the station at an address, if there is one.
+/// Index of the station with this address, if any.
 fn index_of(stations: &[StationDraft], address: Address) -> Option<usize>
     ensures index { result ≡ index_of address stations.now }
     ensures within { IfSome result (λ i. i < length stations.now) }
@@ -47,14 +47,14 @@ fn index_of(stations: &[StationDraft], address: Address) -> Option<usize>
     stations.iter().position(|station| station.is_at(address))
 }
 
-/// The address of the last station, if there is one.
+/// Address of the last station, if any.
 fn last_address(stations: &[StationDraft]) -> Option<Address>
     ensures { result ≡ last_address stations.now }
 {
     Some(stations.last()?.address())
 }
 
-/// The stations as a world takes them.
+/// The stations of a world.
 fn finish(alloc: Global, drafts: Vec<StationDraft>) -> Result<Vec<WorldStation>, AllocError>
     ensures { IfOk result (λ stations. stations.items ≡ drafts.items) }
 {
@@ -66,7 +66,7 @@ fn finish(alloc: Global, drafts: Vec<StationDraft>) -> Result<Vec<WorldStation>,
 }
 
 impl Draft {
-    /// Before the first line.
+    /// The draft before the first line.
     pub fn begin(alloc: Global) -> Draft
         ensures { result ≡ blank }
     {
@@ -79,7 +79,7 @@ impl Draft {
         }
     }
 
-    /// Takes what one more line says.
+    /// Adds the statement of one more line, or refuses it.
     pub fn take(&mut self, alloc: Global, statement: Statement) -> Result<(), LineFault>
         ensures { Leaves result self.new (after self.old statement) }
     {
@@ -129,7 +129,7 @@ impl Draft {
         Ok(())
     }
 
-    /// The index of the station that a line of an outfit names.
+    /// Index of the station that a line of an outfit names.
     fn outfit_index(&self, address: Address) -> Result<usize, LineFault>
         ensures index { Finds (takes_outfits self.now.part) (index_of address self.now.stations) result }
         ensures within { IfOk result (λ i. i < length self.now.stations) }
@@ -206,14 +206,14 @@ impl Draft {
         Ok(())
     }
 
-    /// Whether there was a line of the exercise, and one of a station.
+    /// Whether there was an `exercise` line and a `station` line.
     pub fn is_whole(&self) -> bool
         ensures { result ≡ is_whole self.now }
     {
         !wants_exercise(self.part) && !self.stations.is_empty()
     }
 
-    /// The script.
+    /// The finished script.
     pub fn finish(self, alloc: Global) -> Result<Script, AllocError>
         ensures { IfOk result (λ script. script ≡ script_of self) }
     {

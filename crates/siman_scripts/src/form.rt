@@ -5,7 +5,7 @@ ghost use Rattle.siman_scripts.specs.Forms.{form_name, form_named, row, next_wor
 
 use crate::word_kind::WordKind;
 
-/// A form of line, called by the name with which its lines begin.
+/// A form of line, named by the first word of its lines.
 #[derive(Clone, Copy)]
 pub enum Form {
     Exercise,
@@ -46,7 +46,7 @@ pub(crate) const FORMS: [Form; 16] = [
     Form::Stop,
 ];
 
-/// What may stand at a place behind the name of a line.
+/// What may follow at a place behind the name of a line.
 #[derive(Clone, Copy)]
 pub(crate) enum Next {
     /// A word of this kind, without which the line is too short.
@@ -81,7 +81,7 @@ pub fn form_name(form: Form) -> &'static str
     }
 }
 
-/// The form whose lines begin with this name, if there is one.
+/// The form whose lines begin with this name, if any.
 pub(crate) fn form_named(name: &[u8]) -> Option<Form>
     ensures { result ≡ form_named name.now }
 {
@@ -97,7 +97,7 @@ const RECEIVER: Next = Next::Needed(WordKind::Receiver);
 
 const BITS_32: Next = Next::Needed(WordKind::Number(0xFFFF_FFFF));
 
-/// What stands at the first four places behind the name of a line.
+/// What may follow at the first four places behind the name of a line.
 fn row(form: Form) -> [Next; 4]
     ensures { result ≡ row form }
 {
@@ -134,7 +134,7 @@ fn row(form: Form) -> [Next; 4]
     }
 }
 
-/// What may stand at a place behind the name of a line; places are counted from 0.
+/// What may follow at a place behind the name of a line; places are counted from 0.
 pub(crate) fn next_word(form: Form, place: usize) -> Next
     ensures { result ≡ next_word form place }
 {

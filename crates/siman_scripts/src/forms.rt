@@ -1,4 +1,4 @@
-//! The forms of lines: of the exercise, its stations and the clock.
+//! Forms of the lines of the exercise, its stations and the clock.
 
 ghost use Rattle.std.specs.Prelude.{◌≡◌, Some, None, [], map, IfOk};
 ghost use Rattle.std.specs.Option.{option_map};
@@ -70,7 +70,7 @@ pub(crate) fn number_named(name: &[u8], word: &[u8]) -> Option<u32>
     number_32(value_of(name, word)?)
 }
 
-/// How a manager half orders, by the words after the station's address.
+/// Rules by which a manager orders, from the words after the station's address.
 fn rules_of(words: &[&[u8]]) -> Option<ManagerRules>
     ensures { result ≡ rules_of (map (λ w. w.now) words.now) }
 {
@@ -176,7 +176,8 @@ fn at(words: &[&[u8]]) -> Option<Statement>
     }
 }
 
-/// What a line says of a station, by its name: what it opens with, holds or knows, or else a move.
+/// Statement of a line about a station, by its name: an entity that it opens with, a datum that it
+/// holds, an action that it knows, or a move.
 fn station_line(
     alloc: Global,
     name: &[u8],
@@ -199,7 +200,7 @@ fn station_line(
     acting(alloc, name, words)
 }
 
-/// What the words of a line say, if they are of a form.
+/// Statement of the words of a line, if they have a form.
 fn form_of(alloc: Global, words: &[&[u8]]) -> Result<Option<Statement>, AllocError>
     ensures { IfOk result (λ s. s ≡ form_of (map (λ w. w.now) words.now)) }
 {
@@ -219,7 +220,7 @@ fn form_of(alloc: Global, words: &[&[u8]]) -> Result<Option<Statement>, AllocErr
     station_line(alloc, name, rest)
 }
 
-/// Whether a line is passed over: it is empty, or its first byte is `#`.
+/// Whether a line is ignored: it is empty, or its first byte is `#`.
 pub(crate) fn is_passed_over(line: &[u8]) -> bool
     ensures { result ≡ is_passed_over line.now }
 {
@@ -229,7 +230,7 @@ pub(crate) fn is_passed_over(line: &[u8]) -> bool
     }
 }
 
-/// What a line says, without its line feed, if it is ASCII text and of a form.
+/// Statement of a line, without its line feed, if it is ASCII text and has a form.
 pub(crate) fn statement_of(alloc: Global, line: &[u8]) -> Result<Option<Statement>, AllocError>
     ensures { IfOk result (λ s. s ≡ statement_of line.now) }
 {

@@ -1,12 +1,10 @@
-//! Scripts, the text in which the staff of an exercise write a whole exercise down.
-//!
-//! A script says which stations there are, what their managers order, and what the network loses,
-//! copies and swaps. [`read_script`] answers the script that a text spells, or its first refusal by
-//! the order of lines. No file is opened here, and no move is made.
-//!
-//! The layers above rest on its contract, one function of the text (`specs/Script.antt`,
-//! `Draft.antt`, `Statement.antt`, `Text.antt`). [`split_once`], [`number_16`], [`number_32`] and
-//! [`target_of`] are an inner door to them: words of a command line are spelled so too.
+//! Scripts, the text in which the staff of an exercise write a whole exercise: its stations, what
+//! their managers order, and what the network loses, copies and swaps.
+//! [`read_script`] returns the script that a text spells, or its first refusal by the order of
+//! lines. The crate opens no file and makes no move.
+//! The contract for the layer above is one function of the text (`specs/Script.antt`, `Draft.antt`,
+//! `Statement.antt`, `Text.antt`). [`split_once`], [`number_16`], [`number_32`] and [`target_of`]
+//! are public for words of a command line, which have the forms of a script's words.
 #![tactic(auto)]
 
 mod act;

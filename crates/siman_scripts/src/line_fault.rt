@@ -8,7 +8,7 @@ use std::alloc::{AllocError, AllocFailed};
 /// Why a line of a script is refused.
 #[derive(Clone, Copy)]
 pub(crate) enum LineFault {
-    /// It is of no form, out of its part, or not as the lines before it want it.
+    /// It has no valid form, is out of its part, or conflicts with the lines before.
     Bad,
     /// It names a station that has no line.
     Unknown,

@@ -13,7 +13,7 @@ use crate::why::LineWhy;
 use crate::word_kind::{WordKind, fits};
 use std::alloc::{AllocError, Global};
 
-/// What stands there, of bytes that begin with one that is not ASCII.
+/// Reason of bytes that begin with one that is not ASCII.
 fn foreign_why(bytes: &[u8]) -> LineWhy
     ensures { result ≡ foreign_why bytes.now }
 {
@@ -23,7 +23,7 @@ fn foreign_why(bytes: &[u8]) -> LineWhy
     }
 }
 
-/// The place of the first byte that is not ASCII, if there is one.
+/// Index of the first byte that is not ASCII, if any.
 fn foreign_place(line: &[u8]) -> Option<usize>
     ensures place { result ≡ position (λ b. nat_le 128 b) line.now }
     ensures within { IfSome result (λ i. i < length line.now) }
@@ -31,7 +31,7 @@ fn foreign_place(line: &[u8]) -> Option<usize>
     line.iter().position(|b| *b >= 128)
 }
 
-/// Of the first byte that is not ASCII.
+/// Column and reason of the first byte that is not ASCII, if any.
 fn foreign_reason(line: &[u8]) -> Option<(usize, LineWhy)>
     ensures { result ≡ foreign_reason line.now }
 {
@@ -41,7 +41,7 @@ fn foreign_reason(line: &[u8]) -> Option<(usize, LineWhy)>
     }
 }
 
-/// Of a blank in this column, behind this byte.
+/// Reason of a blank in this column, behind this byte, if it is one too many.
 fn blank_why(column: usize, before: u8, is_last: bool) -> Option<LineWhy>
     ensures { result ≡ blank_why column before is_last }
 {
@@ -58,7 +58,8 @@ fn blank_why(column: usize, before: u8, is_last: bool) -> Option<LineWhy>
     }
 }
 
-/// Of a byte in this column, behind another one.
+/// Reason of a byte in this column, behind another one, if it is a wrong blank, tab or carriage
+/// return.
 fn byte_why(column: usize, before: u8, byte: u8, is_last: bool) -> Option<LineWhy>
     ensures { result ≡ byte_why column before byte is_last }
 {
@@ -71,7 +72,7 @@ fn byte_why(column: usize, before: u8, byte: u8, is_last: bool) -> Option<LineWh
     }
 }
 
-/// Of the first tab, carriage return or blank too many.
+/// Column and reason of the first tab, carriage return or blank too many, if any.
 fn spacing_reason(line: &[u8]) -> Option<(usize, LineWhy)>
     ensures { result ≡ spacing_reason line.now }
 {
@@ -94,7 +95,7 @@ fn is_comment(word: &[u8]) -> bool
     }
 }
 
-/// Of a word that is not to be there.
+/// Reason of a word too many.
 fn extra_why(form: Form, word: &[u8]) -> LineWhy
     ensures { result ≡ extra_why form word.now }
 {
@@ -105,7 +106,7 @@ fn extra_why(form: Form, word: &[u8]) -> LineWhy
     }
 }
 
-/// Of a word of another kind, where the line might have ended.
+/// Reason of a word of another kind, at a place where the line may end.
 fn optional_why(form: Form, kind: WordKind, word: &[u8]) -> LineWhy
     ensures { result ≡ optional_why form kind word.now }
 {
@@ -116,7 +117,7 @@ fn optional_why(form: Form, kind: WordKind, word: &[u8]) -> LineWhy
     }
 }
 
-/// Of a word at a place where this may stand.
+/// Column and reason of a word that is not as `next` requires.
 fn word_reason(form: Form, next: Next, placed: &PlacedWord<'_>) -> Option<(usize, LineWhy)>
     ensures { result ≡ word_reason form next (placed.now.column, placed.now.word.now) }
 {
@@ -130,7 +131,7 @@ fn word_reason(form: Form, next: Next, placed: &PlacedWord<'_>) -> Option<(usize
     }
 }
 
-/// Of the end of the line, in this column, where this may stand.
+/// Column and reason of a line that ends too early, given the column of its end.
 fn end_reason(form: Form, next: Next, column: usize) -> Option<(usize, LineWhy)>
     ensures { result ≡ end_reason form next column }
 {
@@ -140,7 +141,8 @@ fn end_reason(form: Form, next: Next, column: usize) -> Option<(usize, LineWhy)>
     }
 }
 
-/// Of the words behind the name of a form; the line ends before this column.
+/// Column and reason of the words behind the name of a form, if they do not have it; the line ends
+/// before this column.
 fn words_reason(form: Form, column: usize, words: &[PlacedWord<'_>]) -> Option<(usize, LineWhy)>
     ensures { result ≡ words_reason form 0 column (map (λ p. (p.column, p.word.now)) words.now) }
 {
@@ -153,7 +155,8 @@ fn words_reason(form: Form, column: usize, words: &[PlacedWord<'_>]) -> Option<(
     end_reason(form, next_word(form, words.len()), column)
 }
 
-/// Of the words of a line, which ends before this column.
+/// Column and reason of the words of a line, if they have no form; the line ends before this
+/// column.
 fn form_reason(
     alloc: Global,
     column: usize,
@@ -173,7 +176,7 @@ fn form_reason(
     }
 }
 
-/// Of a line of ASCII.
+/// Column and reason of a line of ASCII, if it has no form.
 fn ascii_reason(alloc: Global, line: &[u8]) -> Result<Option<(usize, LineWhy)>, AllocError>
     ensures { IfOk result (λ reason. reason ≡ ascii_reason line.now) }
 {
@@ -201,10 +204,9 @@ pub(crate) fn line_reason(
     }
 }
 
-/// Laws of lines: one by itself has a reason to be refused, or says something; and what a reason
-/// says is so: the byte or the word that it speaks of stands in its column, a word that it calls
-/// wrong is not of its kind, and a name that it calls unknown is none. The call does nothing when
-/// it runs.
+/// Laws of lines: one by itself has a reason to be refused, or is a statement; and its reason is
+/// true: the byte or the word is in that column, a word that it calls wrong is not of its kind, and
+/// a name that it calls unknown is none. The call does nothing at run time.
 pub fn a_line_is_refused_for_a_reason(line: &[u8])
     ensures reason { is_none (line_reason line.now) ≡ is_some (statement_of line.now) }
     ensures holds { IfSome (line_reason line.now) (Holds line.now) }

@@ -1,4 +1,4 @@
-//! Which line of a script says a move.
+//! The line of a move in a script.
 
 ghost use Rattle.std.specs.Prelude.{◌≡◌, IfOk};
 ghost use Rattle.siman_scripts.specs.Statement.{statement_of};
@@ -9,7 +9,7 @@ use crate::statement::Statement;
 use crate::text::first_line;
 use std::alloc::{AllocError, Global};
 
-/// Whether a line says a move.
+/// Whether a line is a move.
 fn is_move(alloc: Global, line: &[u8]) -> Result<bool, AllocError>
     ensures { IfOk result (λ found. found ≡ is_move (statement_of line.now)) }
 {
@@ -19,8 +19,7 @@ fn is_move(alloc: Global, line: &[u8]) -> Result<bool, AllocError>
     }
 }
 
-/// The number, from 1, of the line of a script that says the move of this number, from 0, if there
-/// is one.
+/// Number, from 1, of the line of a script with the move of this number, from 0, if any.
 pub fn line_of_move(alloc: Global, text: &[u8], number: usize) -> Result<Option<usize>, AllocError>
     ensures { IfOk result (λ line. line ≡ line_of_move text.now number) }
 {

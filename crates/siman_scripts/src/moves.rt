@@ -1,4 +1,4 @@
-//! The forms of lines: of moves.
+//! Forms of the lines of moves.
 
 ghost use Rattle.std.specs.Prelude.{◌≡◌, Some, None, [], map, IfOk};
 ghost use Rattle.std.specs.Option.{option_map};
@@ -94,7 +94,7 @@ fn set_body(alloc: Global, words: &[&[u8]]) -> Result<Option<Body>, AllocError>
     }
 }
 
-/// What has no further words.
+/// A value, if no words follow.
 fn alone<A: Drop>(words: &[&[u8]], what: A) -> Option<A>
     ensures { result ≡ alone (map (λ w. w.now) words.now) what }
 {
@@ -175,7 +175,7 @@ fn tell(words: &[&[u8]]) -> Option<Act>
     }
 }
 
-/// What a station does, by the name of the line and the words after the station's address.
+/// Act of a station, by the name of the line and the words after the station's address.
 fn act_of(alloc: Global, name: &[u8], words: &[&[u8]]) -> Result<Option<Act>, AllocError>
     ensures { IfOk result (λ act. act ≡ act_of name.now (map (λ w. w.now) words.now)) }
 {
@@ -186,7 +186,7 @@ fn act_of(alloc: Global, name: &[u8], words: &[&[u8]]) -> Result<Option<Act>, Al
     }
 }
 
-/// A move of the station that is named first.
+/// A move of the station that the first word names.
 pub(crate) fn acting(
     alloc: Global,
     name: &[u8],

@@ -6,7 +6,7 @@ ghost use Rattle.siman_scripts.specs.Nearest.{common_length, is_swapped, is_one_
 use crate::form::{FORMS, Form, form_name, form_named};
 use std::alloc::{AllocError, Global};
 
-/// How many bytes two words begin with alike.
+/// Length of the longest common prefix of two words.
 fn common_length(a: &[u8], b: &[u8]) -> usize
     ensures value { result ≡ common_length a.now b.now }
     ensures within { result ≤ length a.now }
@@ -18,7 +18,7 @@ fn common_length(a: &[u8], b: &[u8]) -> usize
     count
 }
 
-/// What is left of a word behind its first bytes.
+/// A word without its first `count` bytes.
 fn rest(word: &[u8], count: usize) -> &[u8]
     ensures { result.now ≡ drop count word.now }
 {
@@ -29,7 +29,7 @@ fn rest(word: &[u8], count: usize) -> &[u8]
     }
 }
 
-/// Whether each begins with two bytes, the other one's the other way round.
+/// Whether the first two bytes of one word are those of the other, swapped.
 fn is_swapped(a: &[u8], b: &[u8]) -> bool
     ensures { result ≡ is_swapped a.now b.now }
 {

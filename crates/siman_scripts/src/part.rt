@@ -3,42 +3,42 @@
 ghost use Rattle.std.specs.Prelude.{◌≡◌};
 ghost use Rattle.siman_scripts.specs.Draft.{wants_exercise, takes_stations, takes_outfits, takes_moves};
 
-/// The part in which the next line of a script may stand; it may stand in a later one too, but for
-/// the part of the exercise.
+/// The part to which the next line of a script may belong; it may also belong to a later one,
+/// except in the part of the exercise.
 #[derive(Clone, Copy)]
 pub(crate) enum Part {
-    /// The line of the exercise.
+    /// The `exercise` line.
     Exercise,
-    /// Its stations.
+    /// The `station` lines.
     Stations,
-    /// What stations open with, hold and know.
+    /// The outfits of stations: the entities that they open with, their datums and actions.
     Outfits,
     /// Moves.
     Moves,
 }
 
-/// Whether the line of the exercise may come.
+/// Whether the `exercise` line may follow.
 pub(crate) fn wants_exercise(part: Part) -> bool
     ensures { result ≡ wants_exercise part }
 {
     part == Part::Exercise
 }
 
-/// Whether a station may come.
+/// Whether a `station` line may follow.
 pub(crate) fn takes_stations(part: Part) -> bool
     ensures { result ≡ takes_stations part }
 {
     part == Part::Stations
 }
 
-/// Whether a line of an outfit may come.
+/// Whether a line of an outfit may follow.
 pub(crate) fn takes_outfits(part: Part) -> bool
     ensures { result ≡ takes_outfits part }
 {
     matches!(part, Part::Stations | Part::Outfits)
 }
 
-/// Whether a move may come.
+/// Whether a move may follow.
 pub(crate) fn takes_moves(part: Part) -> bool
     ensures { result ≡ takes_moves part }
 {

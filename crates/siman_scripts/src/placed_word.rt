@@ -14,7 +14,7 @@ pub struct PlacedWord<'a> {
     pub word: &'a [u8],
 }
 
-/// The words of a line with their columns: one space stands between two of them.
+/// The words of a line with their columns; single spaces separate them.
 pub fn placed_words(alloc: Global, line: &[u8]) -> Result<Vec<PlacedWord<'_>>, AllocError>
     ensures { IfOk result (λ words. map (λ p. (p.column, p.word.now)) words.items ≡ placed_words_of line.now) }
 {
@@ -31,8 +31,8 @@ pub fn placed_words(alloc: Global, line: &[u8]) -> Result<Vec<PlacedWord<'_>>, A
     Ok(placed)
 }
 
-/// A law of the words of a line with their columns: they are the words of the line, and each
-/// stands at its column. The call does nothing when it runs.
+/// A law of the words of a line with their columns: they are the words of the line, each at its
+/// column. The call does nothing at run time.
 pub fn words_stand_at_their_columns(line: &[u8])
     ensures words { map (λ p. p.1) (placed_words_of line.now) ≡ words_of line.now }
     ensures columns { All (StandsAt line.now) (placed_words_of line.now) }

@@ -31,7 +31,7 @@ struct Pieces {
     fifth: Piece,
 }
 
-/// A line of a form.
+/// Form of a line, as it is written.
 fn form_text(form: Form) -> &'static str
     ensures { result.now ≡ form_text form }
 {
@@ -55,7 +55,7 @@ fn form_text(form: Form) -> &'static str
     }
 }
 
-/// What is expected where a word of a kind is; a number goes on with the largest.
+/// What is expected instead of a word that is not of this kind; for a number the largest follows.
 fn kind_words(kind: WordKind) -> &'static str
     ensures { result.now ≡ kind_words kind }
 {
@@ -80,7 +80,7 @@ fn kind_largest(kind: WordKind) -> Piece
     }
 }
 
-/// Three pieces.
+/// A text in three pieces.
 fn three(first: Piece, second: Piece, third: Piece) -> Pieces
     ensures { result ≡ record { first = first; second = second; third = third; fourth = Piece.Nothing; fifth = Piece.Nothing } }
 {
@@ -93,7 +93,7 @@ fn three(first: Piece, second: Piece, third: Piece) -> Pieces
     }
 }
 
-/// Why a line by itself is refused, where it is said in the same words each time.
+/// Fixed words for a reason of a line by itself; empty if the words vary.
 fn plain_line_text(why: LineWhy) -> &'static str
     ensures { result.now ≡ plain_line_text why }
 {
@@ -114,7 +114,7 @@ fn plain_line_text(why: LineWhy) -> &'static str
     }
 }
 
-/// Why a line by itself is refused.
+/// Text of a reason of a line by itself.
 fn line_pieces(why: LineWhy) -> Pieces
     ensures { pieces_text result ≡ line_text why }
 {
@@ -141,7 +141,7 @@ fn line_pieces(why: LineWhy) -> Pieces
     }
 }
 
-/// Why a line of a script is refused, where it is said in the same words each time.
+/// Fixed words for a reason of a line; empty if the words vary.
 fn plain_text(why: Why) -> &'static str
     ensures { result.now ≡ plain_text why }
 {
@@ -165,7 +165,7 @@ fn plain_text(why: Why) -> &'static str
     }
 }
 
-/// Why a line of a script is refused.
+/// Text of a reason of a line.
 fn why_pieces(why: Why) -> Pieces
     ensures { pieces_text result ≡ why_text why }
 {
@@ -194,7 +194,7 @@ fn why_pieces(why: Why) -> Pieces
     }
 }
 
-/// Where it is; nothing where the whole text is meant.
+/// Text of a place; empty if the reason is about the whole text.
 fn place_pieces(line: usize, column: usize) -> Pieces
     ensures { pieces_text result ≡ place_text line column }
 {
@@ -210,7 +210,7 @@ fn place_pieces(line: usize, column: usize) -> Pieces
     }
 }
 
-/// Why a line that was typed for a station is refused.
+/// Text of a reason of a typed line.
 fn command_pieces(why: CommandWhy) -> Pieces
     ensures { pieces_text result ≡ command_why_text why }
 {
@@ -257,7 +257,8 @@ impl fmt::Display for Pieces {
     }
 }
 
-/// The line, the column and why, without a line end; only why, where the whole text is meant.
+/// Writes the line, the column and the reason, without a line end; only the reason if it is about
+/// the whole text.
 impl fmt::Display for LineReason {
     ghost output = { λ reason. Some (reason_text reason) };
 
@@ -268,7 +269,7 @@ impl fmt::Display for LineReason {
     }
 }
 
-/// The column and why, without a line end.
+/// Writes the column and the reason, without a line end.
 impl fmt::Display for CommandReason {
     ghost output = { λ reason. Some (command_text reason) };
 
@@ -356,7 +357,7 @@ pub fn put_reason<W: Write>(writer: &mut W, reason: LineReason) -> Result<(), Wr
     put_texts(writer, place, why_pieces(reason.why))
 }
 
-/// Writes why a line is no order as it displays, without a line end.
+/// Writes the reason of a typed line as it displays, without a line end.
 pub fn put_command_reason<W: Write>(
     writer: &mut W,
     reason: CommandReason,

@@ -16,7 +16,7 @@ use crate::world_station::WorldStation;
 use std::alloc::Global;
 use std::marker::Model;
 
-/// How many bytes a script has at most (profile).
+/// Most bytes of a script (profile).
 pub const LARGEST_SCRIPT: usize = 1_048_576;
 
 /// A script: the exercise of a world, its stations by rising addresses, and its moves. Contracts
@@ -47,7 +47,7 @@ pub(crate) fn take_line(alloc: Global, draft: &mut Draft, line: &[u8]) -> Result
     }
 }
 
-/// What the lines of a text give, and how many there are.
+/// The draft of the lines of a text, and the number of lines.
 fn take_lines(alloc: Global, text: &[u8]) -> Result<(Draft, usize), ScriptFault>
     requires { length text.now ≤ LARGEST_SCRIPT }
     ensures lines { MatchResult result (λ r. lines_after blank 0 (lines_of text.now) ≡ Ok r.0) (λ fault. Refuses fault (lines_after blank 0 (lines_of text.now))) }
@@ -68,8 +68,8 @@ fn take_lines(alloc: Global, text: &[u8]) -> Result<(Draft, usize), ScriptFault>
     Ok((draft, count))
 }
 
-/// The script that a text spells, or its first refusal by the order of lines. It is the same
-/// whichever lines end it: the last may lack its line feed.
+/// The script that a text spells, or its first refusal by the order of lines. The last line may
+/// lack its line feed.
 pub fn read_script(alloc: Global, text: &[u8]) -> Result<Script, ScriptFault>
     ensures { Gives result (script_at text.now) }
 {

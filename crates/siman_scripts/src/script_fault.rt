@@ -8,13 +8,12 @@ use crate::line_fault::LineFault;
 use std::alloc::AllocError;
 use thiserror::Error;
 
-/// Why a text is no script: its first line, in their order, that is refused. Lines are counted
-/// from 1.
+/// Why a text is no script: its first refused line. Lines are counted from 1.
 #[derive(Clone, Copy, Debug, PartialEq, Eq, Error)]
 pub enum ScriptFault {
-    /// The line of this number is of no form, out of its part, or not as the lines before it want
-    /// it; the line after the last where the exercise or a station is missing; 0 where the text
-    /// has more than 1,048,576 bytes.
+    /// The line of this number has no valid form, is out of its part, or conflicts with the lines
+    /// before; the line after the last if the exercise or a station is missing; 0 if the text has
+    /// more than 1,048,576 bytes.
     #[error("bad-line at line {0}")]
     BadLine(usize),
     /// The line of this number names a station that has no line.
@@ -33,7 +32,7 @@ impl From<AllocError> for ScriptFault {
     }
 }
 
-/// The fault of the line of this number.
+/// Fault of the line of this number.
 pub(crate) fn fault_at(line: usize, fault: LineFault) -> ScriptFault
     ensures { result ≡ fault_at line fault }
 {

@@ -1,4 +1,4 @@
-//! Why a text is no script: its first line that is refused, in which column, and why.
+//! Why a text is no script: its first refused line, the column, and the reason.
 
 ghost use Rattle.std.specs.Prelude.{◌≡◌, ◌≤◌, length, IfOk, Ok, None};
 ghost use Rattle.siman_scripts.specs.declared.script.TheConstants.{LARGEST_SCRIPT};
@@ -18,7 +18,7 @@ use crate::text::first_line;
 use crate::why::{LineReason, LineWhy, Why};
 use std::alloc::{AllocError, Global};
 
-/// The column of a word of a line, which is counted from 0.
+/// Column of a word of a line; words are counted from 0.
 fn column_of(alloc: Global, line: &[u8], place: usize) -> Result<usize, AllocError>
     ensures { IfOk result (λ column. column ≡ column_of line.now place) }
 {
@@ -29,7 +29,7 @@ fn column_of(alloc: Global, line: &[u8], place: usize) -> Result<usize, AllocErr
     }
 }
 
-/// Of a line by itself.
+/// Reason of a line that is refused by itself.
 fn by_itself(told: Option<(usize, LineWhy)>) -> Option<(usize, Why)>
     ensures { result ≡ by_itself told }
 {
@@ -53,7 +53,7 @@ fn refusal_of(alloc: Global, draft: &Draft, line: &[u8]) -> Result<Option<(usize
     }
 }
 
-/// Takes one more line, or tells why it is refused, and in which column.
+/// Takes one more line, or returns why it is refused, and in which column.
 fn take_or_tell(
     alloc: Global,
     draft: &mut Draft,
@@ -111,15 +111,15 @@ pub fn reason_of_script(alloc: Global, text: &[u8]) -> Result<Option<LineReason>
 }
 
 /// A law of texts: each has a first reason or is a script, and the reason is of the line of its
-/// fault: of an unknown station where the fault is that, else of a bad line. The call does nothing
-/// when it runs.
+/// fault: of an unknown station if the fault is that, else of a bad line. The call does nothing at
+/// run time.
 pub fn a_text_has_a_reason_or_is_a_script(text: &[u8])
     ensures { Explains text.now }
 {}
 
-/// A law of lines that read well: what a reason says of the lines before is so. An exercise line
-/// stood before or did not, an address that it calls unknown has no station, the station or the
-/// entity before is the one that it names, and not below. The call does nothing when it runs.
+/// A law of lines with a valid form: a reason about the lines before is true. There was an
+/// `exercise` line before or not, no station has an address that it calls unknown, and the station
+/// or the entity before is the one that it names, and not below. The call does nothing at run time.
 pub fn reasons_hold_of_the_lines_before()
     ensures { (d : DraftData) (s : StatementSaid) → HoldsAfter d s }
 {}

@@ -1,27 +1,27 @@
-//! What the lines of a script say.
+//! Statements of the lines of a script.
 
 use crate::act::Act;
 use dis_records::{Address, EntityState, FixedDatum};
 
-/// How the manager half of a station orders.
+/// Rules by which the manager of a station orders.
 #[derive(Clone, Copy)]
 pub(crate) struct ManagerRules {
     /// The request identifier of the first order.
     pub first_id: u32,
-    /// How often an order is sent at most, at least once.
+    /// Most sendings of an order, at least 1.
     pub tries: u32,
-    /// How long after a send it is due.
+    /// Time from the sending of an order until it is due.
     pub wait: u64,
 }
 
-/// What one line of a script says.
+/// Statement of one line of a script.
 #[derive(Drop)]
 pub(crate) enum Statement {
-    /// Nothing: the line is passed over.
+    /// None: the line is ignored.
     Nothing,
     /// The identifier of the exercise.
     Exercise(u8),
-    /// A station, and how it orders.
+    /// A station, and the rules of its manager.
     Station {
         address: Address,
         rules: ManagerRules,
@@ -42,7 +42,7 @@ pub(crate) enum Statement {
         address: Address,
         id: u32,
     },
-    /// What the clocks show from here on.
+    /// The time of the clocks from here on.
     At(u64),
     /// A move of a station.
     Does {

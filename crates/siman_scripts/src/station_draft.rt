@@ -1,4 +1,4 @@
-//! Stations of a script that is being read.
+//! Stations of a script as its lines are read.
 
 ghost use Rattle.std.specs.Prelude.{◌≡◌, ◌++◌, ◌∷◌, [], Some, None, Ok, Err, true, false, ◌≤◌, IsSome, OnOk};
 ghost use Rattle.exercise_model.specs.Station.{is_opening, is_entity, is_absent};
@@ -14,8 +14,8 @@ use exercise_model::{LARGEST_ENTITY, Station};
 use std::alloc::{AllocError, Global};
 use std::marker::Model;
 
-/// A station whose lines are being read: what it opens with, holds and knows grows. Contracts see
-/// it as the station that it is so far.
+/// A station whose lines are being read: its entities, datums and actions are added one by one.
+/// Contracts see it as the station that it is so far.
 #[derive(Drop)]
 pub(crate) struct StationDraft {
     address: Address,
@@ -38,7 +38,7 @@ impl Model for StationDraft {
 }
 
 impl StationDraft {
-    /// A station as its own line tells it.
+    /// A station as its own line describes it.
     pub fn begin(alloc: Global, address: Address, rules: ManagerRules) -> StationDraft
         ensures { result ≡ new_station address rules }
     {
@@ -57,15 +57,15 @@ impl StationDraft {
         self.address
     }
 
-    /// Whether it is the station at an address.
+    /// Whether the station has this address.
     pub fn is_at(&self, address: Address) -> bool
         ensures { result ≡ is_at address self.now }
     {
         self.address.site() == address.site() && self.address.application() == address.application()
     }
 
-    /// It opens with one more entity, of a number in 1..=0xFFFD above those before, in a state
-    /// other than Absent.
+    /// Adds an entity that the station opens with, of a number in 1..=0xFFFD above those before, in
+    /// a state other than Absent.
     pub fn open(&mut self, entity: u16, state: EntityState) -> Result<(), LineFault>
         ensures ok { OnOk result (opened_with entity state self.old ≡ Some self.new) }
         ensures bad { result ≡ Err LineFault.Bad → opened_with entity state self.old ≡ None }
@@ -78,8 +78,8 @@ impl StationDraft {
         Ok(())
     }
 
-    /// Why it does not open with one more entity: the word of its line, from 0, and why. An entity
-    /// and a state that a line can say are refused only by the number before.
+    /// Why an entity is refused: the word of its line, from 0, and the reason. An entity and a
+    /// state that a line can say are refused only for the number before.
     #[tactic(auto, using(crate::proofs::Openings::opens_next))]
     pub fn opening_reason(&self, entity: u16, state: EntityState) -> Option<(usize, Why)>
         ensures reason { result ≡ opening_reason entity state (Some self.now) }
@@ -92,7 +92,7 @@ impl StationDraft {
         }
     }
 
-    /// It holds one more fixed datum.
+    /// Adds a fixed datum that the station holds.
     pub fn hold(&mut self, datum: FixedDatum) -> Result<(), AllocError>
         ensures { OnOk result (self.new ≡ holding datum self.old) }
     {
@@ -100,7 +100,7 @@ impl StationDraft {
         Ok(())
     }
 
-    /// It knows one more action.
+    /// Adds an action that the station knows.
     pub fn know(&mut self, id: u32) -> Result<(), AllocError>
         ensures { OnOk result (self.new ≡ knowing id self.old) }
     {
@@ -108,7 +108,7 @@ impl StationDraft {
         Ok(())
     }
 
-    /// The station.
+    /// The finished station.
     pub fn finish(self, alloc: Global) -> WorldStation
         ensures { result ≡ self }
     {
@@ -131,7 +131,7 @@ impl StationDraft {
     }
 }
 
-/// The number of the last entity, or 0 where there is none.
+/// Number of the last entity, or 0 if there is none.
 fn last_number(opening: &[(u16, EntityState)]) -> u16
     ensures { result ≡ last_number 0 opening.now }
 {
@@ -141,7 +141,7 @@ fn last_number(opening: &[(u16, EntityState)]) -> u16
     }
 }
 
-/// Whether entities may be opened with one more behind them.
+/// Whether an entity may be added behind these.
 #[tactic(auto, using(crate::proofs::Openings::opens_next))]
 fn is_next(opening: &[(u16, EntityState)], entity: u16, state: EntityState) -> bool
     requires { is_opening opening.now ≡ true }

@@ -1,4 +1,4 @@
-//! The text of a script, apart from what its lines say: lines, words, numbers.
+//! Lines, words and numbers of a script, without their meaning.
 
 ghost use Rattle.std.specs.Prelude.{◌≡◌, ◌<◌, ◌≤◌, ◌+◌, ◌-◌, ◌*◌, ◌&&◌, Some, None, ◌∷◌, map, length, position, ◌==◌, nat_le, IfOk, IfSome, if◌then◌else◌};
 ghost use Rattle.std.specs.Option.{option_map};
@@ -6,7 +6,7 @@ ghost use Rattle.siman_scripts.specs.Text.{lines_of, is_ascii, words_of, cut_at,
 
 use std::alloc::{AllocError, Global};
 
-/// The place of the first byte `separator` of a word, if there is one.
+/// Index of the first byte `separator` of a word, if any.
 fn place_of(word: &[u8], separator: u8) -> Option<usize>
     ensures place { result ≡ position (λ b. b == separator) word.now }
     ensures within { IfSome result (λ i. i < length word.now) }
@@ -14,7 +14,7 @@ fn place_of(word: &[u8], separator: u8) -> Option<usize>
     word.iter().position(|b| *b == separator)
 }
 
-/// What stands before the first byte `separator`, and what after it, if there is one.
+/// The parts of a word before and after the first byte `separator`, if any.
 pub fn split_once(word: &[u8], separator: u8) -> Option<(&[u8], &[u8])>
     ensures { option_map (λ p. (p.0.now, p.1.now)) result ≡ cut_at separator word.now }
 {
@@ -24,7 +24,7 @@ pub fn split_once(word: &[u8], separator: u8) -> Option<(&[u8], &[u8])>
     }
 }
 
-/// The first line of a text that has one, without its line feed, and the text after it.
+/// The first line of a text, which must have one, without its line feed, and the text after it.
 pub(crate) fn first_line(text: &[u8]) -> (&[u8], &[u8])
     requires { 0 < length text.now }
     ensures lines { lines_of text.now ≡ result.0.now ∷ lines_of result.1.now }
@@ -36,21 +36,21 @@ pub(crate) fn first_line(text: &[u8]) -> (&[u8], &[u8])
     }
 }
 
-/// Whether each byte of a line is one of ASCII.
+/// Whether all bytes of a line are ASCII.
 pub(crate) fn is_ascii(line: &[u8]) -> bool
     ensures { result ≡ is_ascii line.now }
 {
     line.iter().all(|b| *b < 128)
 }
 
-/// The words of a line: one space stands between two of them.
+/// The words of a line, which single spaces separate.
 pub(crate) fn words(alloc: Global, line: &[u8]) -> Result<Vec<&[u8]>, AllocError>
     ensures { IfOk result (λ words. map (λ w. w.now) words.items ≡ words_of line.now) }
 {
     line.split(|b| *b == b' ').collect(alloc)
 }
 
-/// The number with one more digit, if that is a digit and the number is at most `largest`.
+/// The number with one more digit appended, if it is a digit and the number is at most `largest`.
 fn with_digit(value: u64, digit: u8, largest: u64) -> Option<u64>
     ensures { result ≡ (if is_digit digit && nat_le (10 * value + (digit - 48)) largest then Some (10 * value + (digit - 48)) else None) }
 {

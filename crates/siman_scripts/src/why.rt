@@ -3,12 +3,12 @@
 use crate::form::Form;
 use crate::word_kind::WordKind;
 
-/// Why a line by itself is refused, whatever stands before it.
+/// Why a line by itself is refused, whatever is before it.
 #[derive(Clone, Copy)]
 pub enum LineWhy {
-    /// A byte order mark (EF BB BF) stands there.
+    /// A byte order mark (EF BB BF).
     ByteOrderMark,
-    /// A byte that is not ASCII stands there.
+    /// A byte that is not ASCII.
     NotAscii,
     Tab,
     /// A carriage return in the middle of the line.
@@ -16,17 +16,17 @@ pub enum LineWhy {
     CarriageReturnAtEnd,
     BlankAtBegin,
     BlankAtEnd,
-    /// A blank stands behind another one.
+    /// A blank behind another one.
     TwoBlanks,
-    /// A word that begins with `#` stands behind a line of this form.
+    /// A word that begins with `#`, behind a line of this form.
     Comment(Form),
-    /// The first word is no name of a form; this one is near.
+    /// The first word is no name of a form; this one is near, if any is.
     UnknownName(Option<Form>),
-    /// A line of this form ends where a word of this kind has to follow.
+    /// A line of this form ends before a required word of this kind.
     Missing(Form, WordKind),
     /// A line of this form has a word too many.
     TooMany(Form),
-    /// The word is not of this kind, of which it has to be in a line of this form.
+    /// A word of a line of this form is not of this kind.
     Wrong(Form, WordKind),
 }
 
@@ -37,17 +37,17 @@ pub enum Why {
     Line(LineWhy),
     /// It is a second `exercise` line.
     SecondExercise,
-    /// It comes before the `exercise` line.
+    /// It is before the `exercise` line.
     BeforeExercise,
     /// It is a `station` line, behind lines of a later part.
     LateStation,
-    /// It is a line of what stations open with, hold or know, behind moves.
+    /// It is a line of a station's entities, datums or actions, behind moves.
     LateOutfit,
     /// It is the 257th `station` line.
     TooManyStations,
     /// Its station is not above the one before, which has this site and application.
     StationNotAbove(u16, u16),
-    /// Its entity is not above the one that its station had before.
+    /// Its entity is not above this one, the one before at its station.
     EntityNotAbove(u16),
     /// The station of this site and application has no line.
     UnknownStation(u16, u16),
@@ -59,18 +59,17 @@ pub enum Why {
     TooLong,
 }
 
-/// Why a text is no script: its first line that is refused, in which column, and why.
+/// Why a text is no script: its first refused line, the column, and the reason.
 #[derive(Clone, Copy)]
 pub struct LineReason {
-    /// The line, from 1; the line after the last where the text ends too early, 0 where it is too
-    /// long.
+    /// The line, from 1; the line after the last if the text ends too early, 0 if it is too long.
     pub line: usize,
-    /// The column, in bytes from 1; 0 where the text ends too early or is too long.
+    /// The column, in bytes from 1; 0 if the text ends too early or is too long.
     pub column: usize,
     pub why: Why,
 }
 
-/// Why a line that was typed for a station is refused, and in which column.
+/// Why a typed line is refused, and in which column.
 #[derive(Clone, Copy)]
 pub struct CommandReason {
     /// The column, in bytes from 1.
@@ -78,7 +77,7 @@ pub struct CommandReason {
     pub why: CommandWhy,
 }
 
-/// Why a line that was typed for a station is refused.
+/// Why a typed line is refused.
 #[derive(Clone, Copy)]
 pub enum CommandWhy {
     /// The line by itself is refused.

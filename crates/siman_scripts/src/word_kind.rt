@@ -1,4 +1,4 @@
-//! What the words behind the name of a line are to be.
+//! Kinds of words behind the name of a line.
 
 ghost use Rattle.std.specs.Prelude.{◌≡◌, is_some};
 ghost use Rattle.siman_scripts.specs.Forms.{entity_of, tries_of, wait_of, fits};
@@ -8,7 +8,7 @@ use crate::moves::target_of;
 use crate::text::number;
 use exercise_model::LARGEST_ENTITY;
 
-/// What a word behind the name of a line is to be.
+/// Kind of a word behind the name of a line.
 #[derive(Clone, Copy)]
 pub enum WordKind {
     /// A number, at most this one.
@@ -23,13 +23,13 @@ pub enum WordKind {
     State,
     /// `first=N`, the identifier of the first order, of 32 bits.
     FirstId,
-    /// `tries=N`, how often an order is sent at most, from 1, of 32 bits.
+    /// `tries=N`, the most sendings of an order, from 1, of 32 bits.
     Tries,
-    /// `wait=N`, how long after a send an order is due, of 64 bits.
+    /// `wait=N`, the time from the sending of an order until it is due, of 64 bits.
     Wait,
 }
 
-/// The number of an entity that a station may open with.
+/// Number of an entity that a station may open with, if a word spells one.
 fn entity_of(word: &[u8]) -> Option<u16>
     ensures { result ≡ entity_of word.now }
 {
@@ -41,7 +41,7 @@ fn entity_of(word: &[u8]) -> Option<u16>
     }
 }
 
-/// How often an order is sent at most.
+/// Most sendings of an order.
 fn tries_of(word: &[u8]) -> Option<u32>
     ensures { result ≡ tries_of word.now }
 {
@@ -49,7 +49,7 @@ fn tries_of(word: &[u8]) -> Option<u32>
     if tries < 1 { None } else { Some(tries) }
 }
 
-/// How long after a send an order is due.
+/// Time from the sending of an order until it is due.
 fn wait_of(word: &[u8]) -> Option<u64>
     ensures { result ≡ wait_of word.now }
 {

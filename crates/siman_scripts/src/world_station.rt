@@ -4,16 +4,16 @@ use dis_records::{FixedDatum, VariableDatum};
 use exercise_model::Station;
 use std::marker::Model;
 
-/// A station of a world, with both halves. Contracts see its lists.
+/// A station of a world, with manager and application. Contracts see its lists.
 #[derive(Drop)]
 pub struct WorldStation {
-    /// Whose station it is, and the entities that it opens with.
+    /// Its address, and the entities that it opens with.
     pub station: Station,
     /// The request identifier of its first order.
     pub first_id: u32,
-    /// How often an order is sent at most.
+    /// Most sendings of an order.
     pub tries: u32,
-    /// How long after a send an order is due, in the units of a move's `now`.
+    /// Time from the sending of an order until it is due, in the units of a move's `now`.
     pub wait: u64,
     /// The fixed datums that it holds; of a repeated identifier the last counts.
     pub fixed: Vec<FixedDatum>,

@@ -1,4 +1,4 @@
--- What came of a line of text in a session, and how it is told (profile).
+-- Result of a line of text in a session, and its report (profile).
 use Rattle.std.specs.Prelude.{ℕ, Bool, true, false, ◌||◌, List, [], ◌++◌, codes, decimal, Option, Some, None, Result, Ok, Err, if◌then◌else◌}
 use Rattle.siman_manager.specs.declared.fault.OrderFault.TheVariants as orders
 use Rattle.siman_stations.specs.declared.station_fault.StationFault.{StationFault}
@@ -40,16 +40,16 @@ wants_memory came = (is_unremembered came.line.done || came.line.trouble.memory)
 abbrev pub is_unwritten : Came → Bool
 is_unwritten came = is_over came.line || is_write came.silenced
 
--- the exit status that it asks for
+-- the exit status of a line
 abbrev pub status_of : Came → ℕ
 status_of came =
     if wants_memory came then 3
     else if is_undone came.line.done || (is_lost came || is_unwritten came) then 2
     else 0
 
--- What is told.
+-- Reports.
 
--- the name of why a station cannot do what it is asked to
+-- the name of a station fault, as printed
 abbrev pub station_fault_name : StationFault → List ℕ
 station_fault_name stations.NoSuchEntity = codes "no-such-entity"
 station_fault_name stations.NotARequest = codes "not-a-request"
@@ -67,7 +67,8 @@ named name = (codes ": " ++ name) ++ line_end
 abbrev pub told_line : (number : ℕ) → (name : List ℕ) → List ℕ
 told_line number name = at_line number ++ named name
 
--- why what a line asks for was not done, and what explains it; of what fails by itself nothing
+-- the report of a line that was not done, with its explanation; empty for failures of the link, the recorder or
+-- memory, which have reports of their own
 abbrev pub why_text : (number : ℕ) → Came → Undone → List ℕ
 why_text number came undone.BadLine = told_line number (codes "bad-line") ++ bad_text came.reason
 why_text number came undone.UnknownStation = told_line number (codes "unknown-station") ++ alone_text came.site came.application
@@ -80,7 +81,7 @@ abbrev pub refused_text : (number : ℕ) → Came → Result (Unit {0}) Undone �
 refused_text number came (Ok x) = []
 refused_text number came (Err why) = why_text number came why
 
--- line N: live: line, and which call failed, if that is known
+-- line N: live: line, and which call failed, if it is known
 abbrev pub line_text : (number : ℕ) → (lost : Bool) → Option LineTrouble → List ℕ
 line_text number lost trouble = if lost then told_line number (codes "live: line") ++ lost_text trouble else []
 
@@ -107,6 +108,8 @@ abbrev pub warning_text : (number : ℕ) → (nobody : Option (ℕ × ℕ)) → 
 warning_text number None = []
 warning_text number (Some (site, application)) = warned_line number site application
 
--- WHAT IS TOLD OF THE LINE OF A NUMBER: why it was not done, and that a call of the line of the station failed, each with a second line that explains it; that memory ran out; that an entry was not recorded or not printed; and a warning of an order for a station that the script lacks
+-- THE REPORT OF A LINE, given its number: why it was not done, and that a call of the station's link failed, each
+-- with a second line that explains it; that memory ran out; that an entry was not recorded or not printed; and a
+-- warning of an order for a station that the script lacks
 abbrev pub told_of : (number : ℕ) → Came → List ℕ
 told_of number came = failed_text number came ++ warning_text number came.nobody

@@ -19,22 +19,23 @@ session_line records dropped strangers =
 abbrev pub session_text : (records dropped strangers : ℕ) → List ℕ
 session_text records dropped strangers = line_text (session_line records dropped strangers)
 
--- THE LINE OF COUNTS is printed: whole; a prefix, or all of it, where a write or a flush failed; nothing, where memory ran out
+-- THE ROW OF COUNTS is printed: whole; a prefix, or all of it, if a write or a flush failed; nothing, if memory ran
+-- out
 abbrev pub PrintsCounts : List ℕ → (old new : Option (List ℕ)) → Result (Unit {0}) PrintFault → Type 0
 PrintsCounts text old new (Ok x) = Appends old new text
 PrintsCounts text old new (Err prints.Write) = WritesPart old new text
 PrintsCounts text old new (Err prints.Memory) = Keeps old new
 
--- nothing, where an entry was not printed before
+-- the row of counts; nothing, if an entry was not printed before
 abbrev pub PrintsEnd : Option PrintFault → List ℕ → (old new : Option (List ℕ)) → Result (Unit {0}) PrintFault → Type 0
 PrintsEnd None text old new closed = PrintsCounts text old new closed
 PrintsEnd (Some fault) text old new closed = (closed ≡ Ok tt) × (new ≡ old)
 
--- The recording has no end: it was spent before, or a prefix of the end was written
+-- the recording has no end: it was spent before, or a prefix of the end was written
 abbrev pub IsUnended : (old new : WriterState) → Type 0
 IsUnended old new = ((old.spent ≡ true) × (new ≡ old)) ⊎ ((finish_refusal old ≡ None) × Tears old new (end_text old.entries))
 
--- THE RECORDING IS ENDED, and its counts are printed; or it is not, and nothing is printed
+-- THE RECORDING IS ENDED and its counts are printed; or the end failed, and nothing is printed
 abbrev pub Closes : {L : Type 0} → (strangers : L → ℕ) → Post L → (w v : WriterState) → (old new : Option (List ℕ)) → Result (Unit {0}) PrintFault → Type 0
 Closes strangers post w v old new closed =
     (IsUnended w v × (closed ≡ Err prints.Write) × (new ≡ old))

@@ -1,4 +1,4 @@
--- The second line of what is told of a line of text: what a person needs to mend it (profile).
+-- Second line of a report: what a person needs to correct a line of text (profile).
 use Rattle.std.specs.Prelude.{ℕ, List, [], ◌++◌, codes, decimal, Option, Some, None}
 use Rattle.siman_manager.specs.declared.fault.OrderFault.TheVariants as orders
 use Rattle.siman_stations.specs.declared.station_fault.StationFault.{StationFault}
@@ -22,14 +22,14 @@ bad_text None = []
 bad_text (Some reasons.TooLong) = second (codes "the line has more than 65536 bytes")
 bad_text (Some (reasons.NoOrder reason)) = second (command_text reason)
 
--- the station that alone is played
+-- the only station that the session plays
 abbrev pub alone_words : (site application : ℕ) → List ℕ
 alone_words site application = (codes "this session plays station " ++ decimal site) ++ ((codes ":" ++ decimal application) ++ codes " alone")
 
 abbrev pub alone_text : (site application : ℕ) → List ℕ
 alone_text site application = second (alone_words site application)
 
--- what would do where a station cannot do what it is asked to
+-- the remedy for a station fault, in words
 abbrev pub station_words : StationFault → List ℕ
 station_words stations.NoSuchEntity = codes "the number of an entity is from 1 to 65533"
 station_words stations.NotARequest = codes "an order is one of do, query, set, create, remove, start and stop"
@@ -40,12 +40,12 @@ station_words (stations.Order orders.Memory) = codes "memory ran out and the ord
 abbrev pub station_text : StationFault → List ℕ
 station_text fault = second (station_words fault)
 
--- which call of the line of the station failed, if it is known
+-- which call of the station's link failed, if it is known
 abbrev pub lost_text : Option LineTrouble → List ℕ
 lost_text None = []
 lost_text (Some trouble) = second (line_trouble_text trouble)
 
--- Of what is written.
+-- Texts.
 
 abbrev pub explanation_text : Explanation → List ℕ
 explanation_text (Words words) = words.now

@@ -8,15 +8,15 @@ use Rattle.siman_sessions.specs.declared.reading.TheConstants.{LONGEST_LINE}
 use Rattle.siman_sessions.specs.declared.reason.BadReason.{BadReason}
 use Rattle.siman_sessions.specs.declared.reason.BadReason.TheVariants as reasons
 
--- WHY A LINE IS BAD: it is longer than any may be, or no order for a station
+-- WHY A LINE IS BAD: it is longer than LONGEST_LINE, or no order for a station
 abbrev pub bad_reason : List ℕ → Option BadReason
 bad_reason line = if nat_le (length line) LONGEST_LINE then option_map reasons.NoOrder (command_reason line) else Some reasons.TooLong
 
--- that; or nothing, where memory ran out, of which a line that is too long has no need
+-- the reason of a line, which may be missing only if memory ran out; a line that is too long needs no memory
 abbrev pub IsReason : List ℕ → Option BadReason → Type 0
 IsReason line reason = (reason ≡ bad_reason line) ⊎ ((reason ≡ None) × (length line ≤ LONGEST_LINE))
 
--- WHAT IS TOLD of why a line was refused: of one that is not bad nothing
+-- THE REASON FOR WHICH A LINE WAS REFUSED; none, if it was not refused as bad
 abbrev pub Reasons : List ℕ → Result (Unit {0}) Undone → Option BadReason → Type 0
 Reasons line (Err undone.BadLine) reason = IsReason line reason
 Reasons line other reason = reason ≡ None

@@ -1,4 +1,4 @@
--- A session from the start of its recording to its end (profile). Histories have THE LAST EVENT FIRST.
+-- A recorded session, from the start of the recording to its end (profile). Histories have THE LAST EVENT FIRST.
 use Rattle.std.specs.Prelude.{◌≡◌, ◌≤◌, ◌⊎◌, ℕ, List, ◌++◌, length, Option, Some, None, Ok, Err}
 use Rattle.std.specs.Io.KnownBytes.{Appends}
 use Rattle.byte_files.specs.Writing.{WritesPart}
@@ -23,25 +23,26 @@ use Rattle.siman_sessions.specs.declared.told.Told.{Told}
 use Rattle.siman_sessions.specs.Sessions.{AtPost, Plays}
 use Rattle.siman_sessions.specs.Told.{TellsMore, closed_text}
 
--- the setting of the recording that a session writes: that of its station alone, in the second format, open
+-- the setting of the recording that a session writes: its station alone, in the second format, open
 abbrev pub open_setting : PlainRecording → SettingData
 open_setting head = record { form = Open; exercise = head.setting.exercise; stations = head.setting.stations }
 
--- A STATION AT ITS POST as it is begun: it is the only one of its recording, nothing came to it and it made no order, its line was handed nothing, and nothing hinders printing
+-- A STATION IN ITS INITIAL STATE: it is the only one of its recording, it has received nothing and made no order,
+-- its link has sent nothing, and printing has not failed
 pub record IsReady {L : Type 0} (ready : Ready L) : Type 0 where
   pub one : length ready.head.setting.stations ≡ 1
   pub index : ready.post.station.index ≡ 0
   pub fault : ready.post.printer.fault ≡ None
   pub fresh : IsFresh 0 ready.post.station.node (open_setting ready.head) (Some (sent_through ready.post.station.line))
 
--- A POST IS PLAYED over a recorder; what its file has is what the recorder wrote
+-- a post is played with a recorder; its file has what the recorder wrote
 abbrev pub RecordsBegun : {L : Type 0} → (stations : List Pair) → (strangers : L → ℕ) → (known : Option (List ℕ)) → Post L → WriterState → (out out_after errors errors_after : Option (List ℕ))
     → (file : Option (List ℕ)) → Told → Type 0
 RecordsBegun {L} stations strangers known post w out out_after errors errors_after file told =
     (after : AtPost L) × (after.out ≡ out_after) × (file ≡ after.recorder.contents)
     × (let before : AtPost L = record { post = post; recorder = w; out = out } in Plays stations strangers known before after errors errors_after told)
 
--- the head was not written whole: that is told, and no line is read
+-- the head was not written whole: this is reported, and no line is read
 pub record RecordsNone (w : SettingData) (file file_after out out_after errors errors_after : Option (List ℕ)) (told : Told) : Type 0 where
   pub head : WritesPart file file_after (head_text w)
   pub out_is : out_after ≡ out
@@ -55,7 +56,10 @@ Records strangers known ready file file_after out out_after errors errors_after 
     RecordsNone (open_setting ready.head) file file_after out out_after errors errors_after told
     ⊎ ((w : WriterState) × Starts file (open_setting ready.head) w × RecordsBegun ready.stations.items strangers known ready.post w out out_after errors errors_after file_after told)
 
--- WHAT STANDS IN THE FILE: the text of a recording of some entries and at most one more, or a beginning of it; with status 0 that of these entries, whole. And what the station recorded is explained: the entries of each beginning are a run in the order of the file in which no datagram that was received names the station as its originator, but what it had sent before, where no site and application used one request identifier for two orders.
+-- WHAT THE FILE HAS: the text of a recording of some entries and at most one more, or a prefix of it; with status 0
+-- the whole text with these entries. What the station recorded is explained: each prefix of the entries is a run in
+-- the order of the file, if no received datagram names the station as its originator except what it had sent
+-- before, and if no site and application used one request identifier for two orders
 pub record IsLeft (w : SettingData) (outfit : Outfit) (status : ℕ) (file file_after : Option (List ℕ)) : Type 0 where
   pub entries : List Entry
   pub torn : List Entry

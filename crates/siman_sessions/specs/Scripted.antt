@@ -13,7 +13,7 @@ use Rattle.siman_sessions.specs.declared.scripted.SetUp.{SetUp}
 use Rattle.siman_sessions.specs.declared.scripted.SetUpFault.{SetUpFault}
 use Rattle.siman_sessions.specs.declared.scripted.SetUpFault.TheVariants as faults
 
--- the station at an address, if there is one
+-- the station at an address, if any
 abbrev pub station_at : Pair → List WorldStationData → Option WorldStationData
 station_at a ss = option_and_then (slice_get ss) (index_of a ss)
 
@@ -21,13 +21,14 @@ station_at a ss = option_and_then (slice_get ss) (index_of a ss)
 abbrev pub addresses_of : List WorldStationData → List Pair
 addresses_of ss = map (λ s. s.station.address) ss
 
--- A STATION IS SET UP by itself: a recording of it has no entries, and its halves are as they are begun; with it go the addresses of all stations of its script
+-- A CONFIGURED STATION: its recording has no entries, its manager and application are in their initial state, and
+-- it has the addresses of all stations of its script
 pub record IsSetUp (exercise : ℕ) (addresses : List Pair) (s : WorldStationData) (set_up : SetUp) : Type 0 where
   pub head : set_up.head ≡ opened (record { form = First; exercise = exercise; stations = s.station ∷ [] })
   pub node : IsNewNode exercise s set_up.node
   pub stations : set_up.stations.items ≡ addresses
 
--- or it is none that a world can have, or memory ran out
+-- a configured station; or a fault: no world can have this station, or memory ran out
 abbrev pub SetsUpOne : (exercise : ℕ) → (addresses : List Pair) → WorldStationData → Result SetUp SetUpFault → Type 0
 SetsUpOne exercise addresses s (Ok set_up) = IsSetUp exercise addresses s set_up
 SetsUpOne exercise addresses s (Err faults.NotInSetup) = ⊥

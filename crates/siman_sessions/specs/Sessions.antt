@@ -24,24 +24,25 @@ use Rattle.siman_sessions.specs.Receiver.{WarnsOf}
 use Rattle.siman_sessions.specs.Told.{TellsMore, closed_status, closed_text, unread_text}
 use Rattle.std.specs.Prelude.{Result}
 
--- Of lines.
+-- Lines.
 
--- why no further entry is printed, where nothing had hindered that before
+-- why printing stopped at this line; none, if it goes on or had stopped before
 abbrev pub silenced_by : (before after : Option PrintFault) → Option PrintFault
 silenced_by None after = after
 silenced_by (Some fault) after = None
 
--- a post over its recorder
+-- a post with its recorder
 pub record AtRecorder (L : Type 0) : Type 0 where
   pub post : Post L
   pub recorder : WriterState
 
--- a line, and what came of it
+-- a line and its result
 pub record Taken : Type 0 where
   pub line : List ℕ
   pub came : Came
 
--- A LINE IS TAKEN, as what it says; of a bad one it is told why, and of an order that none of the stations of the script gets, for whom it is
+-- A LINE IS TAKEN as the command that it says; a bad line has its reason in the result, and an order that no
+-- station of the script receives has its receiver there
 pub record TakesOne {L : Type 0} (stations : List Pair) (told : Telling (NotingLine L)) (t : Taken) (old new : AtRecorder L) : Type 0 where
   pub takes : TakesLine told (said_by t.line) old.post old.recorder new.post new.recorder t.came.line
   pub silenced : t.came.silenced ≡ silenced_by old.post.printer.fault new.post.printer.fault
@@ -58,33 +59,34 @@ TakesAll {L} stations told (t ∷ ts) old new = (mid : AtRecorder L) × TakesOne
 abbrev pub lines_in : List Taken → List (List ℕ)
 lines_in ts = map (λ t. t.line) ts
 
--- WHAT IS TOLD of lines, the first by this number
+-- THE REPORT OF LINES, given the number of the first
 abbrev pub told_from : (number : ℕ) → List Taken → List ℕ
 told_from n [] = []
 told_from n (t ∷ ts) = told_of n t.came ++ told_from (n + 1) ts
 
--- the worst exit status that they ask for
+-- the worst exit status of lines
 abbrev pub worst_of : List Taken → ℕ
 worst_of [] = 0
 worst_of (t ∷ ts) = max (status_of t.came) (worst_of ts)
 
--- Where it stops.
+-- The stop.
 
--- after each of them a further line may be taken
+-- after each of these lines a further line may be taken
 abbrev pub MayGoOn : List Taken → Type 0
 MayGoOn ts = AllByRecursion (λ t. is_over t.came.line ≡ false) ts
 
--- an entry was not recorded at the last of them, and at no other
+-- an entry was not recorded at the last of these lines, and at no other
 abbrev pub IsOver : List Taken → Type 0
 IsOver ts = (front : List Taken) × (last : Taken) × (ts ≡ front ++ last ∷ []) × MayGoOn front × (is_over last.came.line ≡ true)
 
--- WHY NO FURTHER LINE IS TAKEN: all lines of the text were; or the first ones, after which a read failed, or at the last of which an entry was not recorded
+-- WHY NO FURTHER LINE IS TAKEN: all lines of the text were taken; or only the first ones, since a read failed or an
+-- entry was not recorded at the last one
 abbrev pub Stops : (known : Option (List ℕ)) → Stop → List Taken → Type 0
 Stops known stops.End ts = MayGoOn ts × AreLines known (lines_in ts)
 Stops known stops.Unread ts = MayGoOn ts × AreFirstLines known (lines_in ts)
 Stops known stops.Unrecorded ts = IsOver ts × AreFirstLines known (lines_in ts)
 
--- THE LINES OF A TEXT ARE PLAYED: taken up to where it stops, and told, with the worst status of them
+-- THE LINES OF A TEXT ARE PLAYED: taken up to the stop, and reported, with their worst status
 pub record PlaysLines {L : Type 0} (stations : List Pair) (told : Telling (NotingLine L)) (known : Option (List ℕ)) (old new : AtRecorder L)
     (errors errors_after : Option (List ℕ)) (played : Played) : Type 0 where
   pub taken : List Taken
@@ -93,15 +95,15 @@ pub record PlaysLines {L : Type 0} (stations : List Pair) (told : Telling (Notin
   pub status : played.told.status ≡ worst_of taken
   pub tells : Writes played.told.written errors errors_after (told_from 1 taken)
 
--- Of the whole.
+-- The whole session.
 
--- a post over its recorder, and what stands on the writer of its entries
+-- a post with its recorder, and the output of its entries
 pub record AtPost (L : Type 0) : Type 0 where
   pub post : Post L
   pub recorder : WriterState
   pub out : Option (List ℕ)
 
--- that as a post that goes on
+-- the state of the post in it
 abbrev pub going : {L : Type 0} → AtPost L → PostState L
 going a = record {
   station = a.post.station;
@@ -110,7 +112,7 @@ going a = record {
   printing = record { out = a.out; fault = a.post.printer.fault };
 }
 
--- the recording is ended, and its counts are printed, and what failed of that is told besides
+-- the recording is ended and its counts are printed, and a failure of either is reported
 pub record ClosesAt {L : Type 0} (strangers : L → ℕ) (post : Post L) (w v : WriterState) (out out_after : Option (List ℕ)) (before after : Told)
     (errors errors_after : Option (List ℕ)) : Type 0 where
   pub closed : Result (Unit {0}) PrintFault
@@ -118,12 +120,13 @@ pub record ClosesAt {L : Type 0} (strangers : L → ℕ) (post : Post L) (w v : 
   pub status : after.status ≡ max before.status (closed_status closed)
   pub tells : TellsMore before.written after.written errors errors_after (closed_text closed)
 
--- that a read failed is told besides
+-- a failed read is reported
 pub record TellsUnread (before after : Told) (errors errors_after : Option (List ℕ)) : Type 0 where
   pub status : after.status ≡ max before.status 2
   pub tells : TellsMore before.written after.written errors errors_after unread_text
 
--- HOW IT ENDS whose lines stopped so: at the end of the text, and where a read failed, the recording is ended; nothing more is done where an entry was not recorded
+-- THE END OF A SESSION, by why its lines stopped: at the end of the text, or after a failed read, the recording is
+-- ended; if an entry was not recorded, nothing more is done
 abbrev pub EndsSession : {L : Type 0} → (strangers : L → ℕ) → Post L → Stop → (w v : WriterState) → (out out_after : Option (List ℕ)) → (before after : Told)
     → (errors errors_after : Option (List ℕ)) → Type 0
 EndsSession strangers post stops.End w v out out_after before after errors errors_after =
@@ -133,9 +136,10 @@ EndsSession strangers post stops.Unread w v out out_after before after errors er
 EndsSession strangers post stops.Unrecorded w v out out_after before after errors errors_after =
     (v ≡ w) × (out_after ≡ out) × (after ≡ before) × (errors_after ≡ errors)
 
--- A POST IS PLAYED by the lines of a text, to the end, among these stations
+-- A POST IS PLAYED by the lines of a text, to the end, with these stations in its script
 pub record Plays {L : Type 0} (stations : List Pair) (strangers : L → ℕ) (known : Option (List ℕ)) (old new : AtPost L) (errors errors_after : Option (List ℕ)) (told : Told) : Type 0 where
-  -- the post after the lines is the post at the end; its recorder, what is printed, and what is told
+  -- the post after the lines is the post at the end; intermediate values are its recorder, the output and the
+  -- reports
   pub recorder : WriterState
   pub out : Option (List ℕ)
   pub told_so_far : Option (List ℕ)

@@ -1,4 +1,4 @@
--- What a session tells besides what it told before, and of its end (profile).
+-- Reports of a session, each behind the ones before, and those of its end (profile).
 use Rattle.std.specs.Prelude.{◌≡◌, ℕ, List, [], ◌++◌, codes, Option, Result, Ok, Err}
 use Rattle.std.specs.Io.KnownBytes.{Keeps}
 use Rattle.byte_files.specs.Writing.{Writes}
@@ -7,28 +7,28 @@ use Rattle.siman_reports.specs.Records.{line_end}
 use Rattle.siman_posts.specs.declared.printing.PrintFault.{PrintFault}
 use Rattle.siman_posts.specs.declared.printing.PrintFault.TheVariants as prints
 
--- whether all that was told is written
+-- whether all reports were written
 abbrev pub Wrote : Type 0
 Wrote = Result (Unit {0}) WriteFailed
 
--- A text is told behind what was told before, or a prefix of it; nothing, where an earlier one was not written whole
+-- a report is written behind the ones before, or a prefix of it; nothing, if an earlier one was not written whole
 abbrev pub TellsMore : (before after : Wrote) → (old new : Option (List ℕ)) → List ℕ → Type 0
 TellsMore (Ok x) after old new text = Writes after old new text
 TellsMore (Err failed) after old new text = (after ≡ Err failed) × Keeps old new
 
--- that the text of the lines was not read to its end
+-- the report that the text of the lines was not read to its end
 abbrev pub unread_text : List ℕ
 unread_text = codes "file: -" ++ line_end
 
--- Of the end.
+-- The end.
 
--- that the recording has no end, or that its counts were not printed whole
+-- the report that the recording has no end, or that its counts were not printed whole
 abbrev pub closed_text : Result (Unit {0}) PrintFault → List ℕ
 closed_text (Ok x) = []
 closed_text (Err prints.Write) = codes "output: write" ++ line_end
 closed_text (Err prints.Memory) = codes "memory" ++ line_end
 
--- the exit status that it asks for
+-- the exit status of the end
 abbrev pub closed_status : Result (Unit {0}) PrintFault → ℕ
 closed_status (Ok x) = 0
 closed_status (Err prints.Write) = 2

@@ -1,4 +1,4 @@
-//! What came of a line of text in a session, and how it is told.
+//! Result of one line of text in a session, and its report.
 
 ghost use Rattle.std.specs.Prelude.{◌≡◌, ◌++◌, decimal};
 ghost use Rattle.byte_files.specs.Writing.{Writes};
@@ -17,23 +17,24 @@ use siman_posts::{LineCame, PrintFault, Undone};
 use siman_stations::StationFault;
 use std::io::Write;
 
-/// What came of a line of text.
+/// Result of one line of text.
 #[derive(Clone, Copy)]
 pub struct Came {
-    /// What the post did with it.
+    /// Result from the post.
     pub line: LineCame,
-    /// Why no further entry is printed from this line on, if it is the first of which that is so.
+    /// Why printing of entries stopped, on the first line affected; later lines have `None`.
     pub silenced: Option<PrintFault>,
-    /// The site of the station that the session plays.
+    /// Site of the station that the session plays.
     pub site: u16,
-    /// The application of that station.
+    /// Application of that station.
     pub application: u16,
-    /// Why the line is bad, if it was refused as one and that is known.
+    /// Why the line is bad. `None` if it was not refused as bad, or if memory ran out.
     pub reason: Option<BadReason>,
-    /// The last call of the line of the station that failed up to here, if one did and that is known.
+    /// Last failed call of the station's link up to this line. `None` if no call failed or the link
+    /// does not say.
     pub trouble: Option<LineTrouble>,
-    /// The site and the application that its order is for, if it is known that none of the stations of
-    /// the script gets it.
+    /// Site and application of the line's order, if the line was done and no station of the script
+    /// receives it. `None` also if memory ran out.
     pub nobody: Option<(u16, u16)>,
 }
 
@@ -60,8 +61,8 @@ impl Came {
         self.line.is_over() || self.silenced == Some(PrintFault::Write)
     }
 
-    /// The exit status that it asks for: 3 where memory ran out, else 2 where anything failed or was
-    /// not done, else 0.
+    /// Exit status of the line: 3 if memory ran out, else 2 if anything failed or was not done,
+    /// else 0.
     pub fn status(self) -> u8
         ensures { result ≡ status_of self }
     {
@@ -77,7 +78,7 @@ impl Came {
     }
 }
 
-/// The name of why a station cannot do what it is asked to.
+/// Name of a station fault, as printed.
 fn station_fault_name(fault: StationFault) -> &'static str
     ensures { result.now ≡ station_fault_name fault }
 {
@@ -98,7 +99,7 @@ fn put_number<E: Write>(errors: &mut E, number: u64) -> Result<(), WriteFailed>
     put_both(errors, b"line ", buffer.format(number).as_bytes())
 }
 
-/// Writes a name behind a colon, and a line end.
+/// Writes a colon, a name and a line end.
 fn put_name<E: Write>(errors: &mut E, name: &str) -> Result<(), WriteFailed>
     ensures { Writes result (E.contents errors.old) (E.contents errors.new) (named name.now) }
 {
@@ -106,7 +107,7 @@ fn put_name<E: Write>(errors: &mut E, name: &str) -> Result<(), WriteFailed>
     put(errors, b"\n")
 }
 
-/// Writes the line that tells something of a line of text: `line N: NAME`.
+/// Writes the fault of a line of text: `line N: NAME`.
 fn put_at_line<E: Write>(errors: &mut E, number: u64, name: &str) -> Result<(), WriteFailed>
     ensures { Writes result (E.contents errors.old) (E.contents errors.new) (told_line number name.now) }
 {
@@ -114,7 +115,7 @@ fn put_at_line<E: Write>(errors: &mut E, number: u64, name: &str) -> Result<(), 
     put_name(errors, name)
 }
 
-/// Writes the line that tells something of a line of text, and the one that explains it, if one does.
+/// Writes the fault of a line of text, and the second line that explains it, if any.
 fn put_told<E: Write>(
     errors: &mut E,
     number: u64,
@@ -127,7 +128,8 @@ fn put_told<E: Write>(
     put_second(errors, explanation)
 }
 
-/// Tells why what a line asks for was not done, if that is told of the line alone.
+/// Reports why a line was refused. Writes nothing for failures of the link, the recorder or memory,
+/// which have reports of their own.
 fn tell_why<E: Write>(
     errors: &mut E,
     number: u64,
@@ -154,7 +156,7 @@ fn tell_why<E: Write>(
     }
 }
 
-/// Tells that what a line asks for was not done, if it was not.
+/// Reports why a line was not done, if it was not.
 fn tell_refused<E: Write>(errors: &mut E, number: u64, came: Came) -> Result<(), WriteFailed>
     ensures { Writes result (E.contents errors.old) (E.contents errors.new) (refused_text number came came.line.done) }
 {
@@ -164,7 +166,7 @@ fn tell_refused<E: Write>(errors: &mut E, number: u64, came: Came) -> Result<(),
     }
 }
 
-/// Tells that a send or a receive failed at a line of text, if one did.
+/// Reports a failed send or receive at a line of text, if `lost`.
 fn tell_lost<E: Write>(
     errors: &mut E,
     number: u64,
@@ -179,7 +181,7 @@ fn tell_lost<E: Write>(
     Ok(())
 }
 
-/// Tells that memory ran out, if it did.
+/// Reports that memory ran out, if it did.
 fn tell_memory<E: Write>(errors: &mut E, memory: bool) -> Result<(), WriteFailed>
     ensures { Writes result (E.contents errors.old) (E.contents errors.new) (memory_text memory) }
 {
@@ -189,7 +191,7 @@ fn tell_memory<E: Write>(errors: &mut E, memory: bool) -> Result<(), WriteFailed
     Ok(())
 }
 
-/// Tells that something was not recorded or not printed, if that is so.
+/// Reports a failure to record or to print, if `failed`.
 fn tell_output<E: Write>(errors: &mut E, failed: bool) -> Result<(), WriteFailed>
     ensures { Writes result (E.contents errors.old) (E.contents errors.new) (output_text failed) }
 {
@@ -199,7 +201,7 @@ fn tell_output<E: Write>(errors: &mut E, failed: bool) -> Result<(), WriteFailed
     Ok(())
 }
 
-/// Tells that memory ran out, and that something was not recorded or printed, where these are so.
+/// Reports that memory ran out, and a failure to record or to print, where these happened.
 fn tell_wants<E: Write>(errors: &mut E, memory: bool, failed: bool) -> Result<(), WriteFailed>
     ensures { Writes result (E.contents errors.old) (E.contents errors.new) (wants_text memory failed) }
 {
@@ -207,7 +209,7 @@ fn tell_wants<E: Write>(errors: &mut E, memory: bool, failed: bool) -> Result<()
     tell_output(errors, failed)
 }
 
-/// Tells what of a line of text was not done.
+/// Reports why a line of text was not done, and a failed send or receive.
 fn tell_undone<E: Write>(errors: &mut E, number: u64, came: Came) -> Result<(), WriteFailed>
     ensures { Writes result (E.contents errors.old) (E.contents errors.new) (undone_text number came) }
 {
@@ -215,7 +217,7 @@ fn tell_undone<E: Write>(errors: &mut E, number: u64, came: Came) -> Result<(), 
     tell_lost(errors, number, came.is_lost(), came.trouble)
 }
 
-/// Tells what of a line of text was not done, and what failed.
+/// Reports all faults of a line of text.
 fn tell_failed<E: Write>(errors: &mut E, number: u64, came: Came) -> Result<(), WriteFailed>
     ensures { Writes result (E.contents errors.old) (E.contents errors.new) (failed_text number came) }
 {
@@ -223,7 +225,7 @@ fn tell_failed<E: Write>(errors: &mut E, number: u64, came: Came) -> Result<(), 
     tell_wants(errors, came.wants_memory(), came.is_unwritten())
 }
 
-/// Writes at which line an order is for a station that the script lacks, and for which.
+/// Writes the number of a line whose order is for a station that the script lacks, and the address.
 fn put_nobody_at<E: Write>(
     errors: &mut E,
     number: u64,
@@ -249,7 +251,7 @@ fn put_warning<E: Write>(
     put_nobody_at(errors, number, site, application)
 }
 
-/// Warns of the order of a line of text, if the script lacks its station.
+/// Writes a warning if the order of a line is for a station that the script lacks.
 fn tell_warning<E: Write>(
     errors: &mut E,
     number: u64,
@@ -263,7 +265,7 @@ fn tell_warning<E: Write>(
     }
 }
 
-/// Tells what of a line of text was not done, what failed, and what there is to warn of.
+/// Reports all faults and warnings of a line of text.
 pub(crate) fn tell_came<E: Write>(
     errors: &mut E,
     number: u64,

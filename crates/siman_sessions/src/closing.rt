@@ -1,4 +1,4 @@
-//! The end of a session: the recording is ended, and its counts are printed.
+//! End of a session: ends the recording and prints its counts.
 
 ghost use Rattle.std.specs.Prelude.{◌≡◌, ◌++◌, IfErr, IfOk, OnOk, string_bytes};
 ghost use Rattle.std.specs.Io.KnownBytes.{Keeps};
@@ -13,7 +13,8 @@ use siman_texts::{Field, Line as Said, Spelling, Value, put_line};
 use std::alloc::{AllocError, Global};
 use std::io::Write;
 
-/// Adds the line of a recording with so many entries, and of what its station dropped and passed over.
+/// Appends the row of counts: recorded entries, and datagrams that the station dropped and passed
+/// over.
 fn put_session(
     text: &mut String,
     records: u32,
@@ -30,7 +31,7 @@ fn put_session(
     put_line(text, Spelling::Text, &Said::named("station", &fields))
 }
 
-/// That line alone.
+/// The row of counts.
 fn session_line(
     alloc: Global,
     records: u32,
@@ -44,7 +45,7 @@ fn session_line(
     Ok(line)
 }
 
-/// Prints the line of counts.
+/// Prints the row of counts.
 fn print_counts<O: Write>(
     alloc: Global,
     records: u32,
@@ -63,7 +64,7 @@ fn print_counts<O: Write>(
     }
 }
 
-/// Flushes what was written.
+/// Flushes the output.
 fn flush<O: Write>(out: &mut O) -> Result<(), PrintFault>
     ensures kept { Keeps (O.contents out.old) (O.contents out.new) }
     ensures fault { IfErr result (λ fault. fault ≡ PrintFault.Write) }
@@ -74,7 +75,7 @@ fn flush<O: Write>(out: &mut O) -> Result<(), PrintFault>
     }
 }
 
-/// Prints the counts of a post whose recording has so many entries, where the line of each was printed.
+/// Prints the counts of a post whose recording has `records` entries, if every entry was printed.
 fn print_end<L: Line + Drop, O: Write>(
     alloc: Global,
     post: &Post<L>,
@@ -89,7 +90,7 @@ fn print_end<L: Line + Drop, O: Write>(
     print_counts(alloc, records, post.dropped(), post.strangers(), out)
 }
 
-/// Ends the recording of a post, and prints its counts, where the line of each entry was printed.
+/// Ends the recording of a post, and prints its counts if every entry was printed.
 pub(crate) fn close<L: Line + Drop, W: Write, O: Write>(
     alloc: Global,
     post: &Post<L>,

@@ -1,4 +1,4 @@
-//! The second line of what is told of a line of text: what a person needs to mend it.
+//! Second line of a report: what a person needs to correct a line of text.
 
 ghost use Rattle.std.specs.Prelude.{◌≡◌, ◌++◌, codes, decimal};
 ghost use Rattle.byte_files.specs.Writing.{Writes};
@@ -15,20 +15,20 @@ use siman_scripts::{CommandReason, put_command_reason};
 use siman_stations::StationFault;
 use std::io::Write;
 
-/// What a person needs to mend a line.
+/// Text of a second line.
 #[derive(Clone, Copy)]
 pub(crate) enum Explanation {
-    /// The same words each time.
+    /// Fixed words.
     Words(&'static str),
-    /// The session plays the station of this site and application, and no other.
+    /// Site and application of the only station that the session plays.
     Alone(u16, u16),
     /// Why the line is no order.
     Order(CommandReason),
-    /// Which call of the line of the station failed.
+    /// The failed call of the link.
     Line(LineTrouble),
 }
 
-/// Why a line is bad, as it is explained.
+/// Explanation of a bad line, if the reason is known.
 pub(crate) fn of_bad(reason: Option<BadReason>) -> Option<Explanation>
     ensures { second_line result ≡ bad_text reason }
 {
@@ -39,14 +39,14 @@ pub(crate) fn of_bad(reason: Option<BadReason>) -> Option<Explanation>
     }
 }
 
-/// Which station it is that alone is played, as it is explained.
+/// Explanation that the session plays only the station of this site and application.
 pub(crate) fn of_other(site: u16, application: u16) -> Option<Explanation>
     ensures { second_line result ≡ alone_text site application }
 {
     Some(Alone(site, application))
 }
 
-/// What would do where a station cannot do what it is asked to.
+/// Remedy for a station fault, in words.
 fn station_words(fault: StationFault) -> &'static str
     ensures { result.now ≡ station_words fault }
 {
@@ -66,14 +66,14 @@ fn station_words(fault: StationFault) -> &'static str
     }
 }
 
-/// Why a station cannot do what it is asked to, as it is explained.
+/// Explanation of a station fault.
 pub(crate) fn of_station(fault: StationFault) -> Option<Explanation>
     ensures { second_line result ≡ station_text fault }
 {
     Some(Words(station_words(fault)))
 }
 
-/// Which call of a line failed, as it is explained, if it is known.
+/// Explanation of a failed call of a link, if it is known.
 pub(crate) fn of_lost(trouble: Option<LineTrouble>) -> Option<Explanation>
     ensures { second_line result ≡ lost_text trouble }
 {
@@ -83,7 +83,7 @@ pub(crate) fn of_lost(trouble: Option<LineTrouble>) -> Option<Explanation>
     }
 }
 
-/// Writes a number behind a text.
+/// Writes a text and a number.
 pub(crate) fn put_behind<E: Write>(
     errors: &mut E,
     text: &str,
@@ -95,7 +95,7 @@ pub(crate) fn put_behind<E: Write>(
     put_both(errors, text.as_bytes(), buffer.format(number).as_bytes())
 }
 
-/// Writes the application of the station that alone is played.
+/// Writes the application of the only station that is played.
 fn put_application<E: Write>(errors: &mut E, application: u16) -> Result<(), WriteFailed>
     ensures { Writes result (E.contents errors.old) (E.contents errors.new) ((codes ":" ++ decimal application) ++ codes " alone") }
 {
@@ -103,7 +103,7 @@ fn put_application<E: Write>(errors: &mut E, application: u16) -> Result<(), Wri
     put(errors, b" alone")
 }
 
-/// Writes which station it is that alone is played.
+/// Writes that the session plays only this station.
 fn put_alone<E: Write>(errors: &mut E, site: u16, application: u16) -> Result<(), WriteFailed>
     ensures { Writes result (E.contents errors.old) (E.contents errors.new) ((codes "this session plays station " ++ decimal site) ++ ((codes ":" ++ decimal application) ++ codes " alone")) }
 {
@@ -122,7 +122,7 @@ fn put_explanation<E: Write>(errors: &mut E, explanation: Explanation) -> Result
     }
 }
 
-/// Writes an explanation, and a line end.
+/// Writes an explanation and a line end.
 fn put_ended<E: Write>(errors: &mut E, explanation: Explanation) -> Result<(), WriteFailed>
     ensures { Writes result (E.contents errors.old) (E.contents errors.new) (explanation_text explanation ++ line_end) }
 {
@@ -130,7 +130,7 @@ fn put_ended<E: Write>(errors: &mut E, explanation: Explanation) -> Result<(), W
     put(errors, b"\n")
 }
 
-/// Writes an explanation on a line of its own, behind two blanks.
+/// Writes an explanation on a line of its own, indented by two blanks.
 fn put_line<E: Write>(errors: &mut E, explanation: Explanation) -> Result<(), WriteFailed>
     ensures { Writes result (E.contents errors.old) (E.contents errors.new) (codes "  " ++ (explanation_text explanation ++ line_end)) }
 {
@@ -138,7 +138,7 @@ fn put_line<E: Write>(errors: &mut E, explanation: Explanation) -> Result<(), Wr
     put_ended(errors, explanation)
 }
 
-/// Writes the second line, if there is one.
+/// Writes the second line, if any.
 pub(crate) fn put_second<E: Write>(
     errors: &mut E,
     explanation: Option<Explanation>,

@@ -1,13 +1,12 @@
-//! Sessions: one post, played by the lines of a text until its end.
-//!
-//! [`play`] reads a text line by line, hands each line to a post ([`siman_posts::Post::take_line`]), and
-//! tells what was not done of it with the number of the line; at the end of the text it ends the
-//! recording and prints its counts. No file is opened here, no socket, and no clock read: a command
-//! above hands in the post, its recorder, the text and both writers.
-//!
-//! The layers above rest on its contract: which lines were taken, what came of each, what was told, and
-//! the status (`specs/Sessions.antt`, `Came.antt`, `Explanation.antt`, `Reason.antt`, `Receiver.antt`,
-//! `Reading.antt`).
+//! Sessions: a post driven by the lines of a text, from the start of its recording to its end.
+//! [`play`] reads a text line by line, passes each line to a post
+//! ([`siman_posts::Post::take_line`]), reports every line that failed with its number, and at the
+//! end of the text ends the recording and prints the counts.
+//! The crate opens no file and no socket and reads no clock: the caller passes in the post, its
+//! recorder, the text and both writers.
+//! The contract for the layer above: which lines were taken, the result of each, what was reported,
+//! and the exit status (`specs/Sessions.antt`, `Came.antt`, `Explanation.antt`, `Reason.antt`,
+//! `Receiver.antt`, `Reading.antt`).
 #![tactic(auto)]
 
 mod came;

@@ -25,7 +25,7 @@ use std::io::{Read, Write};
 /// Why no further line of a text is taken.
 #[derive(Clone, Copy, Debug)]
 pub enum Stop {
-    /// There is none.
+    /// The text has ended.
     End,
     /// A read failed.
     Unread,
@@ -33,21 +33,22 @@ pub enum Stop {
     Unrecorded,
 }
 
-/// What came of the lines of a text.
+/// Result of the lines of a text.
 #[derive(Clone, Copy)]
 pub(crate) struct Played {
     pub(crate) told: Told,
     pub(crate) stop: Stop,
 }
 
-/// Why no further entry is printed, where nothing had hindered that before.
+/// Why printing stopped at this line; `None` if it goes on or had stopped before.
 fn silenced_by(before: Option<PrintFault>, after: Option<PrintFault>) -> Option<PrintFault>
     ensures { result ≡ silenced_by before after }
 {
     if before.is_some() { None } else { after }
 }
 
-/// Takes a line, of which so much is held, in a session of a script with these stations.
+/// Takes a line in a session of a script with these stations. `held` is the line, or its beginning
+/// if it is longer than the buffer.
 fn take_held<L: Line + Drop, W: Write, O: Write>(
     alloc: Global,
     stations: &[Address],
@@ -80,9 +81,9 @@ fn take_held<L: Line + Drop, W: Write, O: Write>(
     }
 }
 
-/// Takes the lines that are left of a reader, each of which is held in a buffer while it is taken, and
-/// tells of each what was not done, and of its order if none of the stations of the script gets it. It
-/// ends with the line at which an entry was not recorded.
+/// Takes the rest of the lines of a reader, each through the buffer, and reports for each what was
+/// not done, and a warning if no station of the script receives its order. Stops at the line at
+/// which an entry was not recorded.
 pub(crate) fn play_lines<L: Line + Drop, R: Read, W: Write, O: Write, E: Write>(
     alloc: Global,
     stations: &[Address],

@@ -7,11 +7,11 @@ ghost use Rattle.siman_sessions.specs.Reading.{ReadsNext, said_by};
 use byte_files::{ReadFailed, fill};
 use std::io::Read;
 
-/// How many bytes a line has at most, without its line feed.
+/// Longest line in bytes, without its line feed.
 pub const LONGEST_LINE: usize = 65_536;
 
-/// Reads the next line of a reader, which a line feed ends that the last may lack, and answers how
-/// many bytes of it the buffer has: all, or as many as it holds. None is the end.
+/// Reads the next line of a reader, up to its line feed, which the last line may lack. Returns how
+/// many bytes of the line the buffer has: all of it, or as many as fit. Returns `None` at the end.
 pub fn read_line<R: Read>(reader: &mut R, buffer: &mut [u8]) -> Result<Option<usize>, ReadFailed>
     requires { 0 < length buffer.old }
     ensures { IfOk result (ReadsNext (R.remaining reader.old) (R.remaining reader.new) buffer.new) }
@@ -33,8 +33,7 @@ pub fn read_line<R: Read>(reader: &mut R, buffer: &mut [u8]) -> Result<Option<us
     Err(ReadFailed)
 }
 
-/// What is handed on of a line of which so much is held: all of it; where it is longer than any may be,
-/// a line of no form.
+/// The line, or an invalid placeholder if it is longer than [`LONGEST_LINE`].
 pub(crate) fn handed(held: &[u8]) -> &[u8]
     ensures { command_of result.now ≡ said_by held.now }
 {

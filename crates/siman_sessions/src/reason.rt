@@ -10,13 +10,13 @@ use std::alloc::Global;
 /// Why a line of text is bad.
 #[derive(Clone, Copy)]
 pub enum BadReason {
-    /// It is longer than any may be.
+    /// It is longer than [`LONGEST_LINE`].
     TooLong,
     /// It is no order for a station.
     NoOrder(CommandReason),
 }
 
-/// Why a line is bad, of which so much is held; where memory runs out that is not known.
+/// Why a line is bad. `None` if it is not, or if memory ran out.
 fn bad_reason(alloc: Global, held: &[u8]) -> Option<BadReason>
     ensures { IsReason held.now result }
 {
@@ -29,7 +29,7 @@ fn bad_reason(alloc: Global, held: &[u8]) -> Option<BadReason>
     }
 }
 
-/// Why a line, of which so much is held, was refused as a bad one, if it was.
+/// Why a line was refused as bad. `None` if it was not, or if memory ran out.
 pub(crate) fn reason_of(alloc: Global, held: &[u8], done: Result<(), Undone>) -> Option<BadReason>
     ensures { Reasons held.now done result }
 {

@@ -1,4 +1,4 @@
-//! The receiver of an order, of which the script may have no station.
+//! Receiver of an order for which the script may have no station.
 
 ghost use Rattle.std.specs.Prelude.{◌≡◌, ◌++◌, codes, decimal};
 ghost use Rattle.byte_files.specs.Writing.{Writes};
@@ -15,17 +15,17 @@ use siman_scripts::{Command, Task, read_command};
 use std::alloc::Global;
 use std::io::Write;
 
-/// The number of a receiving identifier that means every site, or every application of one.
+/// The site number that means every site, and the application number that means every application.
 const EVERY: u16 = 0xFFFF;
 
-/// Whether the station at an address gets what is sent to this site and application.
+/// Whether the station with this address receives what is sent to this site and application.
 fn gets(address: Address, site: u16, application: u16) -> bool
     ensures { result ≡ gets site application address }
 {
     address.site() == site && (application == EVERY || address.application() == application)
 }
 
-/// Whether one of these stations gets what is sent to this site and application.
+/// Whether one of these stations receives what is sent to this site and application.
 fn is_got(stations: &[Address], site: u16, application: u16) -> bool
     ensures { result ≡ is_got stations.now site application }
 {
@@ -34,7 +34,7 @@ fn is_got(stations: &[Address], site: u16, application: u16) -> bool
         .any(|address| gets(*address, site, application))
 }
 
-/// The site and the application that an order is for, if none of these stations gets it.
+/// Site and application of an order, if none of these stations receives it.
 fn missing(stations: &[Address], site: u16, application: u16) -> Option<(u16, u16)>
     ensures { result ≡ missing stations.now site application }
 {
@@ -44,7 +44,7 @@ fn missing(stations: &[Address], site: u16, application: u16) -> Option<(u16, u1
     Some((site, application))
 }
 
-/// The receiver of the order that a line is, if none of these stations gets it.
+/// Receiver of a line's order, if none of these stations receives it.
 fn nobody_of(stations: &[Address], said: &Option<Command>) -> Option<(u16, u16)>
     ensures { result ≡ nobody_of stations.now said.now }
 {
@@ -59,8 +59,8 @@ fn nobody_of(stations: &[Address], said: &Option<Command>) -> Option<(u16, u16)>
     }
 }
 
-/// The receiver of the order that a line is, of which so much is held, if the line was done and none of
-/// these stations gets it. Where memory runs out that is not known.
+/// Receiver of a line's order, if the line was done and none of these stations receives it. `None`
+/// if memory ran out.
 pub(crate) fn warned_of(
     alloc: Global,
     stations: &[Address],
@@ -89,7 +89,7 @@ fn put_nobody_there<E: Write>(errors: &mut E, application: u16) -> Result<(), Wr
     )
 }
 
-/// Writes which station the script lacks, and what to do.
+/// Writes the address of a station that the script lacks, and what to do.
 pub(crate) fn put_nobody<E: Write>(
     errors: &mut E,
     site: u16,

@@ -12,18 +12,18 @@ use siman_stations::Node;
 use siman_worlds::{Beginning, WorldFault, begin_world};
 use std::alloc::{AllocError, AllocFailed, Global};
 
-/// A station of a script as it is begun.
+/// A configured station of a script, in its initial state.
 #[derive(Drop)]
 pub struct SetUp {
-    /// A recording of it alone with no entries.
+    /// Recording of this station alone, without entries.
     pub head: Recording,
-    /// Its halves.
+    /// Manager and application of the station.
     pub node: Node,
-    /// The addresses of all stations of the script.
+    /// Addresses of all stations of the script.
     pub stations: Vec<Address>,
 }
 
-/// Why a station of a script was not set up.
+/// Why a station of a script could not be set up.
 #[derive(Clone, Copy, Debug, PartialEq, Eq)]
 pub enum SetUpFault {
     /// The script has no station at this address.
@@ -50,14 +50,14 @@ impl<T: Drop> From<AllocFailed<T>> for SetUpFault {
     }
 }
 
-/// Whether it is the station at an address.
+/// Whether a station has this address.
 fn is_at(station: &WorldStation, address: Address) -> bool
     ensures { result ≡ is_at address station.now }
 {
     station.station.address() == address
 }
 
-/// The index of the station at an address, if there is one.
+/// Index of the station with this address, if any.
 fn index_of(stations: &[WorldStation], address: Address) -> Option<usize>
     ensures index { result ≡ index_of address stations.now }
     ensures within { IfSome result (λ i. i < length stations.now) }
@@ -65,7 +65,7 @@ fn index_of(stations: &[WorldStation], address: Address) -> Option<usize>
     stations.iter().position(|station| is_at(station, address))
 }
 
-/// The station at an address, if there is one.
+/// The station with this address, if any.
 fn station_at(mut stations: Vec<WorldStation>, address: Address) -> Option<WorldStation>
     ensures { result ≡ station_at address stations.items }
 {
@@ -73,7 +73,7 @@ fn station_at(mut stations: Vec<WorldStation>, address: Address) -> Option<World
     Some(stations.swap_remove(index))
 }
 
-/// How it is told that a station of a world was not begun.
+/// Set-up fault of a fault of [`begin_world`].
 fn of_world(fault: WorldFault) -> SetUpFault
     ensures memory { fault ≡ WorldFault.Memory → result ≡ SetUpFault.Memory }
     ensures stations { fault ≡ WorldFault.Stations → result ≡ SetUpFault.Stations }
@@ -84,7 +84,7 @@ fn of_world(fault: WorldFault) -> SetUpFault
     }
 }
 
-/// The addresses of stations.
+/// Addresses of these stations.
 fn addresses_of(alloc: Global, stations: &[WorldStation]) -> Result<Vec<Address>, AllocError>
     ensures { IfOk result (λ addresses. addresses.items ≡ addresses_of stations.now) }
 {
@@ -95,7 +95,7 @@ fn addresses_of(alloc: Global, stations: &[WorldStation]) -> Result<Vec<Address>
     Ok(addresses)
 }
 
-/// A station by itself, as it is begun, with the addresses of all stations of its script.
+/// Sets up one station, given the addresses of all stations of its script.
 fn set_up_one(
     alloc: Global,
     exercise: u8,
@@ -123,8 +123,8 @@ fn set_up_one(
     }
 }
 
-/// The station of a script at an address, as it is begun, with what the lines of the script say of it;
-/// the moves are passed over. It takes the script.
+/// Sets up the station of a script with this address, as the lines of the script configure it.
+/// Ignores the moves and consumes the script.
 pub fn set_up(alloc: Global, script: Script, address: Address) -> Result<SetUp, SetUpFault>
     ensures { SetsUp script address result }
 {

@@ -16,7 +16,7 @@ use siman_posts::Post;
 use std::alloc::Global;
 use std::io::{Read, Write};
 
-/// Ends the recording and prints its counts, and tells what failed of that.
+/// Ends the recording, prints its counts, and reports a failure of either.
 fn close_session<L: Line + Drop, W: Write, O: Write, E: Write>(
     alloc: Global,
     post: &Post<L>,
@@ -31,7 +31,8 @@ fn close_session<L: Line + Drop, W: Write, O: Write, E: Write>(
     told.and_closed(errors, closed)
 }
 
-/// Ends a session whose lines stopped so: the recording is ended, unless an entry was not recorded.
+/// Ends a session whose lines stopped for this reason. Ends the recording, unless an entry was not
+/// recorded.
 fn end_session<L: Line + Drop, W: Write, O: Write, E: Write>(
     alloc: Global,
     post: &Post<L>,
@@ -53,19 +54,21 @@ fn end_session<L: Line + Drop, W: Write, O: Write, E: Write>(
     }
 }
 
-/// Plays a post by the lines of a reader, to the end: each line is read into the buffer, which has
-/// 65,537 bytes, and taken ([`Post::take_line`]); a line of more than 65,536 bytes is one of no form. A
-/// line that was not done is told with its number, from 1, and so is one at which a send or a receive
-/// failed, each with a second line that explains it; want of memory is told, and that an entry was not
-/// printed. Behind these an order is warned of that none of these stations gets, the stations of the
-/// script. After all these it goes on. Where an entry was not recorded it ends at once: that is told,
-/// and no further line is read.
+/// Plays a post by the lines of a reader, to the end. Each line is read into the buffer of 65,537
+/// bytes and taken ([`Post::take_line`]); a line of more than 65,536 bytes is refused.
+///
+/// Reports, with the number of the line, from 1: a line that was not done, and a failed send or
+/// receive, each with a second line that explains it. Reports that memory ran out, and that an
+/// entry was not printed. Then warns of an order that none of `stations`, the stations of the
+/// script, receives. After all of these the session goes on. It ends at once when an entry was not
+/// recorded: this is reported, and no further line is read.
 ///
 /// At the end of the text the recording is ended, and its counts are printed:
-/// `station records=N dropped=N strangers=N`. A failed read is told (`file: -`), and is an end, too.
+/// `station records=N dropped=N strangers=N`. A failed read is reported (`file: -`) and also ends the
+/// text.
 ///
-/// The status is the worst of all: 3 where memory ran out, else 2 where anything failed or was not done,
-/// else 0.
+/// Returns the worst status: 3 if memory ran out, else 2 if anything failed or was not done, else
+/// 0.
 pub fn play<L: Line + Drop, R: Read, W: Write, O: Write, E: Write>(
     alloc: Global,
     stations: &[Address],

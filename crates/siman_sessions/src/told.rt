@@ -1,4 +1,4 @@
-//! What a session told of its faults so far.
+//! Reports of a session: worst exit status, and whether all of them were written.
 
 ghost use Rattle.std.specs.Prelude.{◌≡◌, max, Ok};
 ghost use Rattle.siman_sessions.specs.Came.{status_of, told_of};
@@ -9,18 +9,18 @@ use byte_files::{WriteFailed, put};
 use siman_posts::PrintFault;
 use std::io::Write;
 
-/// What a session told so far.
+/// Reports of a session so far.
 #[derive(Clone, Copy, PartialEq, Eq)]
 pub struct Told {
-    /// The worst status: 3 where memory ran out, else 2 where anything failed or was not done, else 0.
+    /// Worst status: 3 if memory ran out, else 2 if anything failed or was not done, else 0.
     pub status: u8,
-    /// Whether all that was to be told on the writer of faults was written; after a failed write a
-    /// prefix of it was, and nothing more.
+    /// Whether all reports were written to the writer of faults. After a failed write it has a
+    /// prefix of them, and nothing further is written.
     pub written: Result<(), WriteFailed>,
 }
 
 impl Told {
-    /// Nothing so far.
+    /// No reports.
     pub(crate) fn nothing() -> Told
         ensures { result ≡ record { status = 0; written = Ok tt } }
     {
@@ -30,7 +30,7 @@ impl Told {
         }
     }
 
-    /// Tells what came of the line of a number besides.
+    /// Reports the result of the line with this number.
     pub(crate) fn and_came<E: Write>(self, errors: &mut E, number: u64, came: Came) -> Told
         ensures status { result.status ≡ max self.status (status_of came) }
         ensures told { TellsMore self.written result.written (E.contents errors.old) (E.contents errors.new) (told_of number came) }
@@ -42,7 +42,7 @@ impl Told {
         }
     }
 
-    /// Tells that the text could not be read to its end.
+    /// Reports that the text could not be read to its end.
     pub(crate) fn and_unread<E: Write>(self, errors: &mut E) -> Told
         ensures status { result.status ≡ max self.status 2 }
         ensures told { TellsMore self.written result.written (E.contents errors.old) (E.contents errors.new) unread_text }
@@ -54,7 +54,7 @@ impl Told {
         }
     }
 
-    /// Tells that the recording has no end or its counts were not printed, if that is so.
+    /// Reports a recording without an end, or counts that were not printed.
     pub(crate) fn and_closed<E: Write>(self, errors: &mut E, closed: Result<(), PrintFault>) -> Told
         ensures status { result.status ≡ max self.status (closed_status closed) }
         ensures told { TellsMore self.written result.written (E.contents errors.old) (E.contents errors.new) (closed_text closed) }
@@ -67,7 +67,7 @@ impl Told {
     }
 }
 
-/// Tells what came of the line of a number, unless something before was not written whole.
+/// Reports the result of a line, unless an earlier report was not written whole.
 fn tell_came_more<E: Write>(
     written: Result<(), WriteFailed>,
     errors: &mut E,
@@ -82,7 +82,7 @@ fn tell_came_more<E: Write>(
     }
 }
 
-/// Tells a text, unless something before was not written whole.
+/// Writes the text of a report, unless an earlier report was not written whole.
 fn tell_more<E: Write>(
     written: Result<(), WriteFailed>,
     errors: &mut E,
@@ -96,7 +96,7 @@ fn tell_more<E: Write>(
     }
 }
 
-/// How a fault at the end is told.
+/// Report of a fault at the end of a session.
 fn closed_text(closed: Result<(), PrintFault>) -> &'static [u8]
     ensures { result.now ≡ closed_text closed }
 {
@@ -107,7 +107,7 @@ fn closed_text(closed: Result<(), PrintFault>) -> &'static [u8]
     }
 }
 
-/// The status that a fault at the end asks for.
+/// Exit status of a fault at the end of a session.
 fn closed_status(closed: Result<(), PrintFault>) -> u8
     ensures { result ≡ closed_status closed }
 {

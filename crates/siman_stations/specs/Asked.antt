@@ -1,4 +1,4 @@
--- Why a station does not do what it is asked to (profile).
+-- Why a station refuses a call (profile).
 use Rattle.std.specs.Prelude.{ℕ, Option, Some, None, option_map, if◌then◌else◌}
 use Rattle.siman_pdus.specs.Role.{is_request_body}
 use Rattle.exercise_model.specs.Station.{is_entity}
@@ -13,6 +13,6 @@ use Rattle.siman_stations.specs.StationTurn.{stamp_of}
 abbrev pub order_fault : Book → ℕ → Order → Option StationFault
 order_fault b now order = if is_request_body order.body then option_map faults.Order (refusal_of b order (stamp_of now)) else Some faults.NotARequest
 
--- why no state is told
+-- why a state is not told
 abbrev pub tell_fault : ℕ → Option StationFault
 tell_fault e = if is_entity e then None else Some faults.NoSuchEntity

@@ -1,4 +1,5 @@
--- What stands of the log of a station: nothing that it sends or tells has a cause against it, and each request that it sends is an order of its manager half (profile). Histories have THE LAST EVENT FIRST.
+-- The log of a station has nothing that it sends or tells with a cause against it, and each request that it sends
+-- is an order of its manager (profile). Histories have THE LAST EVENT FIRST.
 use Rattle.std.specs.Prelude.{◌≡◌, ℕ, [], ◌∷◌, true, slice_get, Some, None}
 use Rattle.siman_pdus.specs.declared.pdu.Pdu.{Pdu}
 use Rattle.siman_pdus.specs.Role.{is_request_body}
@@ -12,21 +13,21 @@ use Rattle.exercise_model.specs.Station.{StationData}
 use Rattle.siman_manager.specs.declared.kept.KeptOrder.{KeptOrder}
 use Rattle.siman_manager.specs.Book.{Book}
 
--- Nothing that the log of a station sends or tells has a cause against it, after the events before it.
+-- nothing that the log of a station sends or tells has a cause against it, after the events before it
 abbrev pub DeedsStand : ℕ → StationData → History → Type 0
 DeedsStand x o [] = Unit {0}
 DeedsStand x o (Send s b ∷ log) = ((p : Pdu) → meaning x b ≡ Some p → send_cause x o log p ≡ None) × DeedsStand x o log
 DeedsStand x o (Get s b ∷ log) = DeedsStand x o log
 DeedsStand x o (Tell s e y ∷ log) = (same_state y (state_after x o log e) ≡ true) × DeedsStand x o log
 
--- Each datagram that is received and is not other was sent before.
+-- each datagram that is received and is not other was sent before
 abbrev pub ReceivesSent : SettingData → History → Type 0
 ReceivesSent w [] = Unit {0}
 ReceivesSent w (Send s b ∷ h) = ReceivesSent w h
 ReceivesSent w (Get s b ∷ h) = ((p : Pdu) → meaning w.exercise b ≡ Some p → was_sent b h ≡ true) × ReceivesSent w h
 ReceivesSent w (Tell s e y ∷ h) = ReceivesSent w h
 
--- A REQUEST THAT IS SENT comes from the manager's address, and is the same order as one that the manager keeps.
+-- A REQUEST THAT IS SENT names the manager's address as its originator, and is the same order as one that the manager has
 pub record IsOrdered (k : Book) (p : Pdu) : Type 0 where
   pub from : is_from k.settings.address p ≡ true
   pub order : KeptOrder

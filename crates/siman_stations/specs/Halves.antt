@@ -1,4 +1,5 @@
--- THE INVARIANT OF A STATION: its halves are where its log leaves them (profile). Histories, turns and calls have THE LAST ONE FIRST.
+-- THE INVARIANT OF A STATION: its application and manager follow from its log (profile). Histories, turns and calls
+-- have THE LAST ONE FIRST.
 use Rattle.std.specs.Prelude.{◌≡◌, ℕ, List, [], ◌∷◌, ◌⊎◌}
 use Rattle.siman_pdus.specs.declared.pdu.Pdu.{Pdu}
 use Rattle.exercise_model.specs.History.{History}
@@ -10,7 +11,7 @@ use Rattle.siman_manager.specs.Book.{Book}
 use Rattle.siman_manager.specs.Calls.{Call, Requested, Came, Ticked, kept}
 use Rattle.siman_stations.specs.Orders.{AreFit, SendOwnOrders}
 
--- the PDUs that came to the manager half in these calls
+-- the PDUs that the manager received in these calls
 abbrev pub came_in : List Call → List Pdu
 came_in [] = []
 came_in (Requested order now stamp ∷ calls) = came_in calls
@@ -26,7 +27,7 @@ heard_in (Passes b ∷ ts) = heard_in ts
 heard_in (Takes b q stamp ∷ ts) = q ∷ heard_in ts
 heard_in (Loses b q stamp ∷ ts) = heard_in ts
 
--- Each state that is told is that of the application, and no reply is missing before it.
+-- each told state is that of the application, and no reply is missing before it
 abbrev pub TellsOwn : Outfit → List OwnTurn → Type 0
 TellsOwn a [] = Unit {0}
 TellsOwn a (Tells e y ∷ ts) = (y ≡ state_over a (distinct a (taken_in ts)) e) × MissNone ts × TellsOwn a ts
@@ -35,7 +36,9 @@ TellsOwn a (Passes b ∷ ts) = TellsOwn a ts
 TellsOwn a (Takes b q stamp ∷ ts) = TellsOwn a ts
 TellsOwn a (Loses b q stamp ∷ ts) = TellsOwn a ts
 
--- THE HALVES ARE WHERE THE LOG OF THEIR STATION LEAVES THEM: the log is one that such a station writes, whose turns brought the application where it is; the manager took the PDUs of these turns and no other, and each request that the log sends is the same order as one that the manager keeps; each state that it tells is that of the application. A PDU that came is passed over only where the station may want for memory, and a reply is missing only where no further entry can be written.
+-- APPLICATION AND MANAGER FOLLOW FROM THE LOG OF THEIR STATION: the log is one that such a station writes, whose
+-- turns lead to the state of the application; the manager took exactly the PDUs of these turns, and each request
+-- that the log sends is the same order as one that the manager made
 pub record HalvesFollow (wants : Type 0) (s : ℕ) (a : Outfit) (ds : List Pdu) (k : Book) (log : History) (closed : Type 0) : Type 0 where
   pub turns : List OwnTurn
   pub calls : List Call

@@ -1,4 +1,4 @@
--- What the manager half of a station sends: new orders, and repeats that are due (profile).
+-- What the manager of a station sends: new orders, and repeats that are due (profile).
 use Rattle.std.specs.Prelude.{◌≡◌, ℕ, length, Option, None}
 use Rattle.siman_pdus.specs.declared.pdu.Pdu.{Pdu}
 use Rattle.siman_pdus.specs.Ranges.{IsEntityIdInRange, IsBodyInRange}
@@ -10,7 +10,8 @@ use Rattle.siman_stations.specs.declared.sending.OrderTextFault.TheVariants as t
 use Rattle.siman_stations.specs.declared.turn.Node.{Node}
 use Rattle.siman_stations.specs.StationTurn.{stamp_of}
 
--- the numbers of an order: of its receiving identifier and of its body, whose own request identifier is of no account
+-- the numbers of an order are in range: those of its receiving identifier and of its body, whose own request
+-- identifier is ignored
 pub record IsOrderInRange (order : Order) : Type 0 where
   pub target : IsEntityIdInRange order.target
   pub body : IsBodyInRange (numbered 0 order.body)
@@ -19,7 +20,7 @@ pub record IsOrderInRange (order : Order) : Type 0 where
 abbrev pub next_order : Book → ℕ → Order → Pdu
 next_order b now order = order_pdu b.settings (next_id b.settings (length b.orders)) order (stamp_of now)
 
--- the halves after an order was made
+-- the node after an order was made
 abbrev pub after_order : Node → ℕ → Order → Node
 after_order n now order = record n { manager = with_orders n.manager (with_order n.manager.settings order now (stamp_of now) n.manager.orders) }
 
@@ -27,11 +28,11 @@ after_order n now order = record n { manager = with_orders n.manager (with_order
 abbrev pub next_repeat : Book → ℕ → Option Pdu
 next_repeat b now = repeated b.settings now (stamp_of now) b.orders
 
--- the halves after a tick
+-- the node after a tick
 abbrev pub after_tick : Node → ℕ → Node
 after_tick n now = record n { manager = ticked n.manager now (stamp_of now) }
 
--- What is left where the text of an order is not there: the halves as they were, where it was refused; else they have the order.
+-- the effect of a failed order: the node is unchanged, if the order was refused; otherwise the manager has it
 abbrev pub FailsOrder : ℕ → Order → Node → Node → OrderTextFault → Type 0
 FailsOrder now order old new (text_faults.Order fault) = (new ≡ old) × (refusal_of old.manager order (stamp_of now) ≡ told_by fault)
 FailsOrder now order old new text_faults.Memory =

@@ -1,4 +1,4 @@
--- The turn of a station at which a datagram comes (profile).
+-- The turn of a station that received a datagram (profile).
 use Rattle.std.specs.Prelude.{◌≡◌, ◌≤◌, ◌⊎◌, ℕ, ◌*◌, ◌%◌, ◌^◌, List, [], ◌∷◌, length, Option, Some, None}
 use Rattle.std.specs.List.{AllByRecursion}
 use Rattle.dis_records.specs.declared.header.TheConstants.{LARGEST_DATAGRAM}
@@ -14,11 +14,12 @@ use Rattle.siman_stations.specs.declared.turn.Node.{Node}
 use Rattle.siman_stations.specs.declared.turn.TurnFault.{TurnFault}
 use Rattle.siman_stations.specs.declared.turn.TurnFault.TheVariants as faults
 
--- the timestamp of what is sent while the clock shows this: the time past the hour is its lower 31 bits, relative (IEEE 1278.1-2012, 6.2.88; which bits is this project's profile)
+-- the timestamp of what is sent at this time of the clock: the time past the hour is its lower 31 bits, relative
+-- (IEEE 1278.1-2012, 6.2.88; which bits is this project's profile)
 abbrev pub stamp_of : ℕ → ℕ
 stamp_of now = 2 * (now % 2 ^ 31)
 
--- the entry of a PDU that a station sends, if there is one: its canonical text
+-- the entry of a PDU that a station sends, if any: its canonical text
 abbrev pub sent_as : ℕ → ℕ → Option Pdu → List Entry
 sent_as s now None = []
 sent_as s now (Some p) = Sent s now (pdu_text p) ∷ []
@@ -27,17 +28,17 @@ sent_as s now (Some p) = Sent s now (pdu_text p) ∷ []
 abbrev pub AreOf : ℕ → List Entry → Type 0
 AreOf s es = AllByRecursion (λ e. station_of (event_of e) ≡ s) es
 
--- the reply that an application has for what came, if that is a PDU and a reply is due
+-- the reply that an application has for a received datagram, if that is a PDU and a reply is due
 abbrev pub reply_due : ApplicationData → Option Pdu → ℕ → Option Pdu
 reply_due s None stamp = None
 reply_due s (Some q) stamp = reply_after s.outfit (came s) q stamp
 
--- Entries are recorded one after the other, and no other.
+-- exactly these entries are recorded, one after the other
 abbrev pub RecordsAll : {R : Type 0} → (R → Entry → R → Type 0) → List Entry → R → R → Type 0
 RecordsAll records [] old new = new ≡ old
 RecordsAll {R} records (e ∷ es) old new = (next : R) × records old e next × RecordsAll records es next new
 
--- What came was taken by both halves, if it is a PDU.
+-- application and manager took the datagram, if it is a PDU
 abbrev pub TakesBoth : Option Pdu → Node → Node → Type 0
 TakesBoth None old new = new ≡ old
 TakesBoth (Some q) old new = Takes old.application q new.application × (new.manager ≡ taken old.manager q)
@@ -46,9 +47,9 @@ TakesBoth (Some q) old new = Takes old.application q new.application × (new.man
 abbrev pub turn_entries : ApplicationData → ℕ → ℕ → List ℕ → List Entry
 turn_entries a s now b = Received s now b ∷ sent_as s now (reply_due a (reading b) (stamp_of now))
 
--- Of an answer.
+-- An answer.
 
--- The application took the PDU, and the reply that is due, which a datagram can carry, was not recorded.
+-- the application took the PDU, and the reply that is due, which a datagram can carry, was not recorded
 pub record IsUnsent {R F : Type 0} (refuses : R → Entry → F → R → Type 0) (s now : ℕ) (q : Pdu) (fault : F) (old new : R) (before after : ApplicationData) : Type 0 where
   pub answer : Pdu
   pub due : reply_due before (Some q) (stamp_of now) ≡ Some answer
@@ -56,19 +57,20 @@ pub record IsUnsent {R F : Type 0} (refuses : R → Entry → F → R → Type 0
   pub refused : refuses old (Sent s now (pdu_text answer)) fault new
   pub application : Takes before q after
 
--- What a fault leaves: want of memory leaves all as it was.
+-- the effect of a fault: after lack of memory all is unchanged
 abbrev pub FailsAnswer : {R F : Type 0} → (R → Entry → F → R → Type 0) → ℕ → ℕ → Pdu → TurnFault F → R → R → ApplicationData → ApplicationData → Type 0
 FailsAnswer refuses s now q (faults.Record fault) old new before after = IsUnsent refuses s now q fault old new before after
 FailsAnswer refuses s now q faults.Memory old new before after = (new ≡ old) × (after ≡ before)
 
--- Of a turn.
+-- A turn.
 
--- The datagram was not recorded, and nothing was done.
+-- the datagram was not recorded, and nothing was done
 pub record IsUnheard {R F : Type 0} (refuses : R → Entry → F → R → Type 0) (s now : ℕ) (b : List ℕ) (fault : F) (old new : R) (before after : Node) : Type 0 where
   pub refused : refuses old (Received s now b) fault new
   pub halves : after ≡ before
 
--- The datagram was recorded, and the application took its PDU; the reply was not recorded, and the manager half is as it was.
+-- the datagram was recorded, and the application took its PDU; the reply was not recorded, and the manager is
+-- unchanged
 pub record IsUnanswered {R F : Type 0} (records : R → Entry → R → Type 0) (refuses : R → Entry → F → R → Type 0) (s now : ℕ) (b : List ℕ) (fault : F) (old new : R) (before after : Node) : Type 0 where
   pub next : R
   pub pdu : Pdu
@@ -77,7 +79,8 @@ pub record IsUnanswered {R F : Type 0} (records : R → Entry → R → Type 0) 
   pub unsent : IsUnsent refuses s now pdu fault next new before.application after.application
   pub manager : after.manager ≡ before.manager
 
--- What a fault leaves: after want of memory the datagram is recorded, and the station is as it was, so that a later copy is answered.
+-- the effect of a fault: after lack of memory the datagram is recorded, and the station is unchanged, so that a
+-- later copy is answered
 abbrev pub FailsTurn : {R F : Type 0} → (R → Entry → R → Type 0) → (R → Entry → F → R → Type 0) → ℕ → ℕ → List ℕ → TurnFault F → R → R → Node → Node
     → Type 0
 FailsTurn records refuses s now b (faults.Record fault) old new before after =

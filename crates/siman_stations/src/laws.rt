@@ -1,4 +1,4 @@
-//! What stands of every station whose halves are where its log leaves them. Each function is a
+//! Laws of every station whose application and manager follow from its log. Each function is a
 //! theorem: it has no body, and its contract is the law.
 
 ghost use Rattle.std.specs.Prelude.{◌≡◌, ◌<◌, ◌^◌, ◌⊎◌, [], ◌∷◌, ℕ, Bool, List, length, true, Some, None};
@@ -25,17 +25,18 @@ ghost use Rattle.siman_stations.specs.Halves.{HalvesFollow};
 ghost use Rattle.siman_stations.specs.Sending.{IsOrderInRange, next_order, next_repeat};
 ghost use Rattle.siman_stations.specs.StationTurn.{stamp_of};
 
-/// The halves of a station are where its log leaves them: as they are begun, and after each step that
-/// it takes. It `wants` where the station may want for memory, and is `closed` where no further entry
+/// Application and manager of a station follow from its log: initially, and after each step of the
+/// station. `wants` says whether it may run out of memory, and `closed` whether no further entry
 /// can be written.
 pub fn halves_follow_logs()
-    // Nothing came, and no order was made.
+    // Nothing was received, and no order was made.
     ensures begun { (wants : Bool) (s : ℕ) (a : Outfit) (k : Book) (closed : Bool) → k.orders ≡ [] → IsOutfitInRange a → HalvesFollow (wants ≡ true) s a [] k [] (closed ≡ true) }
-    // A datagram comes: both halves take its PDU, and the reply that is due is sent,
+    // A datagram is received: application and manager take its PDU, and the reply that is due is
+    // sent,
     ensures takes { (wants : Bool) (s : ℕ) (a : Outfit) (ds : List Pdu) (k : Book) (log : History) (closed : Bool) (b : List ℕ) (q : Pdu) (stamp : ℕ)
         → (is : HalvesFollow (wants ≡ true) s a ds k log (closed ≡ true)) → MissNone is.turns → IsRead b q → stamp < 2 ^ 32
         → HalvesFollow (wants ≡ true) s a (with_request a ds q) (taken k q) (sent_after s (reply_after a ds q stamp) (Get s b ∷ log)) (closed ≡ true) }
-    // or nothing is read of it, or the station wants for memory.
+    // or it is read as no PDU, or the station runs out of memory.
     ensures passes { (wants : Bool) (s : ℕ) (a : Outfit) (ds : List Pdu) (k : Book) (log : History) (closed : Bool) (b : List ℕ)
         → (reading b ≡ None) ⊎ (wants ≡ true) → HalvesFollow (wants ≡ true) s a ds k log (closed ≡ true) → HalvesFollow (wants ≡ true) s a ds k (Get s b ∷ log) (closed ≡ true) }
     // An order is made, and sent.
@@ -52,18 +53,21 @@ pub fn halves_follow_logs()
         → (is : HalvesFollow (wants ≡ true) s a ds k log (closed ≡ true)) → MissNone is.turns → HalvesFollow (wants ≡ true) s a ds k (Tell s e (state_over a ds e) ∷ log) (closed ≡ true) }
 {}
 
-/// What stands of the log of such a station, and of a history of such stations.
+/// The log of such a station, and a history of such stations.
 pub fn deeds_of_stations_stand()
-    // Each request that it sends is an order of its manager half.
+    // Each request that it sends is an order of its manager.
     ensures requests { (wants : Bool) (s : ℕ) (a : Outfit) (ds : List Pdu) (k : Book) (log : History) (closed : Bool)
         → HalvesFollow (wants ≡ true) s a ds k log (closed ≡ true) → RequestsAreOrdered a.exercise k log }
-    // Where it took all that came, or no site and application used one request identifier for two orders, nothing stands against what it sends or tells,
+    // If it took all that it received, or no site and application used one request identifier for
+    // two orders, nothing that it sends or tells has a cause against it,
     ensures deeds { (wants : Bool) (s : ℕ) (a : Outfit) (ds : List Pdu) (k : Book) (log : History) (closed : Bool) → (is : HalvesFollow (wants ≡ true) s a ds k log (closed ≡ true))
         → k.settings.address ≡ a.station.address → TakesAll is.turns ⊎ AreOneOrder a log → DeedsStand a.exercise a.station log }
-    // and where no reply is missing either, the state of an entity by its log is the one that its application has.
+    // and if no reply is missing either, the state of an entity by its log is the one that its
+    // application has.
     ensures states { (wants : Bool) (s : ℕ) (a : Outfit) (ds : List Pdu) (k : Book) (log : History) (closed : Bool) → (is : HalvesFollow (wants ≡ true) s a ds k log (closed ≡ true))
         → MissNone is.turns → TakesAll is.turns ⊎ AreOneOrder a log → (e : ℕ) → state_after a.exercise a.station log e ≡ state_over a ds e }
-    // A history of stations against whose deeds nothing stands, where each datagram that is received and is not other was sent before, is a run.
+    // A history of stations that send and tell nothing with a cause against it, in which each
+    // received datagram that is not other was sent before, is a run.
     ensures run { (w : SettingData) (h : History) → ((s : ℕ) → s < length w.stations → DeedsStand w.exercise (station_in w s) (log_at s h))
         → AllByRecursion (λ v. station_of v < length w.stations) h → ReceivesSent w h → IsRun w h }
 {}

@@ -1,15 +1,12 @@
-//! A station of an exercise with both its halves, the application and the manager: what it does with
-//! a datagram that comes, and what it sends of itself.
-//!
-//! [`take_turn`] records a datagram, lets the application half answer, records the answer, and hands
-//! the PDU to the manager half, over anything that records ([`Recorder`]); [`order_text`] and
-//! [`repeat_text`] make the texts of orders and of repeats. No script is known here, no clock is
-//! read, and nothing is sent.
-//!
-//! The layers above rest on the contracts of these, which say what is recorded and what the halves
-//! are afterwards (`specs/StationTurn.antt`, `specs/Sending.antt`), and on the invariant of a station
-//! (`specs/Halves.antt`): it holds after each step ([`halves_follow_logs`]), and where it does nothing
-//! stands against what the station sends or tells ([`deeds_of_stations_stand`]).
+//! A station of an exercise with its two halves, the application and the manager: how it handles a
+//! received datagram, and the orders and repeats that it sends.
+//! [`take_turn`] records a datagram, lets the application answer, records the answer, and passes
+//! the PDU to the manager, with any [`Recorder`]; [`order_text`] and [`repeat_text`] make the texts
+//! of orders and of repeats. The crate knows no script, reads no clock and sends nothing.
+//! The contract for the layer above: what is recorded and how application and manager change
+//! (`specs/StationTurn.antt`, `specs/Sending.antt`), and the invariant of a station
+//! (`specs/Halves.antt`), which each step preserves ([`halves_follow_logs`]), and under which
+//! nothing that the station sends or tells has a cause against it ([`deeds_of_stations_stand`]).
 #![tactic(auto)]
 
 mod laws;

@@ -1,4 +1,4 @@
-//! What the manager half of a station sends, as texts.
+//! Texts of what the manager of a station sends.
 
 ghost use Rattle.std.specs.Prelude.{◌≡◌, ◌≤◌, ◌<◌, length, true, is_some, IfOk, IfErr, IfSome, OnOk, None, Err, IsTrue};
 ghost use Rattle.dis_records.specs.declared.header.TheConstants.{LARGEST_DATAGRAM};
@@ -13,16 +13,16 @@ use crate::turn::{Node, stamp_of};
 use siman_manager::{Order, OrderFault};
 use siman_pdus::{EncodeFault, encode, numbers_are_in_range};
 
-/// Why the text of a new order is not there.
+/// Why the text of a new order could not be made.
 #[derive(Clone, Copy, Debug, PartialEq, Eq)]
 pub enum OrderTextFault {
-    /// The manager half refused the order, and is as it was.
+    /// The manager refused the order, and is unchanged.
     Order(OrderFault),
-    /// Memory ran out; the manager half has the order, and counts it as sent.
+    /// Memory ran out; the manager has the order, and counts it as sent.
     Memory,
 }
 
-/// Makes an order. Its request identifier; its text stands in `text`.
+/// Makes an order, and writes its text into `text`. Returns its request identifier.
 pub fn order_text(
     node: &mut Node,
     now: u64,
@@ -52,7 +52,7 @@ pub fn order_text(
     }
 }
 
-/// Looks for a repeat that is due. Whether one is, whose text then stands in `text`.
+/// Looks for a repeat that is due, and writes its text into `text`. Returns whether one is due.
 pub fn repeat_text(node: &mut Node, now: u64, text: &mut Vec<u8>) -> Result<bool, EncodeFault>
     ensures node { node.new ≡ after_tick node.old now }
     ensures due { IfOk result (λ due. due ≡ is_some (next_repeat node.old.manager now)) }

@@ -1,4 +1,4 @@
-//! The turn of one station: what it does with a datagram that comes.
+//! The turn of one station: how it handles a received datagram.
 
 ghost use Rattle.std.specs.Prelude.{◌≡◌, ◌≤◌, ◌+◌, [], length, true, Err, Some, None, is_some, IfOk, IfErr, IfSome, OnOk, vec_len, vec_capacity};
 ghost use Rattle.dis_records.specs.declared.header.TheConstants.{LARGEST_DATAGRAM};
@@ -14,12 +14,12 @@ use siman_manager::Manager;
 use siman_pdus::{Pdu, PduFault, decode, encode};
 use std::alloc::Global;
 
-/// The two halves of a station.
+/// The application and the manager of a station.
 #[derive(Drop)]
 pub struct Node {
-    /// It takes requests and answers them.
+    /// Takes requests and answers them.
     pub application: Application,
-    /// It makes orders and takes their answers.
+    /// Makes orders and takes their answers.
     pub manager: Manager,
 }
 
@@ -32,7 +32,7 @@ pub enum TurnFault<F> {
     Memory,
 }
 
-/// The timestamp of what is sent while the clock shows this: the time past the hour is its lower 31
+/// Timestamp of what is sent at this time of the clock: the time past the hour is its lower 31
 /// bits, relative.
 pub fn stamp_of(now: u64) -> u32
     ensures { result ≡ stamp_of now }
@@ -40,7 +40,7 @@ pub fn stamp_of(now: u64) -> u32
     2 * (now % 0x8000_0000) as u32
 }
 
-/// Whether a reply to a PDU is due, which then stands in `text`.
+/// Writes the reply to a PDU into `text`, if one is due. Returns whether one is.
 fn reply(
     application: &mut Application,
     pdu: &Pdu,
@@ -63,7 +63,8 @@ fn reply(
     }
 }
 
-/// The reply to a PDU that came, if one is due, stands in `text` and is recorded.
+/// Writes the reply to a received PDU into `text`, if one is due, and records it. Returns whether
+/// one is.
 fn answer<R: Recorder>(
     alloc: Global,
     recorder: &mut R,
@@ -79,7 +80,7 @@ fn answer<R: Recorder>(
     ensures text { OnOk result (IfSome (reply_due application.old (Some pdu.now) (stamp_of now)) (λ p. text.new.items ≡ pdu_text p)) }
     ensures err { IfErr result (λ fault. FailsAnswer R.refuses station now pdu.now fault recorder.old recorder.new application.old application.new) }
 {
-    // The room is there before the application acts.
+    // The memory is reserved before the application acts.
     text.clear();
     if text.reserve(LARGEST_DATAGRAM).is_err() {
         return Err(TurnFault::Memory);
@@ -94,11 +95,11 @@ fn answer<R: Recorder>(
     }
 }
 
-/// THE TURN of a station at which a datagram comes: it is recorded as received, the application
-/// half answers its PDU, if it is one, the answer is recorded as sent, and the manager half takes
-/// the PDU. Answers whether there was an answer, which is to go out and whose text `text` then
-/// holds. A datagram that is no PDU is recorded and nothing more. After want of memory the datagram
-/// is recorded and both halves are as they were, so that a later copy is answered.
+/// Makes the turn of a station that received a datagram: records it as received, lets the
+/// application answer its PDU, if it is one, records the answer as sent, and lets the manager take
+/// the PDU. Returns whether there is an answer, which is to be sent and whose text is then in
+/// `text`. A datagram that is no PDU is recorded and nothing more. If memory runs out, the datagram
+/// is recorded, and application and manager are unchanged, so that a later copy is answered.
 pub fn take_turn<R: Recorder>(
     alloc: Global,
     recorder: &mut R,

@@ -1,5 +1,5 @@
-//! An application at work, with literal datagrams: what no line of a script brings about. What else a
-//! station answers on its line stands in the cases of `siman_cases`.
+//! An application with literal datagrams that no line of a script can produce. Its other answers
+//! are cases of `siman_cases`.
 
 mod logs;
 
@@ -44,7 +44,7 @@ fn station(alloc: Global) -> Option<Station> {
     Station::new(Address::new(2, 3)?, Vec::new(alloc))
 }
 
-/// Whether a datagram, taken with a timestamp, is answered by this one.
+/// Whether the application answers a datagram, taken with a timestamp, by exactly this one.
 fn is_answered(
     alloc: Global,
     application: &mut Application,
@@ -62,9 +62,9 @@ fn is_answered(
     }
 }
 
-/// An application of exercise 1 at 2:3 that holds the variable datum 5, which has the 40 bits 48454C4C4F,
-/// answers a query for 5 and 6, sets 5, and answers a copy of the query as it did at first, with the
-/// timestamp of then.
+/// An application of exercise 1 at 2:3, whose variable datum 5 has the 40 bits 48454C4C4F, answers
+/// a query for 5 and 6, sets 5, and then answers a copy of the query with the data of its first
+/// answer, and with the timestamp at which it takes the copy.
 #[test]
 fn a_query_that_comes_again_gets_its_first_answer(rt: HostRuntime) {
     let alloc = rt.alloc();

@@ -1,12 +1,12 @@
-//! What contradicts nothing, and what differs so that no line of `why` names it. What contradicts something
-//! stands in the cases of `siman_cases`.
+//! Entries without a conflict, and differences that no row of `why` names. Conflicts are cases of
+//! `siman_cases`.
 
 use crate::losses::losses;
 use exercise_conflict::{Field, clash_of, lacks_of, pdu_difference};
 use exercise_findings::Findings;
 use siman_pdus::view;
 
-/// An order, an answer, and past the last entry: no entry of these has a clash, and no send is lacking.
+/// An order, an answer, and an index past the last entry have no clash, and no send is missing.
 #[test]
 fn what_contradicts_nothing_has_no_clash(rt: HostRuntime) {
     let log = losses(rt.alloc()).expect(&rt, "there is memory");
@@ -18,7 +18,7 @@ fn what_contradicts_nothing_has_no_clash(rt: HostRuntime) {
     assert!(rt; lacks.is_empty());
 }
 
-/// A Start/Resume to an entity of 2:3, under a request identifier.
+/// A Start/Resume to an entity of 2:3, with a request identifier.
 fn start(entity: u8, request: u8) -> [u8; 44] {
     [
         7, 1, 0x0D, 5, 0, 0, 0, 0, 0, 0x2C, 0, 0, 0, 1, 0, 1, 0, 0, 0, 2, 0, 3, 0, entity, 0, 0, 0,
@@ -26,7 +26,7 @@ fn start(entity: u8, request: u8) -> [u8; 44] {
     ]
 }
 
-/// A report of an event.
+/// An Event Report of 2:3:7, with an event type.
 fn report(event: u8) -> [u8; 40] {
     [
         7, 1, 0x15, 5, 0, 0, 0, 0, 0, 0x28, 0, 0, 0, 2, 0, 3, 0, 7, 0, 1, 0, 1, 0, 0, 0, 0, 0,

@@ -1,31 +1,31 @@
-//! A review at its limit: a station with as many entities as there can be, which are all stopped and
-//! started again, over and over.
+//! A review at its limit: a station with as many entities as there can be, all of which are stopped
+//! and started again, over and over.
 
 use exercise_findings::Findings;
 use exercise_recording::RecordingView;
 use exercise_review::{ReviewFault, Reviewed};
 use std::alloc::{AllocError, Global};
 
-/// Stop all, of 1:1 to 2:3: the kind and the station of the entry, its stamp and the length and the bytes
-/// of the datagram, up to the last byte of the request identifier.
+/// The entry of a Stop/Freeze of 1:1 to all entities of 2:3, up to the last byte of the request
+/// identifier: kind and station of the entry, its clock, the length of the datagram, and its bytes.
 static STOP: [u8; 52] = [
     2, 0, 1, 0, 0, 0, 0, 0, 0, 0, 0, 0, 0x28, 7, 1, 0x0E, 5, 0, 0, 0, 0, 0, 0x28, 0, 0, 0, 1, 0, 1,
     0, 0, 0, 2, 0, 3, 0xFF, 0xFF, 0, 0, 0, 0, 0, 0, 0, 0, 0, 0, 0, 0, 0, 0, 0,
 ];
 
-/// Start all, in the same way.
+/// The entry of a Start/Resume to all, in the same layout.
 static START: [u8; 56] = [
     2, 0, 1, 0, 0, 0, 0, 0, 0, 0, 0, 0, 0x2C, 7, 1, 0x0D, 5, 0, 0, 0, 0, 0, 0x2C, 0, 0, 0, 1, 0, 1,
     0, 0, 0, 2, 0, 3, 0xFF, 0xFF, 0, 0, 0, 0, 0, 0, 0, 0, 0, 0, 0, 0, 0, 0, 0, 0, 0, 0, 0,
 ];
 
-/// What 2:3 answers, up to the byte of the flag.
+/// The entry of the answer of 2:3, up to the byte of the flag.
 static ABLE: [u8; 38] = [
     1, 0, 1, 0, 0, 0, 0, 0, 0, 0, 0, 0, 0x20, 7, 1, 0x0F, 5, 0, 0, 0, 0, 0, 0x20, 0, 0, 0, 2, 0, 3,
     0, 0, 0, 1, 0, 1, 0, 0, 0,
 ];
 
-/// Adds the order of a number, of which the odd ones stop and the others start, and the Able to it.
+/// Appends the order with this number, a stop if it is odd and a start if not, and its able answer.
 fn put_change(file: &mut Vec<u8>, number: u8) -> Result<(), AllocError> {
     let stops = number % 2 == 1;
     if stops {
@@ -39,7 +39,8 @@ fn put_change(file: &mut Vec<u8>, number: u8) -> Result<(), AllocError> {
     file.extend_from_slice(&[flag, 0, 1, 0, 0, 0, number])
 }
 
-/// The recording of 1:1 and of 2:3, where 65,533 entities run at first and change so often.
+/// The recording of 1:1 and 2:3, in which 65,533 entities run at first and change state `changes`
+/// times.
 fn crowd(alloc: Global, changes: u8) -> Result<Vec<u8>, AllocError> {
     let mut file = Vec::new(alloc);
     file.extend_from_slice(b"DSRC0001")?;
@@ -57,16 +58,15 @@ fn crowd(alloc: Global, changes: u8) -> Result<Vec<u8>, AllocError> {
     Ok(file)
 }
 
-/// How many stretches the review of a recording has, or why it is not made; `None` where it is no
-/// recording.
+/// Number of spans in the review of a recording, or its fault; `None` if the file is no recording.
 fn spans(alloc: Global, file: &[u8]) -> Option<Result<usize, ReviewFault>> {
     let log = RecordingView::over(alloc, file).ok()?;
     let findings = Findings::of(alloc, &log).ok()?;
     Some(Reviewed::of(alloc, findings).map(|reviewed| reviewed.span_count()))
 }
 
-/// 65,533 entities that change 63 times have 4,194,112 stretches, and all lines are 4,194,115. With one
-/// change more they would be more than 4,194,304.
+/// 65,533 entities that change 63 times have 4,194,112 spans, and the review has 4,194,115 rows.
+/// With one change more there would be more than 4,194,304.
 #[test]
 fn a_review_is_made_up_to_its_limit(rt: HostRuntime) {
     let file = crowd(rt.alloc(), 63).expect(&rt, "there is memory");

@@ -14,18 +14,19 @@ use std::alloc::Global;
 /// The first of two stations orders the creation of 2:3:7.
 const SCRIPT: &[u8] = b"exercise 1\nstation 1:1\nstation 2:3\ncreate 1:1 2:3:7\n";
 
-/// The same of a station that is alone.
+/// A station that is alone orders the creation of 2:3:7.
 const ALONE: &[u8] = b"exercise 1\nstation 1:1\ncreate 1:1 2:3:7\n";
 
-/// The head of the recording of exercise 1 with stations 1:1 and 2:3, and the entry at which 1:1 sent a
-/// creation of 2:3:7.
+/// The head of the recording of exercise 1 with stations 1:1 and 2:3, and the entry in which 1:1
+/// sent a creation of 2:3:7.
 const SENT: [u8; 64] = [
     68, 83, 82, 67, 48, 48, 48, 49, 1, 0, 2, 0, 1, 0, 1, 0, 0, 0, 2, 0, 3, 0, 0, 1, 0, 0, 0, 0, 0,
     0, 0, 0, 0, 0, 0, 28, 7, 1, 11, 5, 0, 0, 0, 0, 0, 28, 0, 0, 0, 1, 0, 1, 0, 0, 0, 2, 0, 3, 0, 7,
     0, 0, 0, 1,
 ];
 
-/// The entries at which 2:3 received it, sent that it was able to comply, and 1:1 received that, and the end.
+/// The entries in which 2:3 received it, 2:3 sent that it is able to comply, and 1:1 received that
+/// answer, and the end.
 const ANSWERED: [u8; 136] = [
     2, 0, 1, 0, 0, 0, 0, 0, 0, 0, 0, 0, 28, 7, 1, 11, 5, 0, 0, 0, 0, 0, 28, 0, 0, 0, 1, 0, 1, 0, 0,
     0, 2, 0, 3, 0, 7, 0, 0, 0, 1, 1, 0, 1, 0, 0, 0, 0, 0, 0, 0, 0, 0, 32, 7, 1, 15, 5, 0, 0, 0, 0,
@@ -38,7 +39,7 @@ const ANSWERED: [u8; 136] = [
 fn a_creation_on_a_network_is_recorded(rt: HostRuntime) {
     let alloc = rt.alloc();
     let unsent = ExerciseFault::Move(Halt::AtLine(AtLineFault::Line));
-    // The call that fails, how the recording ends, and what stands in it behind the order.
+    // The call that fails, the result, and the bytes of the recording behind the order.
     let rows: [(Option<u64>, Result<(), ExerciseFault>, &[u8]); 2] = [
         (None, Ok(()), &ANSWERED),
         (Some(1), Err(unsent), &[]),
@@ -72,7 +73,7 @@ fn equal_stations_record_nothing(rt: HostRuntime) {
     assert!(rt; recorded.file.is_empty());
 }
 
-/// So many lines on which nothing comes, and of which nothing was sent.
+/// Links on which nothing arrives, and through which nothing was sent.
 fn dead_lines(alloc: Global, count: usize) -> Option<Vec<MemoryLine>>
     ensures { IfSome result (λ lines. All (λ line. IsUnused (Some (sent_of line))) lines.items) }
 {
@@ -85,7 +86,7 @@ fn dead_lines(alloc: Global, count: usize) -> Option<Vec<MemoryLine>>
     Some(lines)
 }
 
-/// How the recording of the creation over so many lines on which nothing comes ends; and the file.
+/// Result and file of recording the creation over this many links on which nothing arrives.
 fn on_dead_lines(alloc: Global, count: usize) -> Option<(Result<(), ExerciseFault>, Vec<u8>)> {
     let Script {
         stations,

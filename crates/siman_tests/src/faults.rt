@@ -1,4 +1,4 @@
-//! The texts of faults, most of which no command prints.
+//! Texts of faults, most of which no command prints.
 
 use dis_records::DatumFault;
 use exercise_check::CertificateWriterFault;
@@ -10,7 +10,7 @@ use siman_pdus::EncodeFault;
 use std::alloc::Global;
 use std::fmt::Display;
 
-/// Whether something is told by this text.
+/// Whether a value displays as this text.
 fn is_told<D: Display + Drop>(alloc: Global, fault: D, text: &str) -> bool {
     match format!(in alloc; "{fault}") {
         Ok(told) => told.as_str() == text,
@@ -18,7 +18,7 @@ fn is_told<D: Display + Drop>(alloc: Global, fault: D, text: &str) -> bool {
     }
 }
 
-/// Whether each is told by its text.
+/// Whether each value displays as its text.
 fn are_told<D: Display + Copy + Drop>(alloc: Global, rows: &[(D, &str)]) -> bool {
     for (fault, text) in rows {
         if !is_told(alloc, *fault, *text) {

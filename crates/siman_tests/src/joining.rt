@@ -1,5 +1,5 @@
-//! Pieces of a recording brought together as no command does: behind pieces that are refused, and within a
-//! small limit. What pieces give stands in the cases of `siman_cases`.
+//! Joining pieces as no command does: behind refused pieces, and within a small limit. What pieces
+//! yield is in the cases of `siman_cases`.
 
 use dis_records::Address;
 use exercise_recording::*;
@@ -14,14 +14,14 @@ const SIMULATOR: [u8; 60] = [
     7, 2, 0, 0, 0, 0, 3,
 ];
 
-/// A piece of the second format, open, of the same exercise: station 1:1 with no entities, which sent
-/// the first datagram and received the other.
+/// A piece of the second format, open, of exercise 1: station 1:1 with no entities, which sent the
+/// first datagram and received the other.
 const MANAGER: [u8; 52] = [
     0x44, 0x53, 0x52, 0x43, 0x30, 0x30, 0x30, 0x32, 1, 1, 0, 1, 0, 1, 0, 1, 0, 0, 1, 0, 0, 0, 0, 0,
     0, 0, 0, 0, 3, 0, 2, 0xAB, 0xCD, 2, 0, 0, 0, 0, 0, 0, 0, 0, 0, 4, 0, 1, 0xEF, 0, 0, 0, 0, 2,
 ];
 
-/// Both together, the simulator's entries first: of the second format, open, 1:1 before 2:3.
+/// Both joined, the simulator's entries first: of the second format, open, 1:1 before 2:3.
 const JOINED: [u8; 96] = [
     0x44, 0x53, 0x52, 0x43, 0x30, 0x30, 0x30, 0x32, 1, 1, 0, 2, 0, 1, 0, 1, 0, 0, 0, 2, 0, 3, 0, 1,
     0, 7, 1, 2, 0, 1, 0, 0, 0, 0, 0, 0, 0, 5, 0, 2, 0xAB, 0xCD, 1, 0, 1, 0, 0, 0, 0, 0, 0, 1, 0, 0,
@@ -29,7 +29,7 @@ const JOINED: [u8; 96] = [
     0, 0, 0, 0, 4, 0, 1, 0xEF, 0, 0, 0, 0, 5,
 ];
 
-/// What is told of both together.
+/// The result of joining both.
 const TOLD: Joined = Joined {
     pieces: 2,
     stations: 2,
@@ -37,8 +37,8 @@ const TOLD: Joined = Joined {
     form: Form::Open,
 };
 
-/// Pieces that are refused behind the simulator's, each for another reason: the manager's is then taken as
-/// if none of them had come.
+/// Behind the simulator's piece others are refused, each for a different reason; then the manager's
+/// is added as if there had been none of them.
 #[test]
 fn a_piece_that_is_refused_changes_nothing(rt: HostRuntime) {
     let alloc = rt.alloc();

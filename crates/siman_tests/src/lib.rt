@@ -1,6 +1,6 @@
-//! The tests of all crates: worked rows, with literal datagrams, files and PDUs, of calls that no
-//! command reaches. They use what each crate offers, and stand in a crate of their own since a crate
-//! with tests is proved twice.
+//! The tests of all crates: calls that no command makes, on literal datagrams, files and PDUs. They
+//! never reach into a crate, but use its public functions, and have a crate of their own since a
+//! crate with tests is proved twice. Nothing is built on this crate: it has no contract to use.
 #![tactic(auto)]
 
 #[cfg(test)]

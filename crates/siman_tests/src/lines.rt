@@ -1,4 +1,4 @@
-//! Printed lines in their two spellings, with literal texts.
+//! Rows in their two spellings, with literal texts.
 
 mod examples;
 mod values;
@@ -9,7 +9,7 @@ use dis_records::Address;
 use siman_texts::{Field, Line, Spelling, Value, put_line};
 use std::alloc::Global;
 
-/// Whether a line has this text and this JSON, each without its line end.
+/// Whether a row has this text and this JSON, each without its line end.
 fn is_told(alloc: Global, line: &Line<'_>, text: &str, json: &str) -> bool {
     for (spelling, wanted) in [(Spelling::Text, text), (Spelling::Json, json)] {
         let mut spelled = String::new(alloc);
@@ -41,7 +41,7 @@ fn lines_have_two_spellings(rt: HostRuntime) {
     assert!(rt; is_told(rt.alloc(), &entry, ENTRY_TEXT, ENTRY_JSON));
 }
 
-/// An order from one station to another, and rings of one and of two stations.
+/// An order from one station to another, and cycles of one and of two stations.
 #[test]
 fn addresses_have_two_spellings(rt: HostRuntime) {
     let first = Address::new(1, 1).expect(&rt, "it is an address");

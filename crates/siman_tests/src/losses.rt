@@ -1,10 +1,11 @@
-//! The recording of three stations, one of them the manager 1:1, in which a datagram was lost on its way
-//! there and back, and one request was never answered.
+//! The recording of three stations, one of them the manager 1:1, in which a datagram was lost on
+//! its way there and another on its way back, and one request was never answered.
 
 use exercise_recording::RecordingView;
 use std::alloc::Global;
 
-/// The recording: 30 entries of the stations 1:1, 2:3 and 2:4, where 2:4 begins with entity 8 running.
+/// The recording: 30 entries of the stations 1:1, 2:3 and 2:4, where 2:4 begins with entity 8
+/// running.
 static LOSSES: [u8; 1425] = [
     0x44, 0x53, 0x52, 0x43, 0x30, 0x30, 0x30, 0x31, 1, 0, 3, 0, 1, 0, 1, 0, 0, 0, 2, 0, 3, 0, 0, 0,
     2, 0, 4, 0, 1, 0, 8, 2, 1, 0, 0, 0, 0, 0, 0, 0, 0, 0, 0x64, 0, 0x1C, 7, 1, 0x0B, 5, 0, 0, 0, 0,

@@ -1,5 +1,5 @@
-//! What a PDU that comes means to a manager, with literal values. What becomes of its orders stands in
-//! the cases of `siman_cases`.
+//! What a received PDU means to a manager, with literal values. The fates of its orders are in the
+//! cases of `siman_cases`.
 
 ghost use Rattle.std.specs.Prelude.{IsTrue};
 ghost use Rattle.siman_pdus.specs.Role.{is_request_body};
@@ -9,7 +9,7 @@ use siman_manager::Taken::{Answered, Foreign, Pending, Repeat};
 use siman_manager::{Manager, Order};
 use siman_pdus::{Body, Pdu};
 
-/// The station that is ordered about.
+/// The entity that receives the orders.
 const STATION: EntityId = EntityId {
     site: 7,
     application: 8,
@@ -23,7 +23,7 @@ const MANAGER: EntityId = EntityId {
     entity: 0,
 };
 
-/// A Create Entity for the station's entity 9.
+/// A Create Entity for the entity [`STATION`].
 fn creation() -> Order
     ensures { IsTrue (is_request_body result.body) }
 {
@@ -33,7 +33,8 @@ fn creation() -> Order
     }
 }
 
-/// The station's Acknowledge of a Create Entity, with a response: able (1), unable (2), pending (3).
+/// The station's Acknowledge of a Create Entity, with a response: able (1), unable (2), pending
+/// (3).
 fn acknowledge(exercise: u8, response: u16, request: u32) -> Pdu {
     Pdu {
         version: Version::V7,
@@ -50,8 +51,8 @@ fn acknowledge(exercise: u8, response: u16, request: u32) -> Pdu {
     }
 }
 
-/// Of an Acknowledge: an exercise, a response and a request identifier, and what it means to a manager of
-/// exercise 3 that ordered a creation under 1.
+/// Each row has the exercise, the response and the request identifier of an Acknowledge, and its
+/// meaning to a manager of exercise 3 that ordered a creation with request identifier 1.
 #[test]
 fn only_what_settles_an_order_changes_it(rt: HostRuntime) {
     let rows = [

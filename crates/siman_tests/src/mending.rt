@@ -1,11 +1,10 @@
-//! Mending of a recording within a small limit. Recordings that were torn stand in the cases of
-//! `siman_cases`.
+//! Mending a recording within a small limit. Torn recordings are cases of `siman_cases`.
 
 use exercise_recording::*;
 
-/// The recording of station 2:3 with entity 7 stopped, of which it received a datagram of two bytes,
-/// sent one of one byte, and told that entity 7 runs: its entries begin at 20, 35 and 49, and the end
-/// at 55.
+/// The recording of station 2:3 with entity 7 stopped, which received a datagram of two bytes, sent
+/// one of one byte, and told that entity 7 runs. Its entries begin at 20, 35 and 49, and the end at
+/// 55.
 const THREE: [u8; 60] = [
     0x44, 0x53, 0x52, 0x43, 0x30, 0x30, 0x30, 0x31, 1, 0, 1, 0, 2, 0, 3, 0, 1, 0, 7, 1, 2, 0, 0, 0,
     0, 0, 0, 0, 0, 0, 5, 0, 2, 0xAB, 0xCD, 1, 0, 0, 0, 0, 0, 0, 0, 0, 1, 0, 0, 1, 0xEF, 3, 0, 0, 0,

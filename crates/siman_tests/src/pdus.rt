@@ -1,10 +1,10 @@
-//! Roles, request identifiers and answers, of literal datagrams, and one that is written. What else
-//! they say stands in the cases of `siman_cases`.
+//! Roles, request identifiers and answers, of literal datagrams, and a PDU of version 6 that is
+//! written. Other properties of PDUs are in the cases of `siman_cases`.
 
 use dis_records::Version;
 use siman_pdus::{Role, answers, decode, encode, request_id, role, view};
 
-/// Site, application and entity number.
+/// Site, application and entity number, each in two bytes.
 type Id = [u8; 6];
 
 /// The manager.
@@ -19,7 +19,7 @@ const REPORT: [u8; 40] = [
     0, 0, 0, 0, 0, 0, 0, 0, 0,
 ];
 
-/// A Remove Entity from the manager, under 1.
+/// A Remove Entity from the manager, with request identifier 1.
 fn removal(to: Id) -> [u8; 28] {
     let [s, t, a, b, e, f] = to;
     [
@@ -27,7 +27,7 @@ fn removal(to: Id) -> [u8; 28] {
     ]
 }
 
-/// An Acknowledge with a flag, with response 1 and under a request identifier.
+/// An Acknowledge with a flag, response 1 and a request identifier.
 fn acknowledge(from: Id, to: Id, flag: u8, request: u8) -> [u8; 32] {
     let [s, t, a, b, e, f] = from;
     let [u, v, c, d, g, h] = to;
@@ -57,8 +57,8 @@ fn roles_and_request_identifiers(rt: HostRuntime) {
     }
 }
 
-/// To whom a Remove Entity 1 goes; who answers it and to whom, with which flag and request
-/// identifier; and whether that fits.
+/// The target of Remove Entity 1; origin, target, flag and request identifier of an Acknowledge;
+/// and whether that Acknowledge answers the order.
 type Answer = (Id, Id, Id, u8, u8, bool);
 
 #[test]

@@ -1,11 +1,11 @@
-//! Why lines of scripts are refused, with literal texts.
+//! Reasons why lines of scripts are refused, with literal texts.
 
 use siman_scripts::{
     line_of_move, put_command_reason, put_reason, reason_of_command, reason_of_script,
 };
 use std::alloc::Global;
 
-/// A text that is no script, and what is told of it.
+/// Texts that are no scripts, each with its reason.
 const REFUSED: [(&str, &str); 42] = [
     ("", "the script ends without an exercise line"),
     (
@@ -174,7 +174,7 @@ const REFUSED: [(&str, &str); 42] = [
     ),
 ];
 
-/// A line that is no order for a station, and what is told of it.
+/// Lines that are no orders for a station, each with its reason.
 const NO_ORDERS: [(&str, &str); 4] = [
     ("station 1:1", "column 1: station is no order for a station"),
     ("deliver x", "column 1: deliver is no order for a station"),
@@ -188,7 +188,7 @@ const NO_ORDERS: [(&str, &str); 4] = [
     ),
 ];
 
-/// Whether a text is refused for this reason, as it is written and as it displays.
+/// Whether a text is refused for this reason, both written and displayed.
 fn is_refused_so(alloc: Global, text: &str, told: &str) -> bool {
     let Ok(Some(reason)) = reason_of_script(alloc, text.as_bytes()) else {
         return false;
@@ -202,7 +202,7 @@ fn is_refused_so(alloc: Global, text: &str, told: &str) -> bool {
         && shown.as_str() == told
 }
 
-/// Whether a line is no order for this reason.
+/// Whether a line is refused as an order for this reason, both written and displayed.
 fn is_no_order_so(alloc: Global, line: &str, told: &str) -> bool {
     let Ok(Some(reason)) = reason_of_command(alloc, line.as_bytes()) else {
         return false;
@@ -226,7 +226,7 @@ fn refusals_have_reasons(rt: HostRuntime) {
     }
 }
 
-/// A script with a comment and a clock line between its moves.
+/// A script with a comment and an `at` line between its moves.
 const SCRIPT: &str =
     "exercise 1\nstation 1:1\n\n# moves\ntick 1:1\nat 5\ntell 1:1 7\ndeliver 0 1:1";
 

@@ -2,8 +2,8 @@
 
 use dis_records::{DatumFault, VariableDatum};
 
-/// What is said of bytes as a datum of identifier 5 and of so many bits, where it says what it was
-/// built of, or hands the bytes back.
+/// `held` if a datum with identifier 5, these bits and bytes is made and has them, else the fault
+/// that returns the bytes, and `otherwise` if either differs.
 fn said(bits: u32, bytes: Vec<u8>, same: &[u8]) -> &'static str {
     let (said, back) = match VariableDatum::new(5, bits, bytes) {
         Ok(datum) => {

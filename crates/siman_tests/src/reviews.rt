@@ -1,5 +1,5 @@
-//! What single orders, entities and parties of the recording with losses come to, by calls that no
-//! command makes. What `review` tells of them stands in the cases of `siman_cases`.
+//! Orders, entities and parties of the recording with losses, by calls that no command makes. The
+//! rows of `review` for them are in the cases of `siman_cases`.
 
 use crate::losses::losses;
 use dis_records::EntityState;
@@ -9,11 +9,11 @@ use exercise_model::ExerciseLog;
 use exercise_review::*;
 use std::alloc::Global;
 
-/// What became of an order at a station: the entry at which the order first stands, the station's
-/// index, how often the order was sent, the entry of its change there, and its fate.
+/// An order at a station: its first entry, the station's index, the number of its sends, the entry
+/// of its change there, and its fate.
 type Row = (usize, u16, usize, Option<usize>, Fate);
 
-/// All orders at all of their parties, in the order in which they first stand.
+/// All orders at all of their parties, by rising entries.
 static ROWS: [Row; 8] = [
     (0, 1, 1, Some(2), Fate::Done),
     (4, 2, 2, Some(7), Fate::Done),
@@ -25,7 +25,8 @@ static ROWS: [Row; 8] = [
     (29, 2, 1, None, Fate::Lost),
 ];
 
-/// Whether an order at a station is what its row says, if there is one, and else not for that station.
+/// Whether an order at a station matches its row; without a row, whether the order is not for that
+/// station.
 fn is_as_in<L: ExerciseLog>(
     findings: &Register<'_, L>,
     order: &Order<'_>,
@@ -44,7 +45,7 @@ fn is_as_in<L: ExerciseLog>(
     }
 }
 
-/// All is as told at each of 40 entries, ten of them past the last, and at each of the three stations.
+/// Each of 40 entries, ten of them past the last, at each of the three stations matches its row.
 #[test]
 fn each_order_has_its_fate_at_each_of_its_parties(rt: HostRuntime) {
     let log = losses(rt.alloc()).expect(&rt, "there is memory");
@@ -60,7 +61,7 @@ fn each_order_has_its_fate_at_each_of_its_parties(rt: HostRuntime) {
     }
 }
 
-/// Whether parties have just these addresses, of a site and an application each.
+/// Whether parties have exactly these addresses, each a site and an application.
 fn are_at<L: ExerciseLog>(
     register: &Register<'_, L>,
     parties: &[Party],
@@ -72,7 +73,7 @@ fn are_at<L: ExerciseLog>(
         ) == Outsider { site, application })
 }
 
-/// Whether outcomes are those at just these parties.
+/// Whether outcomes are those at exactly these parties, in order.
 fn are_of(outcomes: &[Outcome], parties: &[Party]) -> bool {
     outcomes.len() == parties.len()
         && outcomes
@@ -81,7 +82,7 @@ fn are_of(outcomes: &[Outcome], parties: &[Party]) -> bool {
             .all(|(outcome, party)| outcome.party == Some(*party))
 }
 
-/// Whether an order stands at an entry, has parties of just these addresses, and comes to something at
+/// Whether an order is at an entry, has parties with exactly these addresses, and has an outcome at
 /// each of them.
 fn has_parties<L: ExerciseLog>(
     alloc: Global,
@@ -104,7 +105,7 @@ fn has_parties<L: ExerciseLog>(
     }
 }
 
-/// The site and the application of each party of each order.
+/// Each row has the entry of an order, and the site and application of each of its parties.
 #[test]
 fn parties_stand_by_rising_addresses(rt: HostRuntime) {
     let log = losses(rt.alloc()).expect(&rt, "there is memory");
@@ -121,7 +122,7 @@ fn parties_stand_by_rising_addresses(rt: HostRuntime) {
     }
 }
 
-/// Whether an entity of a station lived so.
+/// Whether an entity of a station has exactly these spans.
 fn has_lived<L: ExerciseLog>(
     alloc: Global,
     findings: &Register<'_, L>,
@@ -138,7 +139,7 @@ fn has_lived<L: ExerciseLog>(
     }
 }
 
-/// A stretch: its state, the entries of the changes that began and ended it.
+/// A span: its state, and the entries of the changes that began and ended it.
 fn stretch(state: EntityState, from: Option<usize>, until: Option<usize>) -> Stretch {
     Stretch { state, from, until }
 }

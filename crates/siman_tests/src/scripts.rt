@@ -1,10 +1,10 @@
-//! Texts of any bytes, read as scripts.
+//! Texts of random bytes, read as scripts.
 
 use siman_scripts::{ScriptFault, read_script};
 use std::alloc::Global;
 
-/// Whether a text of up to 63 bytes is answered, made by a number: most of them of what scripts are
-/// made of.
+/// Whether reading a text of up to 63 bytes, made from `seed`, ends without a lack of memory. The
+/// bytes are mostly those of scripts.
 fn is_answered(alloc: Global, seed: u64) -> bool {
     let pieces = b"exercise 1\nstation 2:3\ntick at 0#\r\xE9 deliver";
     let (mut text, mut number) = ([0; 64], seed);

@@ -1,5 +1,5 @@
-//! What is told of calls of a line that failed, and of lines of a session that were not done, with
-//! literal texts, and by writers that fail at each of their calls.
+//! Reasons of failed calls of a link and of failed lines of a session, with literal texts, written
+//! by writers that fail at each of their calls.
 
 ghost use Rattle.std.specs.Prelude.{◌≡◌, ◌+◌, length, IfOk};
 ghost use Rattle.siman_sessions.specs.declared.reading.TheConstants.{LONGEST_LINE};
@@ -13,7 +13,7 @@ use std::alloc::{AllocError, Global};
 use std::io::ErrorKind;
 use std::net::{Ipv4Addr, SocketAddrV4};
 
-/// A call of a line that failed, whether its peer is known, and what is told of it.
+/// Failed calls of a link: the call, whether its peer is known, the error, and the reason.
 const TROUBLES: [(LineCall, bool, ErrorKind, &str); 6] = [
     (
         LineCall::Send,
@@ -48,7 +48,7 @@ const TROUBLES: [(LineCall, bool, ErrorKind, &str); 6] = [
     ),
 ];
 
-/// A writer that takes a byte with each call, of which the one of this number fails.
+/// Calls of a writer that takes one byte at a time, of which the call with this number fails.
 fn failing_at(call: usize) -> Calls {
     Calls {
         most: 1,
@@ -57,7 +57,8 @@ fn failing_at(call: usize) -> Calls {
     }
 }
 
-/// Whether a failed call is told by this text, and by what stands before it where a write fails.
+/// Whether the reason of a failed call is this text, and a writer that fails has the text before
+/// the byte that failed.
 fn is_told(alloc: Global, trouble: LineTrouble, text: &[u8]) -> bool {
     for call in 1..=text.len() {
         let mut writer = write_to(alloc, failing_at(call));
@@ -80,7 +81,7 @@ fn calls_that_failed_are_told(rt: HostRuntime) {
     }
 }
 
-/// The script of a session, its lines, and what is told of them.
+/// The script of a session, its lines, and the faults that it writes.
 const SCRIPT: &str = "exercise 1\nstation 1:1 first=4294967295 tries=1 wait=0\n";
 
 const LINES: &str =
@@ -109,7 +110,7 @@ fn room_of(alloc: Global) -> Result<Vec<u8>, AllocError>
     vec![in alloc; 0u8; LONGEST_LINE + 1]
 }
 
-/// What a session of these lines tells by a writer of such calls.
+/// The faults that a session of these lines writes by a writer with such calls.
 fn told_by(alloc: Global, calls: Calls) -> Option<Vec<u8>> {
     let address = Address::new(1, 1)?;
     let script = read_script(alloc, SCRIPT.as_bytes()).ok()?;
@@ -137,7 +138,7 @@ fn told_by(alloc: Global, calls: Calls) -> Option<Vec<u8>> {
     Some(errors.bytes)
 }
 
-/// Whether a session tells this by a writer of such calls.
+/// Whether a session writes exactly this by a writer with such calls.
 fn tells(alloc: Global, calls: Calls, told: &[u8]) -> bool {
     match told_by(alloc, calls) {
         Some(bytes) => bytes.as_slice() == told,

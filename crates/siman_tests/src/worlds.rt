@@ -1,4 +1,4 @@
-//! Moves and stations that no script can tell of.
+//! Moves and stations that no script can express.
 
 use dis_records::EntityId;
 use siman_manager::Order;
@@ -26,7 +26,7 @@ fn comment(alloc: Global) -> Act {
     })
 }
 
-/// No station, one that never sends an order, and two that are equal.
+/// No station, a station that never sends an order, and two equal stations are refused.
 #[test]
 fn stations_are_refused(rt: HostRuntime) {
     let alloc = rt.alloc();
@@ -43,7 +43,7 @@ fn stations_are_refused(rt: HostRuntime) {
     }
 }
 
-/// Why the only station of a world can't make a move, as that of an index.
+/// The fault of a move by the station with this index, in a world with only one station.
 fn barred(alloc: Global, station: u16, act: Act) -> Option<WorldFault> {
     let Script { stations, .. } = read_script(alloc, ALONE).ok()?;
     let step = Move {

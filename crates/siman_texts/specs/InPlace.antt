@@ -1,10 +1,10 @@
--- What stands before and behind the value of a field, in either spelling.
+-- The text before and after the value of a field, in either spelling.
 use Rattle.std.specs.Prelude.{ℕ, List, [], ◌++◌, codes, Option}
 use Rattle.siman_texts.specs.declared.spelling.Spelling.{Spelling}
 use Rattle.siman_texts.specs.declared.spelling.Spelling.TheVariants.{Text, Json}
 use Rattle.siman_texts.specs.Spelled.{name_text, name_json}
 
--- before a value under a key, and before one that stands alone in text
+-- the text before a value with a key, and before a value without a key in text
 abbrev pub keyed_before : Spelling → (key : List ℕ) → List ℕ
 keyed_before Text key = codes " " ++ key ++ codes "="
 keyed_before Json key = codes ",\"" ++ key ++ codes "\":"
@@ -13,12 +13,12 @@ abbrev pub bare_before : Spelling → (key : List ℕ) → List ℕ
 bare_before Text key = codes " "
 bare_before Json key = codes ",\"" ++ key ++ codes "\":"
 
--- on both sides of a word
+-- the text on both sides of a word
 abbrev pub quote : Spelling → List ℕ
 quote Text = []
 quote Json = codes "\""
 
--- what a number with a name has behind its digits
+-- the text after the digits of a number with a name
 abbrev pub name_behind : Spelling → (key : List ℕ) → Option (List ℕ) → List ℕ
 name_behind Text key name = name_text name
 name_behind Json key name = codes ",\"" ++ key ++ codes "_name\":" ++ name_json name

@@ -1,9 +1,9 @@
--- The keys of a line in JSON, and the test that none comes twice.
+-- The keys of a row in JSON, and the test that no key occurs twice.
 use Rattle.std.specs.Prelude.{ℕ, Bool, true, List, [], ◌∷◌, ◌++◌, ◌&&◌, ◌||◌, not, codes, bytes_eq, Option, Some, None}
 use Rattle.std.specs.List.{flat_map}
 use Rattle.siman_texts.specs.Line.{Value, Number, Clock, Word, Named, Truth, Phrase, Ring, Missing, Field, Bare, Keyed, Spelt, Called, Line}
 
--- a value has the key of its field; a number with a name has a second one
+-- the keys of a value: that of its field, and a second one for a number with a name
 abbrev pub keys_under : List ℕ → Value → List (List ℕ)
 keys_under key (Number n) = key ∷ []
 keys_under key (Clock n) = key ∷ []
@@ -36,6 +36,6 @@ abbrev pub are_apart : List (List ℕ) → Bool
 are_apart [] = true
 are_apart (word ∷ words) = not (is_among word words) && are_apart words
 
--- NO KEY COMES TWICE in the JSON of a line
+-- NO KEY OCCURS TWICE in the JSON of a row
 abbrev pub has_no_key_twice : Line → Bool
 has_no_key_twice line = are_apart (line_keys line)

@@ -1,4 +1,4 @@
--- Which line the values of the code stand for, that lend their words and lists.
+-- The rows of the specification for the values of the program, which borrow their words and lists.
 use Rattle.std.specs.Prelude.{List, map, option_map}
 use Rattle.dis_records.specs.Texts.{entity_text, clock_text, kind_text, state_text}
 use Rattle.siman_texts.specs.declared.value.Value.{Value as LentValue}

@@ -1,4 +1,4 @@
--- The two spellings of a line: text, and JSON with one object a line.
+-- The two spellings of a row: text, and JSON with one object a line.
 use Rattle.std.specs.Prelude.{ℕ, Bool, true, false, List, [], ◌∷◌, ◌++◌, codes, decimal, nat_eq, chars, encode_utf8, Option, Some, None, if◌then◌else◌}
 use Rattle.std.specs.List.{flat_map}
 use Rattle.dis_records.specs.Address.{Pair}
@@ -21,11 +21,11 @@ abbrev pub truth_text : Bool → List ℕ
 truth_text true = codes "yes"
 truth_text false = codes "no"
 
--- an address behind a blank
+-- an address after a blank
 abbrev pub further_text : Pair → List ℕ
 further_text address = codes " " ++ address_text address
 
--- addresses with a blank between
+-- addresses with blanks between them
 abbrev pub ring_text : List Pair → List ℕ
 ring_text [] = []
 ring_text (address ∷ addresses) = address_text address ++ flat_map further_text addresses
@@ -46,7 +46,7 @@ field_text (Keyed key value) = key ++ codes "=" ++ value_text value
 field_text (Spelt key value) = key ++ codes " " ++ value_text value
 field_text (Called word key value) = word ++ codes "=" ++ value_text value
 
--- the name, or the field in its place
+-- the name, or the field that replaces it
 abbrev pub opening_text : List ℕ → Option Field → List ℕ
 opening_text name None = name
 opening_text name (Some field) = field_text field
@@ -56,14 +56,14 @@ opening_text name (Some field) = field_text field
 abbrev pub quoted : List ℕ → List ℕ
 quoted word = codes "\"" ++ word ++ codes "\""
 
--- " and \ stand behind a \
+-- a `\` before each " and \
 abbrev pub escaped_character : ℕ → List ℕ
 escaped_character c = if nat_eq c 34 then codes "\\\"" else (if nat_eq c 92 then codes "\\\\" else encode_utf8 c)
 
 abbrev pub escaped : List ℕ → List ℕ
 escaped phrase = flat_map escaped_character (chars phrase)
 
--- the name of a number, which may have none
+-- the name of a number, or null
 abbrev pub name_json : Option (List ℕ) → List ℕ
 name_json None = codes "null"
 name_json (Some name) = quoted name
@@ -72,7 +72,7 @@ abbrev pub truth_json : Bool → List ℕ
 truth_json true = codes "true"
 truth_json false = codes "false"
 
--- an address behind a comma
+-- an address after a comma
 abbrev pub further_json : Pair → List ℕ
 further_json address = codes "," ++ quoted (address_text address)
 
@@ -81,7 +81,7 @@ abbrev pub ring_json : List Pair → List ℕ
 ring_json [] = codes "[]"
 ring_json (address ∷ addresses) = codes "[" ++ quoted (address_text address) ++ flat_map further_json addresses ++ codes "]"
 
--- a value under a key; a number with a name is two, the second under KEY_name
+-- a value, given its key; a number with a name has a second key, KEY_name
 abbrev pub value_json : List ℕ → Value → List ℕ
 value_json key (Number n) = decimal n
 value_json key (Clock n) = quoted (decimal n)
@@ -92,7 +92,7 @@ value_json key (Phrase phrase) = quoted (escaped phrase)
 value_json key (Ring addresses) = ring_json addresses
 value_json key Missing = codes "null"
 
--- a field behind a comma
+-- a field after a comma
 abbrev pub member_json : List ℕ → Value → List ℕ
 member_json key value = codes ",\"" ++ key ++ codes "\":" ++ value_json key value
 
@@ -102,7 +102,7 @@ field_json (Keyed key value) = member_json key value
 field_json (Spelt key value) = member_json key value
 field_json (Called word key value) = member_json key value
 
--- the name, and the field that stands in its place in text
+-- the name, and the field that replaces it in text
 abbrev pub opening_json : List ℕ → Option Field → List ℕ
 opening_json name None = codes "{\"line\":\"" ++ name ++ codes "\""
 opening_json name (Some field) = codes "{\"line\":\"" ++ name ++ codes "\"" ++ field_json field
@@ -124,15 +124,15 @@ abbrev pub end_spelled : Spelling → List ℕ
 end_spelled Text = codes "\n"
 end_spelled Json = codes "}\n"
 
--- A LINE IN A SPELLING, with its end
+-- A ROW IN A SPELLING, with its line end
 abbrev pub line_spelled : Spelling → Line → List ℕ
 line_spelled spelling line = opening_spelled spelling line.name line.opening ++ fields_spelled spelling line.fields ++ end_spelled spelling
 
--- LINES, one after the other
+-- ROWS, one after the other
 abbrev pub lines_spelled : Spelling → List Line → List ℕ
 lines_spelled spelling lines = flat_map (line_spelled spelling) lines
 
--- as text, and as JSON
+-- a row as text, and as JSON
 abbrev pub line_text : Line → List ℕ
 line_text line = line_spelled Text line
 

@@ -1,16 +1,16 @@
-//! A field of a line.
+//! A field of a row.
 
 use crate::value::Value;
 
-/// A field of a line: its key in JSON, and what it says.
+/// A field of a row: its key in JSON, and its value.
 #[derive(Clone, Copy)]
 pub enum Field<'a> {
-    /// In text the value alone.
+    /// In text only the value.
     Bare(&'a str, Value<'a>),
     /// In text the key, `=` and the value.
     Keyed(&'a str, Value<'a>),
     /// In text the key, a blank and the value.
     Spelt(&'a str, Value<'a>),
-    /// In text the first word in place of the key, `=` and the value.
+    /// In text a word other than the key, `=` and the value.
     Called(&'a str, &'a str, Value<'a>),
 }

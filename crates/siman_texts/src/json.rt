@@ -11,7 +11,7 @@ use crate::value::Value;
 use dis_records::Address;
 use std::alloc::AllocError;
 
-/// A value as a string, with nothing escaped.
+/// Writes a value as a string, without escapes.
 fn put_quoted(json: &mut String, value: &Value<'_>) -> Result<(), AllocError>
     ensures { OnOk result (string_bytes json.new ≡ string_bytes json.old ++ quoted (value_text (value_of value.now))) }
 {
@@ -20,7 +20,7 @@ fn put_quoted(json: &mut String, value: &Value<'_>) -> Result<(), AllocError>
     json.push('"')
 }
 
-/// A word as a string, or null where there is none.
+/// Writes a word as a string, or null for none.
 fn put_name(json: &mut String, name: Option<&str>) -> Result<(), AllocError>
     ensures { OnOk result (string_bytes json.new ≡ string_bytes json.old ++ name_json (option_map (λ word. word.now) name.entry)) }
 {
@@ -34,7 +34,7 @@ fn put_name(json: &mut String, name: Option<&str>) -> Result<(), AllocError>
     }
 }
 
-/// Printable ASCII as a string, in which `"` and `\` stand behind a `\`.
+/// Writes printable ASCII as a string, with `\` before each `"` and `\`.
 fn put_phrase(json: &mut String, phrase: &str) -> Result<(), AllocError>
     ensures { OnOk result (string_bytes json.new ≡ string_bytes json.old ++ quoted (escaped phrase.now)) }
 {
@@ -43,7 +43,7 @@ fn put_phrase(json: &mut String, phrase: &str) -> Result<(), AllocError>
     json.push('"')
 }
 
-/// Characters, `"` and `\` behind a `\`.
+/// Writes characters, with `\` before each `"` and `\`.
 fn put_escaped(json: &mut String, phrase: &str) -> Result<(), AllocError>
     ensures { OnOk result (string_bytes json.new ≡ string_bytes json.old ++ escaped phrase.now) }
 {
@@ -53,7 +53,7 @@ fn put_escaped(json: &mut String, phrase: &str) -> Result<(), AllocError>
     Ok(())
 }
 
-/// A character of a string.
+/// Writes a character of a string.
 fn put_character(json: &mut String, character: char) -> Result<(), AllocError>
     ensures { OnOk result (string_bytes json.new ≡ string_bytes json.old ++ escaped_character character) }
 {
@@ -64,7 +64,7 @@ fn put_character(json: &mut String, character: char) -> Result<(), AllocError>
     }
 }
 
-/// An address as a string.
+/// Writes an address as a string.
 fn put_address_string(json: &mut String, address: Address) -> Result<(), AllocError>
     ensures { OnOk result (string_bytes json.new ≡ string_bytes json.old ++ quoted (address_text address)) }
 {
@@ -73,7 +73,7 @@ fn put_address_string(json: &mut String, address: Address) -> Result<(), AllocEr
     json.push('"')
 }
 
-/// Addresses as a list of strings.
+/// Writes addresses as a list of strings.
 fn put_ring(json: &mut String, ring: &[Address]) -> Result<(), AllocError>
     ensures { OnOk result (string_bytes json.new ≡ string_bytes json.old ++ ring_json ring.now) }
 {
@@ -88,7 +88,7 @@ fn put_ring(json: &mut String, ring: &[Address]) -> Result<(), AllocError>
     }
 }
 
-/// Addresses, each behind a comma.
+/// Writes addresses, each after a comma.
 fn put_further(json: &mut String, ring: &[Address]) -> Result<(), AllocError>
     ensures { OnOk result (string_bytes json.new ≡ string_bytes json.old ++ flat_map further_json ring.now) }
 {
@@ -99,7 +99,7 @@ fn put_further(json: &mut String, ring: &[Address]) -> Result<(), AllocError>
     Ok(())
 }
 
-/// A number, and under a second key its name, or null.
+/// Writes a number, then its name under the key `KEY_name`, or null.
 fn put_named(
     json: &mut String,
     key: &str,
@@ -115,7 +115,7 @@ fn put_named(
     put_name(json, name)
 }
 
-/// What the value under a key is in JSON.
+/// Writes the JSON of a value, given its key.
 fn put_under(json: &mut String, key: &str, value: &Value<'_>) -> Result<(), AllocError>
     ensures { OnOk result (string_bytes json.new ≡ string_bytes json.old ++ value_json key.now (value_of value.now)) }
 {
@@ -137,7 +137,7 @@ fn put_under(json: &mut String, key: &str, value: &Value<'_>) -> Result<(), Allo
     }
 }
 
-/// A field as JSON, behind a comma.
+/// Writes a field as JSON, after a comma.
 pub(crate) fn put_member(json: &mut String, field: &Field<'_>) -> Result<(), AllocError>
     ensures { OnOk result (string_bytes json.new ≡ string_bytes json.old ++ field_json (field_of field.now)) }
 {
@@ -149,7 +149,7 @@ pub(crate) fn put_member(json: &mut String, field: &Field<'_>) -> Result<(), All
     }
 }
 
-/// A key and its value, behind a comma.
+/// Writes a key and its value, after a comma.
 fn put_pair(json: &mut String, key: &str, value: &Value<'_>) -> Result<(), AllocError>
     ensures { OnOk result (string_bytes json.new ≡ string_bytes json.old ++ member_json key.now (value_of value.now)) }
 {

@@ -1,9 +1,10 @@
-//! Printed lines as values, each a name and fields in their order, with two spellings: text for people, and JSON, one
-//! object a line, for programs.
+//! Printed lines as values (rows): a name and fields in order, with two spellings: text for people,
+//! and JSON, one object a line, for programs.
 //!
-//! It makes no line and opens no file. The layer above makes a [`Line`] of borrowed words and calls [`put_line`], or the
-//! three calls that it is made of; their contracts give the bytes in either spelling, as functions of one line. Where
-//! lines are many, one is made in place, in a [`TextLine`], by pieces that take no memory and know both spellings.
+//! It makes no rows of its own and opens no file. A caller makes a [`Line`] of borrowed words and
+//! may use the contract of [`put_line`], or those of the three calls that it consists of: they give
+//! the bytes in either spelling, as functions of one row. For many rows, each can be made in a fixed
+//! buffer, a [`TextLine`], by functions that take no memory and know both spellings.
 #![tactic(auto)]
 
 mod field;

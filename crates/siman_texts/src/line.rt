@@ -1,4 +1,4 @@
-//! A line, and its two spellings.
+//! A row, and its two spellings.
 
 ghost use Rattle.std.specs.Prelude.{◌≡◌, ◌++◌, IfOk, OnOk, string_bytes, option_map};
 ghost use Rattle.siman_texts.specs.Line.{named_line};
@@ -11,19 +11,19 @@ use crate::spelling::Spelling;
 use crate::text::put_as_text;
 use std::alloc::{AllocError, Global};
 
-/// A line: a name and fields in their order.
+/// A row: one printed line as a value, with a name and fields in order.
 #[derive(Clone, Copy)]
 pub struct Line<'a> {
-    /// What sort of line it is.
+    /// The kind of row.
     pub name: &'a str,
-    /// The field that stands in the place of the name in text, where the name does not.
+    /// A field that replaces the name in text.
     pub opening: Option<Field<'a>>,
-    /// The fields behind.
+    /// The fields after the name.
     pub fields: &'a [Field<'a>],
 }
 
 impl<'a> Line<'a> {
-    /// A line that begins with its name in text.
+    /// A row that begins with its name in text.
     pub fn named(name: &'a str, fields: &'a [Field<'a>]) -> Line<'a>
         ensures { line_of result ≡ named_line name.now (fields_of fields.now) }
     {
@@ -35,7 +35,7 @@ impl<'a> Line<'a> {
     }
 }
 
-/// The beginning of a line: its name, and the field that stands in its place in text.
+/// Writes the beginning of a row: its name, and the field that replaces it in text.
 pub fn put_opening(
     text: &mut String,
     spelling: Spelling,
@@ -61,7 +61,7 @@ pub fn put_opening(
     }
 }
 
-/// Fields of a line, one after the other.
+/// Writes fields of a row, one after the other.
 pub fn put_fields(
     text: &mut String,
     spelling: Spelling,
@@ -75,7 +75,7 @@ pub fn put_fields(
     Ok(())
 }
 
-/// A field behind what a line has already.
+/// Writes a further field of a row.
 pub fn put_field(text: &mut String, spelling: Spelling, field: &Field<'_>) -> Result<(), AllocError>
     ensures { OnOk result (string_bytes text.new ≡ string_bytes text.old ++ field_spelled spelling (field_of field.now)) }
 {
@@ -88,7 +88,7 @@ pub fn put_field(text: &mut String, spelling: Spelling, field: &Field<'_>) -> Re
     }
 }
 
-/// The end of a line, with its line end.
+/// Writes the end of a row, with its line end.
 pub fn put_end(text: &mut String, spelling: Spelling) -> Result<(), AllocError>
     ensures { OnOk result (string_bytes text.new ≡ string_bytes text.old ++ end_spelled spelling) }
 {
@@ -98,7 +98,7 @@ pub fn put_end(text: &mut String, spelling: Spelling) -> Result<(), AllocError>
     }
 }
 
-/// A line in a spelling, with its line end.
+/// Writes a row in a spelling, with its line end.
 pub fn put_line(text: &mut String, spelling: Spelling, line: &Line<'_>) -> Result<(), AllocError>
     ensures { OnOk result (string_bytes text.new ≡ string_bytes text.old ++ line_spelled spelling (line_of line.now)) }
 {
@@ -107,7 +107,7 @@ pub fn put_line(text: &mut String, spelling: Spelling, line: &Line<'_>) -> Resul
     put_end(text, spelling)
 }
 
-/// The line of a name and the fields behind it in a spelling, with its line end.
+/// Writes a row with a name and fields in a spelling, with its line end.
 pub fn put_named(
     text: &mut String,
     spelling: Spelling,
@@ -119,7 +119,7 @@ pub fn put_named(
     put_line(text, spelling, &Line::named(name, fields))
 }
 
-/// The same line alone, as text.
+/// A row with a name and fields, as text. It takes memory.
 pub fn named_line(alloc: Global, name: &str, fields: &[Field<'_>]) -> Result<String, AllocError>
     ensures { IfOk result (λ line. string_bytes line ≡ line_text (named_line name.now (fields_of fields.now))) }
 {

@@ -1,6 +1,6 @@
-//! How a line is spelled.
+//! Spellings of a row.
 
-/// How a line is spelled.
+/// Spelling of a row.
 #[derive(Clone, Copy)]
 pub enum Spelling {
     /// Words with blanks between, for people.

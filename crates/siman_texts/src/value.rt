@@ -1,13 +1,14 @@
-//! What a field of a line says.
+//! The value of a field.
 
 use dis_records::{Address, ClockTime, EntityId, EntityState, Kind};
 
-/// What a field of a line says. Words are ASCII without quotes and `\`, phrases printable ASCII.
+/// The value of a field. Words are ASCII without quotes and `\`, phrases printable ASCII.
 #[derive(Clone, Copy)]
 pub enum Value<'a> {
     /// A number.
     Number(u64),
-    /// A number of 64 bits on the clock of a station; in JSON a string, since readers lose such numbers.
+    /// A 64-bit clock value of a station; in JSON a string, since many readers cannot hold such
+    /// numbers.
     Clock(u64),
     /// A word.
     Word(&'a str),
@@ -21,14 +22,14 @@ pub enum Value<'a> {
     Address(Address),
     /// A clock time.
     Time(&'a ClockTime),
-    /// A number, and its name where it has one; in JSON two keys.
+    /// A number, and its name, if it has one; in JSON two keys.
     Named(u64, Option<&'a str>),
     /// Yes or no.
     Truth(bool),
-    /// Words to the end of the line.
+    /// Text up to the end of the line.
     Phrase(&'a str),
-    /// Addresses, in text with blanks between.
+    /// Addresses, in text with blanks between them.
     Ring(&'a [Address]),
-    /// Nothing: `-`, in JSON null.
+    /// No value: `-`, in JSON null.
     Missing,
 }

@@ -1,4 +1,4 @@
--- How the recording of an exercise comes to its end, or why it has none (profile).
+-- How the recording of an exercise ends, or why it was not completed (profile).
 use Rattle.std.specs.Prelude.{◌≡◌, ◌⊎◌, ℕ, true, false, List, length, Option, None, IsSome, Result, Ok, Err}
 use Rattle.byte_files.specs.Writing.{WritesPart}
 use Rattle.exercise_model.specs.Setting.{SettingData}
@@ -18,7 +18,7 @@ use Rattle.siman_trials.specs.declared.recorded.ExerciseFault.{ExerciseFault}
 use Rattle.siman_trials.specs.declared.recorded.ExerciseFault.TheVariants as faults
 use Rattle.siman_trials.specs.Moves.{MovesEnd}
 
--- how a recording ends whose moves came to this: its end was written; or that was refused, and nothing more was written, or a prefix of the end; or the fault of the moves, after which nothing more was written
+-- The end of a recording, given the result of its moves: the end was written; or the end was refused and nothing more was written; or only a prefix of the end was written; or the moves failed and nothing more was written.
 abbrev pub EndsRecording : (moved : Result (Unit {0}) Halt) → (old new : WriterState) → (ended : Result (Unit {0}) ExerciseFault) → Type 0
 EndsRecording (Ok x) old new (Ok y) = (finish_refusal old ≡ None) × Finishes old new
 EndsRecording (Ok x) old new (Err (faults.Record fault)) =
@@ -27,20 +27,20 @@ EndsRecording (Ok x) old new (Err other) = ⊥
 EndsRecording (Err halt) old new (Err (faults.Move fault)) = (fault ≡ halt) × (new ≡ old)
 EndsRecording (Err halt) old new other = ⊥
 
--- WHAT STATIONS DID over a recording that was started: they made these moves, up to the first that is not made, and it was ended
+-- WHAT STATIONS DID over a recorder that was started: they made these moves, up to the first that failed, and the recording was ended.
 pub record Performs {L : Type 0} (told : Telling L) (moves : List Move) (old new : AtLines L) (ended : Result (Unit {0}) ExerciseFault) : Type 0 where
   pub mid : WriterState
   pub moved : Result (Unit {0}) Halt
   pub made : let there : AtLines L = record { stations = new.stations; recorder = mid } in MovesEnd told moves old there moved
   pub end : EndsRecording moved mid new.recorder ended
 
--- it was not started, and no move was made: its setting was refused, and nothing was written; or a prefix of its head was
+-- The recording was not started, and no move was made: its setting was refused and nothing was written, or only a prefix of its head was written.
 abbrev pub IsUnstarted : SettingData → (old new : Option (List ℕ)) → (ended : Result (Unit {0}) ExerciseFault) → Type 0
 IsUnstarted w old new (Err (faults.Record fault)) =
     (start_refusal w ≡ unless_write fault) × (IsSome (unless_write fault) → new ≡ old) × (fault ≡ writers.Write → WritesPart old new (head_text w))
 IsUnstarted w old new other = ⊥
 
--- it was started, and this is what the stations did
+-- The recording was started, and the stations made their moves.
 pub record IsPerformed {L : Type 0} (told : Telling L) (w : SettingData) (moves : List Move) (posts : List (StationAtLine L)) (old new : Option (List ℕ))
     (ended : Result (Unit {0}) ExerciseFault) : Type 0 where
   pub first : WriterState
@@ -49,17 +49,17 @@ pub record IsPerformed {L : Type 0} (told : Telling L) (w : SettingData) (moves 
   pub performs : let begun : AtLines L = record { stations = posts; recorder = first } in Performs told moves begun last ended
   pub file : new ≡ last.recorder.contents
 
--- STATIONS AT THEIR LINES RECORD what they do in a file
+-- STATIONS AT THEIR LINKS RECORD what they do in a file.
 abbrev pub Records : {L : Type 0} → Telling L → SettingData → List Move → List (StationAtLine L) → (old new : Option (List ℕ)) → (ended : Result (Unit {0}) ExerciseFault) → Type 0
 Records told w moves posts old new ended = IsUnstarted w old new ended ⊎ IsPerformed told w moves posts old new ended
 
--- STATIONS STAND AT THEIR LINES, post i with node i, line i and station i, and record what they do; none does where there are not as many lines as stations, or where memory ran out, and then nothing is written
+-- STATIONS ARE ATTACHED TO THEIR LINKS, post i with node i, link i and station i, and record what they do. If there are not as many links as stations, or memory ran out, none is attached and nothing is written.
 abbrev pub StandsAndRecords : {L : Type 0} → Telling L → SettingData → List Node → List L → List Move → (old new : Option (List ℕ)) → (ended : Result (Unit {0}) ExerciseFault) → Type 0
 StandsAndRecords told w nodes lines moves old new ended =
     ((ended ≡ Err (faults.Lines at_lines.Line)) × Misfits nodes lines × (new ≡ old)) ⊎ ((ended ≡ Err (faults.Lines at_lines.Memory)) × (new ≡ old))
     ⊎ ((length lines ≡ length nodes) × Records told w moves (posts_of nodes lines) old new ended)
 
--- HOW AN EXERCISE COMES TO ITS END, whose file has the second of these in place of the first: its stations are begun, stand at their lines and record what they do; none is begun where they are none of a world, or where memory ran out, and then nothing is written
+-- HOW AN EXERCISE ENDS, with the contents of its file before and after: its stations are begun, attached to their links, and record what they do. If they make no world, or memory ran out, none is begun and nothing is written.
 abbrev pub ComesToEnd : {L : Type 0} → Telling L → WorldData → List L → List Move → (old new : Option (List ℕ)) → (ended : Result (Unit {0}) ExerciseFault) → Type 0
 ComesToEnd told w lines moves old new ended =
     ((ended ≡ Err (faults.World worlds.Stations)) × (are_world_stations w.stations ≡ false) × (new ≡ old))

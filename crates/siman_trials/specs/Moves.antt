@@ -1,4 +1,4 @@
--- Moves that stations make at their lines, and what comes of them (profile).
+-- Moves of stations at their links, and their effects (profile).
 use Rattle.std.specs.Prelude.{◌≡◌, ◌⊎◌, ℕ, List, length, slice_get, Some, None, Result, Ok, Err, IfErr}
 use Rattle.exercise_recording.specs.Writer.{WriterState}
 use Rattle.siman_scripts.specs.declared.act.Act.{Act}
@@ -11,7 +11,7 @@ use Rattle.siman_lines.specs.Steps.{Each, Stops}
 use Rattle.siman_trials.specs.declared.performed.Halt.{Halt}
 use Rattle.siman_trials.specs.declared.performed.Halt.TheVariants.{NoSuchStation, AtLine}
 
--- WHAT A STATION DOES IN AN ACT at its line, before and after, over its recorder: it issues the order, sends the repeat that is due, tells the state; of a delivery nothing is done. What it counts of what was left out stays; and where it refuses to do it, so does all else.
+-- EFFECT OF AN ACT of a station at its link, before and after, with its recorder: it issues the order, sends the repeat that is due, or records the state; a delivery does nothing. An order and a repeat leave the counts of what was left out as they were; where the station refuses an order or a state, all else is as it was too.
 abbrev pub ActsAt : {L : Type 0} → Telling L → (now : ℕ) → Act → (done : Result (Unit {0}) AtLineFault) → (p : StationAtLine L) → (w : WriterState)
     → (q : StationAtLine L) → (v : WriterState) → Type 0
 ActsAt told now (Command order) done p w q v = KeepsCounts p q × OrdersAt told now order p w q v done × IfErr done (LeavesRefused told p w q v)
@@ -19,46 +19,46 @@ ActsAt told now (Deliver k) done p w q v = (done ≡ Ok tt) × (q ≡ p) × (v �
 ActsAt told now Tick done p w q v = KeepsCounts p q × RepeatsAt told now p w q v done
 ActsAt told now (Tell e) done p w q v = (q ≡ p) × TellsAt e p w v done × IfErr done (LeavesRefused told p w q v)
 
--- FOUR ROUNDS, in each of which each station is served once, in their order, for at most 64 receives
+-- FOUR ROUNDS, each serving each station once, in order, for at most 64 receives.
 abbrev pub ServesFour : {L : Type 0} → Telling L → (now : ℕ) → AtLines L → AtLines L → Result (Unit {0}) AtLineFault → Type 0
 ServesFour told now old new done = RoundsEnd told now 4 64 old new done
 
--- A MOVE IS MADE: its station does its act, the others are as they were, and then all are served in four rounds
+-- A MOVE IS MADE: its station carries out its act, the others are unchanged, and then four rounds serve all stations.
 pub record IsMade {L : Type 0} (told : Telling L) (step : Move) (old new : AtLines L) : Type 0 where
   pub mid : AtLines L
   pub acts : One (ActsAt told step.now step.act (Ok tt)) step.station old mid
   pub serves : ServesFour told step.now mid new (Ok tt)
 
--- its station did its act, and one of all was not served
+-- Its station carried out its act, but serving the stations failed.
 pub record IsUnserved {L : Type 0} (told : Telling L) (step : Move) (fault : AtLineFault) (old new : AtLines L) : Type 0 where
   pub mid : AtLines L
   pub acts : One (ActsAt told step.now step.act (Ok tt)) step.station old mid
   pub serves : ServesFour told step.now mid new (Err fault)
 
--- A MOVE IS NOT MADE: there is no such station, and nothing is done; or its station was hindered, or one of all was not served, by the fault that is told
+-- A MOVE IS NOT MADE: there is no such station, and nothing is done; or its station or the serving of the stations failed, with the fault that is returned.
 abbrev pub IsHalted : {L : Type 0} → Telling L → Move → Halt → AtLines L → AtLines L → Type 0
 IsHalted told step NoSuchStation old new = (slice_get old.stations step.station ≡ None) × (new ≡ old)
 IsHalted told step (AtLine fault) old new =
     One (ActsAt told step.now step.act (Err fault)) step.station old new ⊎ IsUnserved told step fault old new
 
--- WHAT COMES OF A MOVE
+-- RESULT OF A MOVE.
 abbrev pub MoveEnds : {L : Type 0} → Telling L → Move → AtLines L → AtLines L → Result (Unit {0}) Halt → Type 0
 MoveEnds told step old new (Ok x) = IsMade told step old new
 MoveEnds told step old new (Err halt) = IsHalted told step halt old new
 
--- the move of a number, from 0, is made
+-- The move with this number, from 0, is made.
 pub record MakesAt {L : Type 0} (told : Telling L) (moves : List Move) (number : ℕ) (old new : AtLines L) : Type 0 where
   pub step : Move
   pub there : slice_get moves number ≡ Some step
   pub made : IsMade told step old new
 
--- the move of a number is not made, for this reason
+-- The move with this number, from 0, is not made, for this reason.
 pub record HaltsAt {L : Type 0} (told : Telling L) (moves : List Move) (halt : Halt) (number : ℕ) (old new : AtLines L) : Type 0 where
   pub step : Move
   pub there : slice_get moves number ≡ Some step
   pub halted : IsHalted told step halt old new
 
--- WHAT COMES OF MOVES: all are made, in their order; or those before one are, and it is told why that one is not
+-- RESULT OF MOVES: all are made, in order; or those before one are, and the reason why that one is not is returned.
 abbrev pub MovesEnd : {L : Type 0} → Telling L → List Move → AtLines L → AtLines L → Result (Unit {0}) Halt → Type 0
 MovesEnd told moves old new (Ok x) = Each (MakesAt told moves) (length moves) old new
 MovesEnd told moves old new (Err halt) = Stops (MakesAt told moves) (HaltsAt told moves halt) (length moves) old new

@@ -1,6 +1,8 @@
-//! Stations at their lines, tried: the calls that a case asks for, over a line in memory, with what they
-//! must answer and what must be on the line and in the recording; lines over a network in memory; and
-//! exercises that are recorded from their beginning to their end, over any lines and over that network.
+//! Runs stations at links in memory, as a case asks for, and records whole exercises from their
+//! first station to the end of their file, over any links and over a network in memory. It never
+//! opens a file or a socket, and never runs a command. The layers above may use the contracts of
+//! [`record_exercise`] and [`record_on_network`] (`specs/Recorded.antt`, `specs/Ended.antt`) and of
+//! [`make_moves`] (`specs/Moves.antt`).
 #![tactic(auto)]
 
 mod network;

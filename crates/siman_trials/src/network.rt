@@ -16,10 +16,10 @@ use siman_scripts::{Move, WorldStation};
 use std::alloc::Global;
 use std::io::Write;
 
-/// Records an exercise of stations on a network in memory, on which each hears all others, once and in
-/// order, and of whose calls, counted from 1, the one of this number fails. What is written explains
-/// itself, as of [`record_exercise`]: that each datagram received was sent before is all that it asks
-/// of the network.
+/// Records an exercise of stations on a network in memory, on which each station hears all others,
+/// once and in order. The call numbered `fails_at`, from 1, of all calls of the network fails. The
+/// recording explains itself as that of [`record_exercise`] does: of the network this needs only
+/// that each datagram received was sent before.
 pub fn record_on_network<W: Write + Drop>(
     alloc: Global,
     exercise: u8,

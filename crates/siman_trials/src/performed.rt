@@ -1,4 +1,4 @@
-//! Moves that stations make at their lines.
+//! Moves of stations at their links.
 
 ghost use Rattle.std.specs.Prelude.{◌≡◌};
 ghost use Rattle.siman_lines.specs.AtLines.{Telling, AtLines, Follows};
@@ -11,18 +11,18 @@ use siman_scripts::{Act, Move};
 use std::alloc::Global;
 use std::io::Write;
 
-/// How many rounds follow a move.
+/// Number of rounds behind a move.
 const ROUNDS: u32 = 4;
 
-/// How many receives a station makes at most in a round.
+/// Largest number of receives of a station in a round.
 const TURNS: u32 = 64;
 
-/// Why a move was not made, or what came of it not served.
+/// Why a move was not made, or why the stations were not served behind it.
 #[derive(Clone, Copy, Debug, PartialEq, Eq)]
 pub enum Halt {
-    /// There is no station of its index.
+    /// No station has the index of the move.
     NoSuchStation,
-    /// A station was hindered at its line.
+    /// A station failed at its link.
     AtLine(AtLineFault),
 }
 
@@ -37,7 +37,7 @@ impl From<AtLineFault> for Halt {
     }
 }
 
-/// A station does an act at its line. Of a delivery nothing is done: the lines deliver.
+/// Makes a station carry out an act at its link. A delivery does nothing, since the links deliver.
 fn act_at<L: Line + Drop, W: Write>(
     alloc: Global,
     station: &mut StationAtLine<L>,
@@ -58,7 +58,7 @@ fn act_at<L: Line + Drop, W: Write>(
     }
 }
 
-/// Makes a move, and serves what comes of it.
+/// Makes a move, and then serves all stations.
 fn make_move<L: Line + Drop, W: Write>(
     alloc: Global,
     stations: &mut Vec<StationAtLine<L>>,
@@ -84,9 +84,9 @@ fn make_move<L: Line + Drop, W: Write>(
     Ok(())
 }
 
-/// Makes moves in their order, up to the first that fails. A Command issues its order, a Tick repeats
-/// what is due, a Tell tells a state, and a Deliver does nothing, since the lines deliver; after each of
-/// them four rounds serve each station in turn, for at most 64 receives.
+/// Makes moves in order, up to the first that fails. A Command issues its order, a Tick repeats
+/// what is due, a Tell records a state, and a Deliver does nothing, since the links deliver. Behind
+/// each move four rounds serve each station in turn, for at most 64 receives.
 pub fn make_moves<L: Line + Drop, W: Write>(
     alloc: Global,
     stations: &mut Vec<StationAtLine<L>>,
@@ -97,7 +97,7 @@ pub fn make_moves<L: Line + Drop, W: Write>(
         let old : AtLines L = record { stations = stations.old.items; recorder = recorder.old } in
         let new : AtLines L = record { stations = stations.new.items; recorder = recorder.new } in
         MovesEnd told moves.items old new result }
-    // What comes of them is what comes of calls at these stations, with a fault too.
+    // With a fault too, the effect is one of calls at these stations.
     ensures follows { let told : Telling L = record { received = L.received; sent = L.sent; failures = L.failures; strangers = L.strangers } in
         let old : AtLines L = record { stations = stations.old.items; recorder = recorder.old } in
         let new : AtLines L = record { stations = stations.new.items; recorder = recorder.new } in

@@ -1,4 +1,4 @@
-//! The recording of an exercise, from the beginning of its stations to the end of its file.
+//! The recording of an exercise, from its first station to the end of its file.
 
 ghost use Rattle.std.specs.Prelude.{◌≡◌, ℕ, List, Option};
 ghost use Rattle.exercise_model.specs.Recording.{opened};
@@ -19,16 +19,16 @@ use siman_worlds::{Beginning, WorldFault, begin_world};
 use std::alloc::Global;
 use std::io::Write;
 
-/// Why the recording of an exercise has no end.
+/// Why the recording of an exercise was not completed.
 #[derive(Clone, Copy, Debug, PartialEq, Eq)]
 pub enum ExerciseFault {
-    /// The stations are none of a world, or memory ran out.
+    /// The stations make no world, or memory ran out.
     World(WorldFault),
-    /// There are not as many lines as stations, or memory ran out.
+    /// There are not as many links as stations, or memory ran out.
     Lines(AtLineFault),
-    /// A move was not made, or what came of it not served.
+    /// A move was not made, or the stations were not served behind it.
     Move(Halt),
-    /// The head or the end was not written.
+    /// The head or the end of the recording was not written.
     Record(WriterFault),
 }
 
@@ -46,14 +46,14 @@ impl From<Halt> for ExerciseFault {
 /// The recording of an exercise.
 #[derive(Drop)]
 pub struct Recorded<W: Drop> {
-    /// Whether it has its end, or why not.
+    /// Whether the recording is complete, or why not.
     pub ended: Result<(), ExerciseFault>,
-    /// The file that it stands in.
+    /// The file that was written.
     pub file: W,
 }
 
-/// Makes moves in their order, and ends the recording. Of stations as they are begun, and a recorder
-/// that was started, all that is written explains itself.
+/// Makes moves in order, and ends the recording. For newly begun stations and a recorder that was
+/// just started, all that is written explains itself.
 fn end_moves<L: Line + Drop, W: Write>(
     alloc: Global,
     stations: &mut Vec<StationAtLine<L>>,
@@ -76,7 +76,7 @@ fn end_moves<L: Line + Drop, W: Write>(
     }
 }
 
-/// Starts the recording of stations at their lines, makes their moves, and ends it.
+/// Starts the recording of stations at their links, makes their moves, and ends the recording.
 fn record_at_lines<L: Line + Drop, W: Write + Drop>(
     alloc: Global,
     head: &Recording,
@@ -112,7 +112,7 @@ fn record_at_lines<L: Line + Drop, W: Write + Drop>(
     Recorded { ended, file }
 }
 
-/// Puts the stations of a world at their lines, and records what they do.
+/// Attaches the stations of a world to their links, and records their moves.
 fn record_begun<L: Line + Drop, W: Write + Drop>(
     alloc: Global,
     begun: Beginning,
@@ -135,19 +135,20 @@ fn record_begun<L: Line + Drop, W: Write + Drop>(
     }
 }
 
-/// Records an exercise from its beginning to its end: the stations of a world are begun, each is put at
-/// its line, and a recording is started; the moves are made in their order, and after each of them the
-/// stations are served ([`make_moves`]); then the recording is ended. Its setting is that of the
-/// stations, in the first form. Of each line nothing was sent before.
+/// Records an exercise from its beginning to its end: begins the stations of a world, attaches each
+/// to its link, starts a recording, makes the moves in order and serves the stations behind each
+/// ([`make_moves`]), and ends the recording. Its setting is that of the stations, in the first
+/// form. No datagram may have been sent through any of the links before.
 ///
-/// Whatever the lines lose, copy, delay or swap, the recording that was written explains itself: its
-/// entries, in the order of the file, are a run that explains it. That asks for no more than that each
-/// datagram received was sent before. After a fault nothing stands in the file, or the beginning of
-/// such a recording, of whose entries the same is so.
+/// Whatever the links lose, copy, delay or swap, the recording explains itself: its entries, in the
+/// order of the file, are a run that explains it. This needs only that each datagram received was
+/// sent before. After a fault the file has nothing new, or the beginning of such a recording, whose
+/// entries explain themselves too.
 ///
-/// World tells that the stations are none of a world, Lines that there are not as many lines, Move the
-/// first move that was not made, by the fault at its line, and Record that the head or the end was not
-/// written; World and Lines tell want of memory, too. With no fault all moves were made.
+/// Errors: World if the stations make no world, Lines if there are not as many links, Move for the
+/// first move that was not made, with the fault at its link, and Record if the head or the end was
+/// not written. World and Lines also report that memory ran out. Without a fault all moves were
+/// made.
 pub fn record_exercise<L: Line + Drop, W: Write + Drop>(
     alloc: Global,
     exercise: u8,

@@ -1,4 +1,4 @@
-//! A call of a station at its line, and what is told of its answer.
+//! Calls of a station at its link, and the text of their answers.
 
 use exercise_recording::RecordingWriter;
 use siman_fixtures::{Asked, Call};
@@ -28,7 +28,7 @@ fn tell_served(told: &mut String, served: Result<Served, ServeFault>) -> Result<
     }
 }
 
-/// Tells what `issue` or `nudge` answers.
+/// Writes the answer of `issue` or `nudge`.
 fn tell<T: Display + Drop>(
     told: &mut String,
     name: &str,
@@ -56,7 +56,7 @@ fn tell_datum(told: &mut String, value: Option<u32>) -> Result<(), AllocError> {
     }
 }
 
-/// Issues the order of the next move.
+/// Issues the order of the next move, and writes the answer.
 fn issue_next<W: Write>(
     alloc: Global,
     station: u16,
@@ -80,7 +80,7 @@ fn issue_next<W: Write>(
     }
 }
 
-/// Makes a call, and tells what it answers; orders are issued as the moves come.
+/// Makes a call, and writes its answer as one line. `moves` supplies the orders that are issued.
 pub fn make_call<W: Write>(
     alloc: Global,
     call: Call,

@@ -1,4 +1,4 @@
-//! Runs the calls of a station at its line, and tells what it left.
+//! Runs the calls of a station at its link, and compares the results with the case.
 
 use crate::station_call::make_call;
 use exercise_recording::RecordingWriter;
@@ -12,16 +12,16 @@ use std::io;
 use std::io::{ErrorKind, Write};
 use std::vec::IntoIter;
 
-/// What the calls of a station left.
+/// Results of the calls of a station.
 #[derive(Drop)]
 pub struct Left {
     pub line: MemoryLine,
     pub file: Written,
-    /// What was answered, a line for each call.
+    /// The answers, one line for each call.
     pub told: String,
 }
 
-/// What the file `script` says.
+/// The script in the file `script` of the case.
 fn script_of(alloc: Global, case: &Case) -> io::Result<Script> {
     let Some(file) = found(&case.files, b"script") else {
         return Err(io::Error::from(ErrorKind::NotFound));
@@ -32,7 +32,7 @@ fn script_of(alloc: Global, case: &Case) -> io::Result<Script> {
     }
 }
 
-/// A line on which these come.
+/// A link in memory on which these datagrams arrive.
 fn line_with(alloc: Global, datagrams: &[Stream], fails_at: Option<u64>) -> io::Result<MemoryLine> {
     let mut coming = Vec::new(alloc);
     for datagram in datagrams {
@@ -58,7 +58,7 @@ fn make_calls<W: Write>(
     Ok(())
 }
 
-/// Records the calls of a case at its station of these.
+/// Starts a recording, and makes the calls of a case at its station of this world.
 fn record_calls(
     alloc: Global,
     case: &Case,
@@ -80,7 +80,7 @@ fn record_calls(
     }
 }
 
-/// Records the calls of a case at its station of its script.
+/// Begins the world of the case's script, and records the calls of the case at its station.
 fn record(alloc: Global, case: &Case, station: u16, left: &mut Left) -> io::Result<()> {
     let Script {
         exercise,
@@ -96,7 +96,8 @@ fn record(alloc: Global, case: &Case, station: u16, left: &mut Left) -> io::Resu
     }
 }
 
-/// What the calls of a case leave, where this call of the line fails, and what is written goes so.
+/// Results of the calls of a case, where the call `fails_at` of the link fails, and the calls that
+/// write the recording have these limits.
 fn run_at_line(
     alloc: Global,
     case: &Case,
@@ -113,7 +114,7 @@ fn run_at_line(
     Ok(left)
 }
 
-/// What is on a line: each datagram in hex digits, with a line end.
+/// Text of the datagrams on a link: each in hex digits, with a line end.
 pub fn sent_text(alloc: Global, sent: &[Vec<u8>]) -> Result<String, AllocError> {
     let mut text = String::new(alloc);
     for datagram in sent {
@@ -124,8 +125,8 @@ pub fn sent_text(alloc: Global, sent: &[Vec<u8>]) -> Result<String, AllocError> 
     Ok(text)
 }
 
-/// Tells what was answered, how many datagrams are on a line and how many entries are written whole,
-/// and whether each datagram is that of a sent entry of its own among these.
+/// Writes the answers, then the number of datagrams on the link, whether each of them is in a sent
+/// entry of its own, and the number of whole entries.
 fn tell_left(
     told: &mut String,
     answers: &str,
@@ -143,7 +144,8 @@ fn tell_left(
     writeln!(told, "sent {count}, {are_all} recorded, entries {whole}")
 }
 
-/// Lets each call of the line fail in turn, and tells what that leaves.
+/// Runs the case again with each of the first `each_call` calls of the link failing in turn, and
+/// writes the results.
 fn fail_each_call(alloc: Global, case: &Case, station: u16, told: &mut String) -> io::Result<()> {
     for number in 1..=case.each_call {
         writeln!(told, "call {number} fails")?;
@@ -154,8 +156,8 @@ fn fail_each_call(alloc: Global, case: &Case, station: u16, told: &mut String) -
     Ok(())
 }
 
-/// Whether all stands as it must where this byte, from 0, is the first that is not written: the
-/// bytes before it are, and what is on the line is what the entries say that are whole in them.
+/// Whether the results are right if this byte, from 0, is the first that can't be written: the
+/// bytes before it are in the file, and the datagrams on the link are those of its whole entries.
 fn stands_before(alloc: Global, case: &Case, station: u16, byte: usize) -> io::Result<bool> {
     let calls = Calls {
         most: 1,
@@ -171,7 +173,8 @@ fn stands_before(alloc: Global, case: &Case, station: u16, byte: usize) -> io::R
     )
 }
 
-/// Lets each byte that is written fail in turn, and tells how often all stands as it must.
+/// Runs the case again with the write of each byte failing in turn, and writes how often the
+/// results are right.
 fn fail_each_byte(alloc: Global, case: &Case, station: u16, told: &mut String) -> io::Result<()> {
     if !case.each_byte {
         return Ok(());
@@ -186,7 +189,7 @@ fn fail_each_byte(alloc: Global, case: &Case, station: u16, told: &mut String) -
     Ok(())
 }
 
-/// Prints what was left where it is otherwise.
+/// Whether `left` equals `wanted`; prints `left` if not.
 pub fn compare<W: Write>(
     name: &str,
     part: &str,
@@ -202,7 +205,7 @@ pub fn compare<W: Write>(
     Ok(false)
 }
 
-/// Tells what was left, and what is left where calls of the line or bytes fail.
+/// Writes the results, and those with calls of the link or writes failing.
 fn tell_all(alloc: Global, case: &Case, station: u16, left: &mut Left) -> io::Result<()> {
     let Left { line, file, told } = left;
     tell_left(told, "", station, line.sent(), entries_of(&file.bytes))?;
@@ -210,7 +213,7 @@ fn tell_all(alloc: Global, case: &Case, station: u16, left: &mut Left) -> io::Re
     fail_each_byte(alloc, case, station, told)
 }
 
-/// Prints what was left otherwise; whether nothing is.
+/// Whether the results are those that the case expects; prints those that are not.
 fn compare_left<W: Write>(
     alloc: Global,
     case: &Case,
@@ -229,7 +232,7 @@ fn compare_left<W: Write>(
     Ok(is_told && is_sent && is_left)
 }
 
-/// Runs a case of a station at its line, and prints what is otherwise; whether nothing is.
+/// Whether a case of a station at its link ends as expected; prints the results that differ.
 pub fn try_at_line<W: Write>(
     alloc: Global,
     case: &Case,

@@ -1,4 +1,4 @@
-//! A network in memory: what one line is handed comes on each other, whole, once and in order.
+//! A network in memory: what one link sends, all others receive, whole, once and in order.
 
 ghost use Rattle.std.specs.Prelude.{◌≡◌, IfOk, length};
 
@@ -9,35 +9,35 @@ use std::alloc::{AllocError, Global};
 use std::cell::RefCell;
 use std::rc::Rc;
 
-/// A datagram, and the number of the line that it was handed to. `None`: a receive finds nothing.
+/// A datagram, with the number of the link that sent it. `None`: a receive finds nothing.
 #[derive(Drop)]
 struct Sent {
     line: usize,
     datagram: Option<Vec<u8>>,
 }
 
-/// What was sent on the network, the oldest first.
+/// All that was sent on the network, oldest first.
 #[derive(Drop)]
 struct Wire {
     alloc: Global,
     sent: Vec<Sent>,
-    /// How many calls its lines made.
+    /// Number of calls that its links made.
     calls: u64,
-    /// The number of the call that fails, from 1.
+    /// Number of the call that fails, from 1.
     fails_at: Option<u64>,
 }
 
-/// The end of the network at one station.
+/// The link of one station to the network.
 #[derive(Drop)]
 pub struct WireLine {
     wire: Rc<RefCell<Wire>>,
     line: usize,
-    /// How many datagrams of the network it passed so far.
+    /// Number of items of the network that this link has passed.
     passed: usize,
     failures: Log<(), ()>,
 }
 
-/// Lines of one network, of whose calls this one fails.
+/// The links of one network; of all their calls the one numbered `fails_at`, from 1, fails.
 pub fn lines_of(
     alloc: Global,
     count: usize,
@@ -67,20 +67,20 @@ pub fn lines_of(
 }
 
 impl Wire {
-    /// Counts a call, and says whether it is the one that fails.
+    /// Counts a call; whether it is the one that fails.
     fn is_failing(&mut self) -> bool {
         self.calls = self.calls.saturating_add(1);
         self.fails_at == Some(self.calls)
     }
 
-    /// Takes what a line is handed.
+    /// Appends a copy of a datagram that this link sends.
     fn take(&mut self, line: usize, datagram: &[u8]) -> Result<(), AllocError> {
         let datagram = Some(Vec::from_slice(self.alloc, datagram)?);
         self.sent.push(Sent { line, datagram })?;
         Ok(())
     }
 
-    /// A receive of another line than this finds nothing once.
+    /// Makes one receive of each other link find nothing.
     fn pause(&mut self, line: usize) -> Result<(), AllocError> {
         self.sent.push(Sent {
             line,
@@ -89,7 +89,7 @@ impl Wire {
         Ok(())
     }
 
-    /// The place of the first datagram, from this one on, that another line was handed.
+    /// Index of the first item, from `from` on, that another link sent.
     fn next_for(&self, line: usize, from: usize) -> Option<usize> {
         for place in from..self.sent.len() {
             if self.sent[place].line != line {
@@ -110,7 +110,7 @@ impl WireLine {
         LineFault::Failed
     }
 
-    /// Hands the network a datagram.
+    /// Sends a datagram on the network.
     fn put(&self, datagram: &[u8]) -> Result<(), LineFault> {
         let Ok(mut wire) = self.wire.try_borrow_mut() else {
             return Err(LineFault::Failed);
@@ -124,7 +124,8 @@ impl WireLine {
         }
     }
 
-    /// The next datagram for this line stands at the front of the buffer, as far as it has room.
+    /// Copies the next datagram for this link to the front of the buffer, cut off where the buffer
+    /// ends, and returns the number of bytes. `None`: there is no datagram, or a pause was next.
     fn get(&mut self, buffer: &mut [u8]) -> Result<Option<usize>, LineFault>
         ensures within { IfOk result (λ r. IfSome r (λ n. n ≤ length buffer.new)) }
         ensures failures { self.new.failures ≡ self.old.failures }
@@ -150,8 +151,9 @@ impl WireLine {
         Ok(Some(taken))
     }
 
-    /// Puts what is to come on the other lines on the network, and counts no call. As often as these
-    /// pauses have the number of a datagram, from 0, their receives find nothing before it.
+    /// Puts datagrams for the other links on the network, without counting a call. Each occurrence
+    /// of a number in `pauses` makes one receive before the datagram with this number, from 0, find
+    /// nothing.
     fn begin_with(&self, coming: &[Stream], pauses: &[usize]) -> Result<(), AllocError> {
         let Ok(mut wire) = self.wire.try_borrow_mut() else {
             return Ok(());
@@ -167,7 +169,7 @@ impl WireLine {
         Ok(())
     }
 
-    /// What the other lines of the network were handed so far.
+    /// Copies of all datagrams that the other links of the network sent.
     pub fn heard(&self, alloc: Global) -> Result<Vec<Vec<u8>>, AllocError> {
         let mut heard = Vec::new(alloc);
         let Ok(wire) = self.wire.try_borrow_mut() else {
@@ -184,9 +186,9 @@ impl WireLine {
     }
 }
 
-/// The line of a station on which these datagrams come, and that of its peer, which sent them. Of the
-/// calls of both this one fails. As often as these pauses have the number of a datagram, from 0, a
-/// receive finds nothing before it.
+/// The link of a station on which these datagrams arrive, and the link of its peer, which sent
+/// them. Of the calls of both the one numbered `fails_at`, from 1, fails. Each occurrence of a
+/// number in `pauses` makes one receive before the datagram with this number, from 0, find nothing.
 pub fn line_with(
     alloc: Global,
     coming: &[Stream],
@@ -203,7 +205,7 @@ pub fn line_with(
     }
 }
 
-/// It tells nothing of its datagrams; a call that failed is counted.
+/// Its contract does not expose the datagrams, only the number of failed calls.
 impl Line for WireLine {
     ghost use Rattle.std.specs.Prelude.{◌≡◌, length};
 
@@ -211,7 +213,7 @@ impl Line for WireLine {
 
     ghost finds_nothing = { λ old new. new.failures ≡ old.failures };
 
-    // Nothing comes from elsewhere.
+    // No datagram arrives from a stranger.
     ghost strangers = { λ _. 0 };
 
     fn send(&mut self, datagram: &[u8]) -> Result<(), LineFault> {

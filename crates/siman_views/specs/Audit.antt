@@ -1,4 +1,4 @@
--- What `audit` says of a recording, and how it ends.
+-- The answer of `audit` about a recording, and its ending.
 use Rattle.std.specs.Prelude.{◌≡◌, ◌⊎◌, ℕ, Bool, List, [], length, string_bytes, Option, Result, Ok, Err}
 use Rattle.std.specs.Io.KnownBytes.{Keeps}
 use Rattle.exercise_model.specs.Recording.{PlainRecording}
@@ -32,35 +32,35 @@ blocked_text r blocks = lines_text (blocked_lines r blocks)
 abbrev pub IsListOf : PlainRecording → (text : List ℕ) → Type 0
 IsListOf r text = (blocks : List Block) × IsBlocked r blocks × (text ≡ blocked_text r blocks)
 
--- ---- what is found
+-- ---- the result of a search
 
--- SOME ORDER EXPLAINS what was read, and these are the steps of its certificate
+-- SOME SEQUENCE EXPLAINS the recording, and these are the steps of its certificate
 pub record FindsOrder (recorded : Recorded) (steps : List Step) : Type 0 where
-  -- the file is this recording
+  -- The file is this recording.
   pub recording : PlainRecording
   pub read : recorded ≡ Ok recording
-  -- there is a step for each entry, and each step is good
+  -- There is a step for each entry, and each step is good.
   pub good : IsGood recording steps
-  -- the order that they name is a run that explains the recording: the headline's sentences hold of it
+  -- The sequence that the steps name is a run that explains the recording: the headline's sentences hold of it.
   pub holds : Holds recording (order_of recording steps)
-  -- and what the recording says is so in every run that explains it: the same pairs, the same states at the end
+  -- What the recording says holds in every run that explains it: the pairs of entries, and the states at the end.
   pub said : IsAlwaysAsSaid recording
 
--- NO ORDER EXPLAINS what was read, and this is its blocked list
+-- NO SEQUENCE EXPLAINS the recording, and this is its blocked list
 pub record FindsNone (recorded : Recorded) (text : List ℕ) : Type 0 where
   pub recording : PlainRecording
   pub read : recorded ≡ Ok recording
-  -- no run explains it, and the blocks are those of every run that can't go on
+  -- No run explains it, and the blocks are those of every run that cannot go on.
   pub blocks : List Block
   pub blocked : IsBlocked recording blocks
   pub list : text ≡ blocked_text recording blocks
 
--- the texts of an order: its certificate, and its line
+-- the texts about a sequence: its certificate, and its line
 pub record AreTextsOf (steps : List Step) (certificate line : List ℕ) : Type 0 where
   pub certificate_is : certificate ≡ certificate_text steps
   pub line_is : line ≡ explained_text (length steps)
 
--- what a search found, with its texts
+-- the result of a search, with its texts
 abbrev pub Finds : Recorded → Finding → Type 0
 Finds recorded (Order texts) =
     (steps : List Step) × FindsOrder recorded steps × AreTextsOf steps texts.certificate.items (string_bytes texts.line)
@@ -70,27 +70,27 @@ abbrev pub Searches : Recorded → Result Finding Fault → Type 0
 Searches recorded (Ok finding) = Finds recorded finding
 Searches recorded (Err fault) = IsUnsearched recorded fault
 
--- ---- what is written
+-- ---- the writing
 
--- WHAT IS WRITTEN OF A FINDING: of an order its texts, and of none the blocked list
+-- THE TEXTS OF A RESULT are written: certificate and line of a sequence, or the blocked list
 abbrev pub PutsFinding : Finding → Result ℕ Fault → (file out : Stream) → Type 0
 PutsFinding (Order texts) answered file out = PutsBoth texts.certificate.items (string_bytes texts.line) answered file out
 PutsFinding (Stuck text) answered file out = Keeps file.old file.new × PutsBlocked (string_bytes text) answered out
 
--- What `audit` tells: nothing was searched, and nothing is written; or an order explains the recording, and its certificate and its line are written; or none does, the file is as it was, and the blocked list is written.
+-- The answer of `audit`: a fault, with nothing written; or a sequence explains the recording, and its certificate and its line are written; or none does, the file is unchanged, and the blocked list is written.
 abbrev pub TellsAudit : Recorded → (answered : Result ℕ Fault) → (file out : Stream) → Type 0
 TellsAudit recorded answered file out =
     ((fault : Fault) × IsUnsearched recorded fault × (answered ≡ Err fault) × Keeps file.old file.new × Keeps out.old out.new)
     ⊎ ((finding : Finding) × Finds recorded finding × PutsFinding finding answered file out)
 
--- HOW `audit` ENDS: what it found is in the file and out, and it ends as that asks for
+-- HOW `audit` ENDS: its answer is in the file and on the output, and its status and fault are those of the answer
 abbrev pub EndsAudit : Recorded → (status : ℕ) → (file out errors : Stream) → Type 0
 EndsAudit recorded status file out errors =
     (answered : Result ℕ Fault) × TellsAudit recorded answered file out × EndsWith answered status errors.old errors.new
 
 -- ---- by the names of files
 
--- WHAT COMES OF A FILE for `audit` that has these bytes, where they are known, and what is made of it: a file of the certificate of an order, and none where there is no order
+-- THE RESULT OF A FILE with these bytes, if they are known, and the file made of it: a certificate if there is a sequence, else no file
 abbrev pub SearchesFile : (known : Option (List ℕ)) → Result Finding Fault → Type 0
 SearchesFile known found = (bytes : List ℕ) × Has known bytes × Searches (recording_at LARGEST_RECORDING bytes) found
 

@@ -1,4 +1,4 @@
--- The words that ask for the lines of one key with a value: KEY=VALUE (profile).
+-- Filters, as words KEY=VALUE (profile).
 use Rattle.std.specs.Prelude.{ℕ, List, codes, Option, Some, None, option_map, if◌then◌else◌}
 use Rattle.std.specs.Option.{option_or}
 use Rattle.std.specs.Str.{bytes_eq}
@@ -26,7 +26,7 @@ outsider_of word = do
   application ← number_to 65535 p.1
   Some (record { site = site; application = application })
 
--- `S:A/N`, a request of whoever made it: its identifier has 32 bits
+-- `S:A/N`, a request by its sender and its identifier of 32 bits
 abbrev pub request_of : List ℕ → Option Filter
 request_of word = do
   p ← cut_at 47 word
@@ -34,7 +34,7 @@ request_of word = do
   request ← number_to 4294967295 p.1
   Some (filters.Request asker request)
 
--- the name of a fate
+-- the fate with a name
 abbrev pub fate_of : List ℕ → Option Fate
 fate_of word =
     if bytes_eq word (fate_text fates.Done) then Some fates.Done
@@ -48,7 +48,7 @@ fate_of word =
     else if bytes_eq word (fate_text fates.Nobody) then Some fates.Nobody
     else None
 
--- the name of a kind of request, and of another kind of PDU
+-- the kind of request with a name, and another kind of PDU
 abbrev pub request_kind_of : List ℕ → Option Kind
 request_kind_of word =
     if bytes_eq word (kind_text kinds.CreateEntity) then Some kinds.CreateEntity
@@ -72,19 +72,19 @@ other_kind_of word =
 abbrev pub kind_of : List ℕ → Option Kind
 kind_of word = option_or (request_kind_of word) (other_kind_of word)
 
--- the name of an entry: of the kind of its PDU, or `told` or `other`
+-- the name of an entry: that of the kind of its PDU, or `told` or `other`
 abbrev pub name_of : List ℕ → Option EntryName
 name_of word =
     if bytes_eq word (codes "told") then Some names.Told
     else if bytes_eq word (codes "other") then Some names.Other
     else option_map names.Kind (kind_of word)
 
--- the filter of the key that one view has alone: `fate=WORD` of `review`, `kind=NAME` of `log`
+-- the filter for a key that one view has alone: `fate=WORD` of `review`, `kind=NAME` of `log`
 abbrev pub own_filter : ViewWord → (key word : List ℕ) → Option Filter
 own_filter Review key word = if bytes_eq key (codes "fate") then option_map filters.Fate (fate_of word) else None
 own_filter Log key word = if bytes_eq key (codes "kind") then option_map filters.Kind (name_of word) else None
 
--- a filter of a view by its key and the word behind it
+-- the filter of a view for a key and its value
 abbrev pub filter_by : ViewWord → (key word : List ℕ) → Option Filter
 filter_by view key word =
     if bytes_eq key (codes "station") then option_map filters.Station (outsider_of word)
@@ -92,8 +92,7 @@ filter_by view key word =
     else if bytes_eq key (codes "request") then request_of word
     else own_filter view key word
 
--- THE FILTER OF A WORD, for a view: `station=S:A`, `entity=S:A:E`, `request=S:A/N`, for `review` `fate=WORD` and for `log` `kind=NAME`; numbers in
--- decimal, which zeros may begin
+-- THE FILTER THAT A WORD IS for a view: `station=S:A`, `entity=S:A:E`, `request=S:A/N`, for `review` `fate=WORD` and for `log` `kind=NAME`; numbers are decimal and may have leading zeros
 abbrev pub filter_of : ViewWord → List ℕ → Option Filter
 filter_of view word = do
   p ← cut_at 61 word

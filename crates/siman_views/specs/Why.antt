@@ -1,4 +1,4 @@
--- What `why` says of a recording, or of a certificate, and how it ends.
+-- The answer of `why` about a recording or a certificate, and its ending.
 use Rattle.std.specs.Prelude.{◌≡◌, ◌⊎◌, ℕ, List, ◌++◌, length, string_bytes, Option, Some, None, Result, Ok, Err}
 use Rattle.std.specs.Io.KnownBytes.{Appends, Keeps}
 use Rattle.byte_files.specs.Writing.{WritesPart}
@@ -30,32 +30,32 @@ use Rattle.siman_answers.specs.Saying.{SaysOfFile, SaysOfFiles}
 
 -- ---- a recording alone
 
--- the lines of what contradicts what in a recording, and behind them those of the entries that they name
+-- the lines of a recording's conflict, then those of the entries that they name
 abbrev pub conflict_told : PlainRecording → Conflict → List Line
 conflict_told r c = conflict_lines r c ++ named_lines r (conflict_entries c)
 
--- SOME ORDER EXPLAINS the recording that was read
+-- SOME SEQUENCE EXPLAINS the recording
 pub record SaysExplained (spelling : Spelling) (recorded : Recorded) (text : List ℕ) : Type 0 where
-  -- the file is this recording
+  -- The file is this recording.
   pub recording : PlainRecording
   pub read : recorded ≡ Ok recording
-  -- there is a good certificate of it
+  -- It has a good certificate.
   pub steps : List Step
   pub good : IsGood recording steps
-  -- its line says so, with the number of steps
+  -- The line says so, with the number of steps.
   pub text_is : text ≡ line_spelled spelling (explained_line (length recording.entries))
 
--- NO ORDER DOES, and this is what contradicts what
+-- NO SEQUENCE DOES, and this is the conflict
 pub record SaysConflict (spelling : Spelling) (recorded : Recorded) (text : List ℕ) : Type 0 where
   pub recording : PlainRecording
   pub read : recorded ≡ Ok recording
-  -- the blocked list, and what comes of it, are those of the recording
+  -- The blocked list and the rest of the conflict are those of the recording.
   pub conflict : Conflict
   pub contradicts : IsConflictOf recording conflict
-  -- these are its lines
+  -- The text is its lines.
   pub text_is : text ≡ lines_spelled spelling (conflict_told recording conflict)
 
--- WHAT IS TO BE SAID of a recording, with status 0 where some order explains it, else with status 1
+-- THE ANSWER FOR A RECORDING, with status 0 if some sequence explains it, else with status 1
 abbrev pub SaysWhy : Spelling → Recorded → (text : List ℕ) → (status : ℕ) → Type 0
 SaysWhy spelling recorded text status = (SaysExplained spelling recorded text × (status ≡ 0)) ⊎ (SaysConflict spelling recorded text × (status ≡ 1))
 
@@ -65,7 +65,7 @@ Whys spelling recorded (Err fault) = IsUnsearched recorded fault
 
 -- ---- a recording and a certificate
 
--- the lines of a certificate that is not good, and behind them those of the entries that they name
+-- the lines of a certificate that is not good, then those of the entries that they name
 abbrev pub refusal_told : PlainRecording → Refusal → List Line
 refusal_told r f = refusal_lines r f ++ named_lines r (refusal_entries f)
 
@@ -73,11 +73,11 @@ refusal_told r f = refusal_lines r f ++ named_lines r (refusal_entries f)
 pub record SaysGood (spelling : Spelling) (recorded : Recorded) (certified : Certified) (text : List ℕ) : Type 0 where
   pub recording : PlainRecording
   pub read : recorded ≡ Ok recording
-  -- the second file is the certificate of these steps
+  -- The second file is the certificate with these steps.
   pub steps : List Step
   pub certificate : certified ≡ Ok steps
   pub good : IsGood recording steps
-  -- the first line of its report
+  -- The text is the first line of its report.
   pub text_is : text ≡ line_spelled spelling (yes_line (length recording.entries) (others_of recording))
 
 -- THE CERTIFICATE IS NOT GOOD, and this is what its first bad step contradicts
@@ -91,7 +91,7 @@ pub record SaysRefusal (spelling : Spelling) (recorded : Recorded) (certified : 
   pub refused : IsRefusalOf recording steps refusal
   pub text_is : text ≡ lines_spelled spelling (refusal_told recording refusal)
 
--- WHAT IS TO BE SAID of two files, with status 0 where the certificate is good, else with status 1
+-- THE ANSWER FOR A RECORDING AND A CERTIFICATE, with status 0 if the certificate is good, else with status 1
 abbrev pub SaysWhyNot : Spelling → Recorded → Certified → (text : List ℕ) → (status : ℕ) → Type 0
 SaysWhyNot spelling recorded certified text status =
     (SaysGood spelling recorded certified text × (status ≡ 0)) ⊎ (SaysRefusal spelling recorded certified text × (status ≡ 1))
@@ -100,25 +100,25 @@ abbrev pub WhysNot : Spelling → Recorded → Certified → Result WhyText Faul
 WhysNot spelling recorded certified (Ok told) = SaysWhyNot spelling recorded certified (string_bytes told.text) told.status
 WhysNot spelling recorded certified (Err fault) = IsUnjudged recorded certified fault
 
--- ---- what is written
+-- ---- the writing
 
 -- A text was written whole, with its status, or a prefix of it.
 abbrev pub PutsWhy : (text : List ℕ) → (status : ℕ) → Answered → (out : Stream) → Type 0
 PutsWhy text status (Ok answered) out = (answered ≡ status) × Appends out.old out.new text
 PutsWhy text status (Err fault) out = (fault ≡ Output) × WritesPart out.old out.new text
 
--- What `why` tells: a text that says it, or nothing, of a fault.
+-- The answer of `why`: its text, or a fault with no text.
 abbrev pub TellsWhy : (Says : (text : List ℕ) → (status : ℕ) → Type 0) → (IsUnsaid : Fault → Type 0) → Answered → (out : Stream) → Type 0
 TellsWhy Says IsUnsaid answered out =
     ((fault : Fault) × IsUnsaid fault × (answered ≡ Err fault) × Keeps out.old out.new)
     ⊎ ((text : List ℕ) × (status : ℕ) × Says text status × PutsWhy text status answered out)
 
--- WHAT `why` SAYS of a file that has these bytes, where they are known
+-- THE ANSWER OF `why` for a file with these bytes, if they are known
 abbrev pub WhyOfFile : Spelling → (known : Option (List ℕ)) → Answered → (out : Stream) → Type 0
 WhyOfFile spelling known answered out =
     (bytes : List ℕ) × Has known bytes × (let recorded = recording_at LARGEST_RECORDING bytes in TellsWhy (SaysWhy spelling recorded) (IsUnsearched recorded) answered out)
 
--- and of two files
+-- the answer for a recording and a certificate
 abbrev pub WhyOfFiles : Spelling → (recording certificate : Option (List ℕ)) → Answered → (out : Stream) → Type 0
 WhyOfFiles spelling recording certificate answered out =
     (bytes : List ℕ) × Has recording bytes
@@ -127,11 +127,11 @@ WhyOfFiles spelling recording certificate answered out =
     let certified = certificate_at LARGEST_CERTIFICATE text in
     TellsWhy (SaysWhyNot spelling recorded certified) (IsUnjudged recorded certified) answered out))
 
--- HOW `why` ENDS: what it said is out, and it ends as that asks for
+-- HOW `why` ENDS: its answer is on the output, and its status and fault are those of the answer
 abbrev pub EndsWhy : (Tells : Answered → Stream → Type 0) → (status : ℕ) → (out errors : Stream) → Type 0
 EndsWhy Tells status out errors = (answered : Answered) × Tells answered out × EndsWith answered status errors.old errors.new
 
--- by the name of a file, and perhaps of another: they are opened in that order before either is read
+-- the answer for the name of a file, and perhaps of another: they are opened in that order before either is read
 abbrev pub WhyNamed : Spelling → (name : List ℕ) → (other : Option (List ℕ)) → List Deed → Answered → (out : Stream) → Type 0
 WhyNamed spelling name None deeds answered out = SaysOfFile (WhyOfFile spelling) name deeds answered out
 WhyNamed spelling name (Some other) deeds answered out = SaysOfFiles (WhyOfFiles spelling) name other deeds answered out

@@ -1,4 +1,4 @@
-//! The command `audit`: a recording, searched for an order that explains it.
+//! The command `audit`: searches a recording for a sequence that explains it.
 
 ghost use Rattle.std.specs.Prelude.{◌≡◌, ◌≤◌, ℕ, List, Option, length, All, Ok, IfOk};
 ghost use Rattle.std.specs.Io.KnownBytes.{Keeps};
@@ -25,31 +25,32 @@ use siman_texts::Spelling;
 use std::alloc::{AllocError, Global};
 use std::io::{Read, Write};
 
-/// The texts of an order that explains a recording: that of its certificate, and its line.
+/// The texts about a sequence that explains a recording: its certificate, and the line of the
+/// answer.
 #[derive(Drop)]
 pub struct OrderTexts {
     pub certificate: Vec<u8>,
     pub line: String,
 }
 
-/// What a search found, with the texts that tell of it.
+/// Result of a search, with its texts.
 #[derive(Drop)]
 pub enum Finding {
-    /// Some order explains the recording.
+    /// Some sequence explains the recording.
     Order(OrderTexts),
-    /// No order does: the blocked list.
+    /// No sequence does: the blocked list.
     Stuck(String),
 }
 
-/// Searches the recording that a reader has for an order that explains it. Where there is one, its
-/// certificate is written to the file, whole, and then `explained steps=N` to `out`, with status 0.
-/// Where there is none, `blocked stations=N` and a line `blocked ADDRESS record=N cause=N NAME` for
-/// each station that can't go on are written to `out` with status 1, and the file is not touched.
+/// Reads a recording and searches for a sequence that explains it. If there is such a sequence,
+/// writes its whole certificate to the file, then `explained steps=N` to `out`, and returns status
+/// 0. If not, writes `blocked stations=N` and a line `blocked ADDRESS record=N cause=N NAME` for
+/// each station that cannot go on to `out`, returns status 1, and leaves the file untouched.
 ///
-/// Status 2 with a line on `errors` tells the first field of the recording that is bad (`recording:
-/// NAME at OFFSET`) or a failed read (`recording: read`), both with nothing written, or a failed
-/// write (`output: write`), after which a prefix of the certificate is written and no line, or the
-/// certificate and a prefix of the line. Status 3 is want of memory (`memory`), and nothing is
+/// Status 2 with a line on `errors` reports the first bad field of the recording (`recording: NAME
+/// at OFFSET`) or a failed read (`recording: read`), both with nothing written, or a failed write
+/// (`output: write`), after which a prefix of the certificate is written and no line, or the
+/// certificate and a prefix of the line. Status 3 is lack of memory (`memory`), with nothing
 /// written.
 pub fn audit_command<R: Read + Drop, F: Write, W: Write, E: Write>(
     alloc: Global,
@@ -67,7 +68,7 @@ pub fn audit_command<R: Read + Drop, F: Write, W: Write, E: Write>(
     end(audited(alloc, recording, certificate, out), errors).status
 }
 
-/// Searches the recording that a reader has, writes what was found, and gives the status.
+/// Reads and searches a recording, writes the result, and returns the status.
 fn audited<R: Read + Drop, F: Write, W: Write>(
     alloc: Global,
     recording: R,
@@ -84,7 +85,7 @@ fn audited<R: Read + Drop, F: Write, W: Write>(
     }
 }
 
-/// Searches the recording that a reader has for an order that explains it.
+/// Reads a recording and searches for a sequence that explains it.
 fn search<R: Read + Drop>(
     alloc: Global,
     recording: R,
@@ -96,7 +97,7 @@ fn search<R: Read + Drop>(
     search_bytes(alloc, &bytes, notes)
 }
 
-/// Searches the recording whose file these bytes are for an order that explains it.
+/// Searches the recording of a file's bytes for a sequence that explains it.
 fn search_bytes(alloc: Global, bytes: &[u8], notes: &mut Notes) -> Result<Finding, Fault<'static>>
     ensures { Searches (recording_at LARGEST_RECORDING bytes.now) result }
 {
@@ -114,7 +115,7 @@ fn search_log<L: ExerciseLog>(alloc: Global, log: &L) -> Result<Finding, AllocEr
     }
 }
 
-/// The texts of an order that explains a recording.
+/// The texts about a sequence that explains a recording, given its certificate.
 fn order<L: ExerciseLog>(
     alloc: Global,
     log: &L,
@@ -145,7 +146,7 @@ fn certificate_bytes(alloc: Global, certificate: &Certificate) -> Result<Vec<u8>
     }
 }
 
-/// The blocked list of a recording that no order explains.
+/// The blocked list of a recording that no sequence explains.
 #[tactic(auto, using(siman_conflicts::proofs::Offered::blocks_within))]
 fn stuck<L: ExerciseLog>(alloc: Global, log: &L, blocks: &[Block]) -> Result<Finding, AllocError>
     requires { IsBlocked (L.recording log.now) blocks.now }
@@ -156,7 +157,7 @@ fn stuck<L: ExerciseLog>(alloc: Global, log: &L, blocks: &[Block]) -> Result<Fin
     Ok(Finding::Stuck(text))
 }
 
-/// Writes what was found, and gives the status.
+/// Writes the result of a search, and returns the status.
 fn put_finding<F: Write, W: Write>(
     alloc: Global,
     finding: &Finding,
@@ -196,7 +197,7 @@ impl Making for OrderTexts {
     }
 }
 
-/// What comes of a recording: the file of its certificate, and where it has none the blocked list.
+/// The file of a certificate, made from a recording; the blocked list for a recording without one.
 impl Product for Finding {
     ghost use Rattle.siman_views.specs.Audit.{SearchesFile};
 
@@ -224,7 +225,7 @@ impl Product for Finding {
     }
 }
 
-/// Makes the file of the certificate that was found; where none was, no file is made.
+/// Makes the file of the certificate; without one makes no file and writes the blocked list.
 fn make_found<O: Outside, W: Write>(
     alloc: Global,
     finding: &Finding,

@@ -1,4 +1,4 @@
-//! The words that ask for the lines of one key with a value.
+//! Filters, parsed from words `key=value`.
 
 ghost use Rattle.std.specs.Prelude.{◌≡◌};
 ghost use Rattle.siman_views.specs.FilterWords.{outsider_of, request_of, fate_of, request_kind_of, other_kind_of, kind_of, name_of, own_filter, filter_by, filter_of};
@@ -19,7 +19,7 @@ fn outsider_of(word: &[u8]) -> Option<Outsider>
     })
 }
 
-/// The request that a word `S:A/N` names.
+/// The filter of the request that a word `S:A/N` names.
 fn request_of(word: &[u8]) -> Option<Filter>
     ensures { result ≡ request_of word.now }
 {
@@ -27,7 +27,7 @@ fn request_of(word: &[u8]) -> Option<Filter>
     Some(Filter::Request(outsider_of(asker)?, number_32(request)?))
 }
 
-/// The fate of a name.
+/// The fate with this name.
 fn fate_of(word: &[u8]) -> Option<Fate>
     ensures { result ≡ fate_of word.now }
 {
@@ -61,7 +61,7 @@ fn fate_of(word: &[u8]) -> Option<Fate>
     None
 }
 
-/// The kind of request of a name.
+/// The kind of request with this name.
 fn request_kind_of(word: &[u8]) -> Option<Kind>
     ensures { result ≡ request_kind_of word.now }
 {
@@ -89,7 +89,7 @@ fn request_kind_of(word: &[u8]) -> Option<Kind>
     None
 }
 
-/// The kind of a name, of those that are no requests.
+/// The kind of PDU with this name, among those that are no requests.
 fn other_kind_of(word: &[u8]) -> Option<Kind>
     ensures { result ≡ other_kind_of word.now }
 {
@@ -111,7 +111,7 @@ fn other_kind_of(word: &[u8]) -> Option<Kind>
     None
 }
 
-/// The kind of a name.
+/// The kind of PDU with this name.
 fn kind_of(word: &[u8]) -> Option<Kind>
     ensures { result ≡ kind_of word.now }
 {
@@ -121,7 +121,7 @@ fn kind_of(word: &[u8]) -> Option<Kind>
     }
 }
 
-/// The name that a word is of entries: that of a kind of PDU, `told` or `other`.
+/// The name of entries that a word is: that of a kind of PDU, `told` or `other`.
 fn name_of(word: &[u8]) -> Option<EntryName>
     ensures { result ≡ name_of word.now }
 {
@@ -134,7 +134,7 @@ fn name_of(word: &[u8]) -> Option<EntryName>
     Some(EntryName::Kind(kind_of(word)?))
 }
 
-/// The filter of the key that one view has alone, and of the word behind it.
+/// The filter for a key that only this view has, and its value.
 fn own_filter(view: ViewWord, key: &[u8], word: &[u8]) -> Option<Filter>
     ensures { result ≡ own_filter view key.now word.now }
 {
@@ -145,7 +145,7 @@ fn own_filter(view: ViewWord, key: &[u8], word: &[u8]) -> Option<Filter>
     }
 }
 
-/// A filter of a view by its key and the word behind it.
+/// The filter of a view for a key and its value.
 fn filter_by(view: ViewWord, key: &[u8], word: &[u8]) -> Option<Filter>
     ensures { result ≡ filter_by view key.now word.now }
 {
@@ -161,9 +161,9 @@ fn filter_by(view: ViewWord, key: &[u8], word: &[u8]) -> Option<Filter>
     own_filter(view, key, word)
 }
 
-/// The filter of a word, for a view: `station=S:A`, `entity=S:A:E` or `request=S:A/N`, for `review`
-/// also `fate=WORD`, and for `log` `kind=NAME`. Numbers are in decimal, each in the range of its
-/// field, and zeros may stand before them.
+/// The filter that a word is for a view: `station=S:A`, `entity=S:A:E` or `request=S:A/N`, for
+/// `review` also `fate=WORD`, and for `log` `kind=NAME`. Numbers are decimal, each in the range of
+/// its field, and may have leading zeros.
 pub fn filter_of(view: ViewWord, word: &[u8]) -> Option<Filter>
     ensures { result ≡ filter_of view word.now }
 {

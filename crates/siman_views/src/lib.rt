@@ -1,13 +1,14 @@
-//! The commands that look into the history of a recording: the search for an order, `audit`; the views
-//! `review` and `log`; and what contradicts what, `why`.
+//! The commands that judge and show the history of a recording: `audit`, which searches for a
+//! sequence that explains it, the views `review` and `log`, and `why`, which says what contradicts
+//! what. Over readers and writers there are [`audit_command`], [`review_command`], [`log_command`],
+//! [`why_command`] and [`why_not_command`]; over the names of files and a `siman_answers::Outside`
+//! [`review_named`], [`log_named`], [`why_named`] and the [`Finding`] of a search. Their lines are
+//! those of `siman_reports`, `siman_logs` and `siman_conflicts`; [`filter_of`] parses a filter.
 //!
-//! It opens no file itself and ends no process. Over readers and writers there are [`audit_command`],
-//! [`review_command`], [`log_command`], [`why_command`] and [`why_not_command`]; by the names of files
-//! [`review_named`], [`log_named`], [`why_named`] and the [`Finding`] of a search, over what a program
-//! may do (`siman_answers::Outside`). The lines that they print are those of `siman_reports`,
-//! `siman_logs` and `siman_conflicts`; [`filter_of`] reads the words that choose among lines. The
-//! contracts give the status and the bytes on the writer of the answer (`EndsAudit`, `EndsReview`,
-//! `EndsLog`, `EndsWhy`).
+//! It opens no file itself and ends no process.
+//!
+//! The layer above may use its contracts on the status and the bytes of the answer: `EndsAudit`,
+//! `EndsReview`, `EndsLog` and `EndsWhy`.
 #![tactic(auto)]
 
 mod audit;

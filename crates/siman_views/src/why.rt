@@ -1,4 +1,4 @@
-//! The command `why`: what contradicts what, in a recording or in a certificate of it.
+//! The command `why`: says what contradicts what, in a recording or in a certificate of it.
 
 ghost use Rattle.std.specs.Prelude.{◌≡◌, ◌⊎◌, ◌≤◌, ℕ, List, Ok, IfOk, option_map, string_bytes};
 ghost use Rattle.std.specs.List.{All};
@@ -33,23 +33,24 @@ use siman_texts::Spelling;
 use std::alloc::{AllocError, Global};
 use std::io::{Read, Write};
 
-/// What is to be said, and the status that it has.
+/// The text of an answer, and its exit status.
 #[derive(Drop)]
 pub(crate) struct WhyText {
     pub text: String,
     pub status: u8,
 }
 
-/// Tells what contradicts what in the recording that a reader has, in one spelling. Where some order
-/// explains it, `explained steps=N`, with status 0. Else, with status 1, the blocked list; the rules
-/// that its causes break; by station what each waits for, or what its next entry contradicts; the
-/// stations that wait on one another in a ring; what else the logs have against entries; the sends
-/// that logs lack, and whether these would do; and the line of each entry that one of these names.
+/// Reads a recording and writes what contradicts what in it, in one spelling. If some sequence
+/// explains it: `explained steps=N`, with status 0. Else, with status 1: the blocked list; the
+/// rules that its causes break; for each station what it waits for, or what its next entry
+/// contradicts; the stations that wait on one another in a ring; what else the logs have against
+/// entries; the sends that logs lack, and whether these would do; and the line of each entry that
+/// these lines name.
 ///
-/// Status 2 with a line on `errors` tells the first field of the recording that is bad (`recording:
-/// NAME at OFFSET`) or a failed read (`recording: read`), both with nothing on `out`, or a failed
-/// write (`output: write`), after which a prefix of the text is out. Status 3 is want of memory
-/// (`memory`), with nothing on `out`. The text is made whole before any of it is written.
+/// Status 2 with a line on `errors` reports the first bad field of the recording (`recording: NAME
+/// at OFFSET`) or a failed read (`recording: read`), both with nothing on `out`, or a failed write
+/// (`output: write`), after which a prefix of the text is written. Status 3 is lack of memory
+/// (`memory`), with nothing on `out`. The whole text is made before any of it is written.
 pub fn why_command<R: Read + Drop, W: Write, E: Write>(
     alloc: Global,
     recording: R,
@@ -66,14 +67,14 @@ pub fn why_command<R: Read + Drop, W: Write, E: Write>(
     end(say_why(alloc, recording, spelling, out, notes), errors).status
 }
 
-/// Tells what is wrong with the certificate that the second reader has of the recording that the first
-/// one has, in one spelling. Where it is good, the first line of its report, `yes records=N
-/// others=N`, with status 0. Else, with status 1, its first bad step as `check` tells it; the rule
-/// that this breaks; what the step contradicts; whether the recording is at fault or the certificate;
-/// and the line of each entry that one of these names.
+/// Reads a recording and a certificate of it, and writes why the certificate is not good, in one
+/// spelling. For a good one: the first line of its report, `yes records=N others=N`, with status 0.
+/// Else, with status 1: its first bad step as `check` prints it; the rule that this breaks; what
+/// the step contradicts; whether the recording or the certificate is at fault; and the line of each
+/// entry that these lines name.
 ///
-/// Faults are told as by [`why_command`], and those of the certificate besides (`certificate: NAME at
-/// OFFSET`, `certificate: read`), after the recording was judged.
+/// Reports faults as [`why_command`] does, and those of the certificate (`certificate: NAME at
+/// OFFSET`, `certificate: read`), once the recording was read without fault.
 pub fn why_not_command<R: Read + Drop, C: Read + Drop, W: Write, E: Write>(
     alloc: Global,
     recording: R,
@@ -92,8 +93,8 @@ pub fn why_not_command<R: Read + Drop, C: Read + Drop, W: Write, E: Write>(
     end(told, errors).status
 }
 
-/// Opens the file of a name, and before it is read that of another, where there is one, and says why;
-/// gives the status.
+/// Opens the file of a recording, then that of a certificate, if one is named, before either is
+/// read; writes the answer of `why` and returns the status.
 pub fn why_named<'a, O: Outside, W: Write>(
     alloc: Global,
     names: (&'a str, Option<&'a str>),
@@ -116,7 +117,7 @@ pub fn why_named<'a, O: Outside, W: Write>(
     }
 }
 
-/// The command, which tells what contradicts what in one spelling.
+/// The command `why`, with its spelling.
 #[derive(Drop)]
 pub(crate) struct WhyCommand {
     pub spelling: Spelling,
@@ -155,7 +156,7 @@ impl OfFiles for WhyCommand {
     }
 }
 
-/// Says why of the recording that a reader has, and gives the status.
+/// Reads a recording, writes the answer of `why`, and returns the status.
 fn say_why<R: Read + Drop, W: Write>(
     alloc: Global,
     recording: R,
@@ -172,7 +173,7 @@ fn say_why<R: Read + Drop, W: Write>(
     }
 }
 
-/// Says why of a recording and a certificate that readers have, and gives the status.
+/// Reads a recording and a certificate, writes the answer of `why`, and returns the status.
 fn say_why_not<R: Read + Drop, C: Read + Drop, W: Write>(
     alloc: Global,
     recording: R,
@@ -190,7 +191,7 @@ fn say_why_not<R: Read + Drop, C: Read + Drop, W: Write>(
     }
 }
 
-/// Writes what is to be said, and gives its status.
+/// Writes an answer, and returns its status.
 fn put_why<W: Write>(told: &WhyText, out: &mut W) -> Result<u8, Fault<'static>>
     ensures { let out : Stream = record { old = W.contents out.old; new = W.contents out.new } in
         PutsWhy (string_bytes told.now.text) told.now.status result out }
@@ -201,7 +202,7 @@ fn put_why<W: Write>(told: &WhyText, out: &mut W) -> Result<u8, Fault<'static>>
     }
 }
 
-/// What is to be said of the recording that a reader has.
+/// Reads a recording, and makes the answer of `why`.
 fn why<R: Read + Drop>(
     alloc: Global,
     recording: R,
@@ -214,7 +215,7 @@ fn why<R: Read + Drop>(
     why_bytes(alloc, &bytes, spelling, notes)
 }
 
-/// What is to be said of the recording whose file these bytes are.
+/// The answer of `why` for the recording of a file's bytes.
 fn why_bytes(
     alloc: Global,
     bytes: &[u8],
@@ -246,7 +247,7 @@ fn why_log<L: ExerciseLog>(
     }
 }
 
-/// What is said of a recording that some order explains.
+/// The answer for a recording that some sequence explains.
 fn explained<L: ExerciseLog>(
     alloc: Global,
     log: &L,
@@ -261,7 +262,7 @@ fn explained<L: ExerciseLog>(
     Ok(WhyText { text, status: 0 })
 }
 
-/// What is said of a recording that no order explains.
+/// The answer for a recording that no sequence explains.
 #[tactic(auto, using(siman_conflicts::proofs::Offered::conflict_stands))]
 fn contradicted<L: ExerciseLog>(
     alloc: Global,
@@ -281,7 +282,7 @@ fn contradicted<L: ExerciseLog>(
     Ok(WhyText { text, status: 1 })
 }
 
-/// What is to be said of a recording and a certificate that readers have.
+/// Reads a recording and a certificate, and makes the answer of `why`.
 fn why_not<R: Read + Drop, C: Read + Drop>(
     alloc: Global,
     recording: R,
@@ -297,7 +298,7 @@ fn why_not<R: Read + Drop, C: Read + Drop>(
     why_not_bytes(alloc, &bytes, certificate, spelling, notes)
 }
 
-/// As [`why_not`], of the recording whose file these bytes are.
+/// As [`why_not`], with the recording of a file's bytes.
 fn why_not_bytes<C: Read + Drop>(
     alloc: Global,
     bytes: &[u8],
@@ -333,7 +334,7 @@ fn why_not_log<L: ExerciseLog>(
     }
 }
 
-/// What is said of a certificate that is good.
+/// The answer for a good certificate.
 fn good<L: ExerciseLog>(
     alloc: Global,
     log: &L,
@@ -350,7 +351,7 @@ fn good<L: ExerciseLog>(
     Ok(WhyText { text, status: 0 })
 }
 
-/// What is said of a certificate that is not good.
+/// The answer for a certificate that is not good.
 #[tactic(auto, using(siman_conflicts::proofs::Offered::refusal_stands, crate::proofs::Said::said_behind))]
 fn refused<L: ExerciseLog>(
     alloc: Global,

@@ -1,4 +1,4 @@
--- What the words of a command line ask for (profile).
+-- The task that the words of a command line ask for (profile).
 use Rattle.std.specs.Prelude.{ℕ, ◌+◌, ◌-◌, Bool, true, false, not, List, [], ◌∷◌, length, map, nat_lt, nat_le, slice_index, ◌==◌, ◌&&◌, ◌||◌, codes, Option, Some, None, is_some, option_map, if◌then◌else◌}
 use Rattle.std.specs.List.{starts_with}
 use Rattle.std.specs.Str.{bytes_eq}
@@ -20,7 +20,8 @@ use Rattle.siman_words.specs.declared.commands.Takes.TheVariants as shapes
 use Rattle.siman_words.specs.declared.commands.Task.{Task}
 use Rattle.siman_words.specs.declared.commands.Task.TheVariants as tasks
 
--- what the words of a station name: a script, the address of the station, its recording, where its socket and its peers are, and whether it hears others, too
+-- the words of a station: a script, the station's address, its recording, its socket and its peers,
+-- and whether it listens to strangers too
 pub record StationAsked : Type 0 where
   pub setup : List ℕ
   pub address : List ℕ
@@ -29,25 +30,28 @@ pub record StationAsked : Type 0 where
   pub peers : List (List ℕ)
   pub anyone : Bool
 
--- what is asked for: a command, and the words that it takes
+-- a task: a command, and the words that it takes
 pub data Asked : Type 0 where
   Trial : Asked
   Bare : NoWord → Asked
   One : OneWord → (word : List ℕ) → Asked
-  -- a command, its two words, and whether a file that stands under the second is replaced, where one is made
+  -- a command, its two words, and whether an existing file with the second name is replaced, for a
+  -- command that makes one
   Two : TwoWords → (first second : List ℕ) → (force : Bool) → Asked
-  -- the pieces of an exercise, the file that is to be made of them, the form that it is to have, where the words say one, and whether a file that stands there is replaced
+  -- the pieces of an exercise, the file to make, the form that it is to have, if the words give
+  -- one, and whether an existing file is replaced
   Join : (pieces : List (List ℕ)) → (made : List ℕ) → Option JoinForm → (force : Bool) → Asked
-  -- a station is played over the network
+  -- a station that runs over the network
   Station : StationAsked → Asked
-  -- a view of a recording, the words that choose among its lines, and how these are spelled
+  -- a view of a recording, the words that choose among its rows, and their spelling
   View : ViewWord → (recording : List ℕ) → (filters : List (List ℕ)) → Spelling → Asked
-  -- what contradicts what in a recording, or in a certificate of it, where the words name one
+  -- what contradicts what in a recording, or in a certificate of it, if the words name one
   Why : (recording : List ℕ) → (certificate : Option (List ℕ)) → Spelling → Asked
-  -- the picture of a recording in the order of a certificate, the file that is to be made of it, the words that say which steps are shown, and whether a file that stands there is replaced
+  -- the picture of a recording in the sequence of a certificate, the file to make, the words that
+  -- choose the shown steps, and whether an existing file is replaced
   Chart : (recording certificate picture : List ℕ) → (steps : List (List ℕ)) → (force : Bool) → Asked
 
--- words have the text that `text` gives
+-- the task with its words as texts, given the text of each word
 abbrev pub named_by : {S : Type 0} → (text : S → List ℕ) → StationWords S → StationAsked
 named_by text words = record {
   setup = words.setup.now;
@@ -69,25 +73,25 @@ asked_by text (tasks.View view recording filters spelling) = View view recording
 asked_by text (tasks.Why recording certificate spelling) = Why recording.now (option_map (λ word. word.now) certificate) spelling
 asked_by text (tasks.Chart recording certificate picture steps force) = Chart recording.now certificate.now picture.now (map text steps.now) force
 
--- a word that begins with a hyphen, and has more, is an option
+-- an option: a word that begins with a hyphen and is longer than one byte
 abbrev pub is_option : List ℕ → Bool
 is_option word = nat_lt 1 (length word) && (slice_index word 0 == 45)
 
--- how often a word stands among words
+-- how many times a word occurs among words
 abbrev pub times : (wanted : List ℕ) → List (List ℕ) → ℕ
 times wanted [] = 0
 times wanted (word ∷ words) = if bytes_eq word wanted then times wanted words + 1 else times wanted words
 
--- an option that some commands take: it may stand anywhere behind the command
+-- an option that some commands take, anywhere after the command
 abbrev pub is_choice : List ℕ → Bool
 is_choice word = bytes_eq word (codes "--json") || bytes_eq word (codes "--force")
 
--- the words behind a command that are no such option
+-- the words after a command without these options
 abbrev pub names_in : List (List ℕ) → List (List ℕ)
 names_in [] = []
 names_in (word ∷ words) = if is_choice word then names_in words else word ∷ names_in words
 
--- the words behind a command, and how often `--json` and `--force` stand among them
+-- the names after a command, and how many times `--json` and `--force` occur among them
 pub record Behind : Type 0 where
   pub names : List (List ℕ)
   pub json : ℕ
@@ -96,7 +100,7 @@ pub record Behind : Type 0 where
 abbrev pub behind_of : List (List ℕ) → Behind
 behind_of words = record { names = names_in words; json = times (codes "--json") words; force = times (codes "--force") words }
 
--- what the command of a name takes by a table, if there is one
+-- what the named command takes by a table, if it is in the table
 abbrev pub takes_of : List (List ℕ × Takes) → (name : List ℕ) → Option Takes
 takes_of [] name = None
 takes_of (row ∷ rows) name = if bytes_eq row.0 name then Some row.1 else takes_of rows name
@@ -109,7 +113,7 @@ takes_named = takes_of (
     ∷ (codes "join", shapes.Pieces) ∷ (codes "review", shapes.View Review) ∷ (codes "log", shapes.View Log) ∷ (codes "why", shapes.PerhapsTwo)
     ∷ (codes "chart", shapes.Picture) ∷ [])
 
--- a command is asked for where it has the words that it takes, none of them an option
+-- a task of a command: exactly the words that it takes, none of them an option
 abbrev pub bare_asked : NoWord → List (List ℕ) → Option Asked
 bare_asked command [] = Some (Bare command)
 bare_asked command words = None
@@ -122,12 +126,12 @@ abbrev pub two_asked : TwoWords → (force : Bool) → List (List ℕ) → Optio
 two_asked command force (first ∷ second ∷ []) = if is_option first || is_option second then None else Some (Two command first second force)
 two_asked command force words = None
 
--- of a word and what stands behind it
+-- the split of a word and the words after it, given the split of those
 abbrev pub before_last : List ℕ → Option (List (List ℕ) × List ℕ) → List (List ℕ) × List ℕ
 before_last word None = ([], word)
 before_last word (Some p) = (word ∷ p.0, p.1)
 
--- the words before the last one, and that one
+-- the words before the last one, and the last one
 abbrev pub last_apart : List (List ℕ) → Option (List (List ℕ) × List ℕ)
 last_apart [] = None
 last_apart (word ∷ words) = Some (before_last word (last_apart words))
@@ -136,7 +140,7 @@ abbrev pub has_option : List (List ℕ) → Bool
 has_option [] = false
 has_option (word ∷ words) = is_option word || has_option words
 
--- a word that says which form the joined recording is to have, and what it says, where that is a form
+-- a word that begins with `form=`, and the form that it names, if it names one
 abbrev pub is_form_word : List ℕ → Bool
 is_form_word word = starts_with (◌==◌) word (codes "form=")
 
@@ -147,21 +151,21 @@ abbrev pub form_behind : List (List ℕ) → Option (List (List ℕ) × List ℕ
 form_behind words None = (words, None)
 form_behind words (Some p) = if is_some (form_named p.1) then (p.0, form_named p.1) else (words, None)
 
--- the words before that of the form, where it stands last, and the form
+-- the words without a form at the end, and that form
 abbrev pub form_apart : List (List ℕ) → List (List ℕ) × Option JoinForm
 form_apart words = form_behind words (last_apart words)
 
--- words none of which is an option or that of a form
+-- words without an option and without `form=`
 abbrev pub are_names : List (List ℕ) → Bool
 are_names [] = true
 are_names (word ∷ words) = not (is_option word || is_form_word word) && are_names words
 
--- so many pieces are joined at least: two, or one where its form is to be another
+-- the smallest number of pieces: two, or one if a form is given
 abbrev pub fewest_pieces : Option JoinForm → ℕ
 fewest_pieces None = 2
 fewest_pieces (Some form) = 1
 
--- PIECES ARE JOINED where enough of them stand before the file to be made, and a form stands nowhere but at the end
+-- JOIN needs enough pieces before the file to make, and a form nowhere but at the end
 abbrev pub pieces_asked : Option JoinForm → (force : Bool) → Option (List (List ℕ) × List ℕ) → Option Asked
 pieces_asked form force None = None
 pieces_asked form force (Some p) = if nat_le (fewest_pieces form) (length p.0) then Some (Join p.0 p.1 form force) else None
@@ -173,51 +177,53 @@ abbrev pub anyone_behind : List (List ℕ) → Option (List (List ℕ) × List �
 anyone_behind words None = (words, false)
 anyone_behind words (Some p) = if bytes_eq p.1 (codes "from=any") then (p.0, true) else (words, false)
 
--- the words before `from=any`, where it stands last, and whether it does
+-- the words without `from=any` at the end, and whether it was there
 abbrev pub anyone_apart : List (List ℕ) → List (List ℕ) × Bool
 anyone_apart words = anyone_behind words (last_apart words)
 
--- the station that names ask for, where they have a peer
+-- the station of these names, if they include a peer
 abbrev pub station_named : (anyone : Bool) → List (List ℕ) → Option Asked
 station_named anyone (setup ∷ address ∷ recording ∷ bind ∷ peers) =
     if length peers == 0 then None
     else Some (Station (record { setup = setup; address = address; recording = recording; bind = bind; peers = peers; anyone = anyone }))
 station_named anyone words = None
 
--- A STATION IS ASKED FOR by a script, an address, a recording, where its socket is, and where at least one peer is; `from=any` counts where it stands last
+-- STATION needs a script, an address, a recording, a socket's address and at least one peer;
+-- `from=any` is allowed at the end
 abbrev pub station_asked : List (List ℕ) → Option Asked
 station_asked words = let p = anyone_apart words in if has_option p.0 then None else station_named p.1 p.0
 
--- `--json` stands so often: how lines are told
+-- the spelling of rows, given how many times `--json` occurs
 abbrev pub spelling_by : (json : ℕ) → Spelling
 spelling_by json = if json == 0 then Text else Json
 
--- A VIEW IS ASKED FOR of a recording; behind its name stand the words that choose
+-- A VIEW needs a recording; the words after it choose among the rows
 abbrev pub view_asked : ViewWord → Spelling → List (List ℕ) → Option Asked
 view_asked view spelling [] = None
 view_asked view spelling (recording ∷ filters) =
     if is_option recording || has_option filters then None else Some (View view recording filters spelling)
 
--- WHY IS ASKED of a recording, or of one with a certificate
+-- WHY needs a recording, and takes a certificate
 abbrev pub why_asked : Spelling → List (List ℕ) → Option Asked
 why_asked spelling (recording ∷ []) = if is_option recording then None else Some (Why recording None spelling)
 why_asked spelling (recording ∷ certificate ∷ []) =
     if is_option recording || is_option certificate then None else Some (Why recording (Some certificate) spelling)
 why_asked spelling words = None
 
--- A PICTURE IS ASKED FOR of a recording and its certificate; behind the file that is to be made stand the words that say which steps are shown
+-- CHART needs a recording, its certificate and the file to make; the words after choose the shown
+-- steps
 abbrev pub chart_asked : (force : Bool) → List (List ℕ) → Option Asked
 chart_asked force (recording ∷ certificate ∷ picture ∷ steps) =
     if has_option (recording ∷ certificate ∷ picture ∷ steps) then None else Some (Chart recording certificate picture steps force)
 chart_asked force words = None
 
--- the commands whose lines are told in JSON where `--json` stands behind them
+-- the commands that take `--json`
 abbrev pub takes_json : Takes → Bool
 takes_json (shapes.View view) = true
 takes_json shapes.PerhapsTwo = true
 takes_json takes = false
 
--- those that make a file, which replaces one that stands where `--force` stands behind them
+-- the commands that make a file and can replace an existing one, and so take `--force`
 abbrev pub makes_file : TwoWords → Bool
 makes_file Check = false
 makes_file Live = false
@@ -229,7 +235,7 @@ takes_force shapes.Pieces = true
 takes_force shapes.Picture = true
 takes_force takes = false
 
--- what may stand once, or not at all
+-- the largest number of times that something may occur: once if it is allowed
 abbrev pub most : Bool → ℕ
 most true = 1
 most false = 0
@@ -239,7 +245,7 @@ abbrev pub reads_lines : Takes → Bool
 reads_lines shapes.Station = true
 reads_lines takes = false
 
--- each option stands once at most, where the command takes it, and standard input is read once
+-- each option occurs at most once, if the command takes it, and standard input is read at most once
 abbrev pub are_taken : Takes → Behind → Bool
 are_taken takes b =
     nat_le b.json (most (takes_json takes))
@@ -255,17 +261,17 @@ taken (shapes.View view) spelling force names = view_asked view spelling names
 taken shapes.PerhapsTwo spelling force names = why_asked spelling names
 taken shapes.Picture spelling force names = chart_asked force names
 
--- what the words behind a command ask for
+-- the task of the words after a command
 abbrev pub asked_behind : Option Takes → Behind → Option Asked
 asked_behind None b = None
 asked_behind (Some takes) b = if are_taken takes b then taken takes (spelling_by b.json) (not (b.force == 0)) b.names else None
 
--- a command line: the command that it names, if it names one, and the words behind that
+-- a command line: its command, if it names one, and the words after it
 pub record CommandLine : Type 0 where
   pub command : Option (List ℕ)
   pub behind : Behind
 
--- of words, the program's name first
+-- the command line of words; the first is the program's name
 abbrev pub line_of : List (List ℕ) → CommandLine
 line_of (program ∷ name ∷ words) = record { command = Some name; behind = behind_of words }
 line_of words = record { command = None; behind = behind_of [] }
@@ -274,7 +280,7 @@ abbrev pub asked_by_name : Option (List ℕ) → Behind → Option Asked
 asked_by_name None b = Some Trial
 asked_by_name (Some name) b = asked_behind (takes_named name) b
 
--- WHAT WORDS ASK FOR, the program's name first; other words ask for help, or break the usage
+-- THE TASK OF WORDS, the program's name first; other words ask for help, or are a fault of usage
 abbrev pub asked : List (List ℕ) → Option Asked
 asked words = let line = line_of words in asked_by_name line.command line.behind
 
@@ -288,18 +294,18 @@ is_help word = bytes_eq word (codes "--help") || is_short 104 word
 abbrev pub is_version : List ℕ → Bool
 is_version word = bytes_eq word (codes "--version") || is_short 86 word
 
--- of an option that may stand so often behind a command, how often it may stand behind this word
+-- how many times an option is still allowed after this word
 abbrev pub left_of : (option word : List ℕ) → (left : ℕ) → ℕ
 left_of option word left = if bytes_eq word option then left - 1 else left
 
--- a word is an option that may stand no more, or no option that the command takes, or one name too many
+-- a refused word: an option that is not allowed any more or not taken, or one name too many
 abbrev pub is_refused : (names json force : ℕ) → List ℕ → Bool
 is_refused names json force word =
     if bytes_eq word (codes "--json") then json == 0
     else if bytes_eq word (codes "--force") then force == 0
     else (names == 0) || is_option word
 
--- behind a command that takes so many names, and its options so often, the help is asked for, before a word that it does not take
+-- words after a command ask for its help, before any word that it refuses
 abbrev pub helps_behind : (names json force : ℕ) → List (List ℕ) → Bool
 helps_behind names json force [] = false
 helps_behind names json force (word ∷ words) =
@@ -307,7 +313,7 @@ helps_behind names json force (word ∷ words) =
     || (if is_refused names json force word then false
     else helps_behind (if is_choice word then names else names - 1) (left_of (codes "--json") word json) (left_of (codes "--force") word force) words)
 
--- how many names a command takes at most, of so many words
+-- the largest number of names that a command takes, of so many words
 abbrev pub most_names : Takes → (words : ℕ) → ℕ
 most_names (shapes.Nothing command) words = 0
 most_names (shapes.One command) words = 1
@@ -319,13 +325,13 @@ abbrev pub helps : Option Takes → List (List ℕ) → Bool
 helps None words = false
 helps (Some takes) words = helps_behind (most_names takes (length words)) (most (takes_json takes)) (most (takes_force takes)) words
 
--- `help` stands alone, or before the name of a command or itself
+-- `help` alone, or before the name of a command or itself
 abbrev pub is_topic : List (List ℕ) → Bool
 is_topic [] = true
 is_topic (name ∷ []) = bytes_eq name (codes "help") || is_some (takes_named name)
 is_topic words = false
 
--- WHICH WORDS that ask for no task ASK FOR HELP; the others break the usage
+-- WHICH WORDS that ask for no task ASK FOR HELP; the others are a fault of usage
 abbrev pub asks_help : List (List ℕ) → Bool
 asks_help (program ∷ first ∷ rest) = is_help first || (is_version first || ((bytes_eq first (codes "help") && is_topic rest) || helps (takes_named first) rest))
 asks_help words = false

@@ -1,4 +1,4 @@
-//! Reading words by the table of commands: the task that they ask for.
+//! Reads words by the table of commands: the task that they ask for.
 
 ghost use Rattle.std.specs.Prelude.{◌≡◌, ◌≤◌, length, map, option_map};
 ghost use Rattle.siman_words.specs.Words.{asked_by, is_option, takes_of, takes_named, bare_asked, one_asked, two_asked, taken, last_apart, has_option, is_form_word, form_named, form_apart, are_names, fewest_pieces, pieces_asked, join_asked, anyone_apart, station_named, station_asked, view_asked, why_asked, chart_asked};
@@ -9,7 +9,7 @@ use crate::table::rows;
 use siman_texts::Spelling;
 use std::convert::AsStr;
 
-/// Whether a word is an option: it begins with a hyphen, and has more.
+/// Whether a word is an option: it begins with a hyphen and is longer than one byte.
 pub(crate) fn is_option(word: &str) -> bool
     ensures { result ≡ is_option word.now }
 {
@@ -17,7 +17,7 @@ pub(crate) fn is_option(word: &str) -> bool
     word.len() > 1 && word[0] == b'-'
 }
 
-/// What the command of a name takes, by the rows of a table.
+/// What the named command takes, by the rows of a table.
 fn takes_of(mut table: &[Row], name: &str) -> Option<Takes>
     ensures { result ≡ takes_of (map (λ row. (row.name.now, row.takes)) table.entry.now) name.now }
 {
@@ -30,7 +30,7 @@ fn takes_of(mut table: &[Row], name: &str) -> Option<Takes>
     None
 }
 
-/// What the command of a name takes.
+/// What the named command takes.
 pub(crate) fn takes_named(name: &str) -> Option<Takes>
     ensures { result ≡ takes_named name.now }
 {
@@ -66,7 +66,7 @@ fn two_words<S: AsStr>(command: TwoWords, force: bool, words: &[S]) -> Option<Ta
     }
 }
 
-/// The words before the last one, and that one.
+/// The words before the last one, and the last one.
 #[tactic(auto, using(crate::proofs::Lasts::last_behind))]
 fn last_apart<S: AsStr>(words: &[S]) -> Option<(&[S], &str)>
     ensures { option_map (λ p. (map S.text p.0.now, p.1.now)) result ≡ last_apart (map S.text words.now) }
@@ -77,7 +77,7 @@ fn last_apart<S: AsStr>(words: &[S]) -> Option<(&[S], &str)>
     }
 }
 
-/// Whether an option is among words.
+/// Whether any of the words is an option.
 fn has_option<S: AsStr>(words: &[S]) -> bool
     ensures { result ≡ has_option (map S.text words.now) }
 {
@@ -91,14 +91,14 @@ fn has_option<S: AsStr>(words: &[S]) -> bool
     false
 }
 
-/// Whether a word says which form a joined recording is to have.
+/// Whether a word begins with `form=`.
 fn is_form_word(word: &str) -> bool
     ensures { result ≡ is_form_word word.now }
 {
     word.as_bytes().starts_with(b"form=")
 }
 
-/// The form that a word names.
+/// The form that a word names, if it names one.
 fn form_named(word: &str) -> Option<JoinForm>
     ensures { result ≡ form_named word.now }
 {
@@ -111,7 +111,7 @@ fn form_named(word: &str) -> Option<JoinForm>
     None
 }
 
-/// The words before that of the form, where it stands last, and the form.
+/// The words without a form at the end, and that form, if the last word is one.
 fn form_apart<S: AsStr>(words: &[S]) -> (&[S], Option<JoinForm>)
     ensures { (map S.text result.0.now, result.1) ≡ form_apart (map S.text words.now) }
 {
@@ -124,7 +124,7 @@ fn form_apart<S: AsStr>(words: &[S]) -> (&[S], Option<JoinForm>)
     }
 }
 
-/// Whether all words may name a file to be joined, or the one that is made.
+/// Whether all words may be file names of `join`: no option, and nothing that begins with `form=`.
 fn are_names<S: AsStr>(words: &[S]) -> bool
     ensures { result ≡ are_names (map S.text words.now) }
 {
@@ -139,7 +139,7 @@ fn are_names<S: AsStr>(words: &[S]) -> bool
     true
 }
 
-/// How many pieces are joined at least in a form that words ask for, or in that of the pieces.
+/// Smallest number of pieces: 1 if a form is given, else 2.
 fn fewest_pieces(form: Option<JoinForm>) -> usize
     ensures { result ≡ fewest_pieces form }
 {
@@ -149,7 +149,7 @@ fn fewest_pieces(form: Option<JoinForm>) -> usize
     }
 }
 
-/// Pieces and the file to be made of them, where there are enough pieces.
+/// The task of `join`, if there are enough pieces before the file to be made.
 fn pieces<S: AsStr>(form: Option<JoinForm>, force: bool, words: &[S]) -> Option<Task<'_, S>>
     ensures { option_map (asked_by S.text) result ≡ pieces_asked form force (last_apart (map S.text words.now)) }
 {
@@ -171,7 +171,7 @@ fn join_words<S: AsStr>(force: bool, words: &[S]) -> Option<Task<'_, S>>
     None
 }
 
-/// The words before `from=any`, where it stands last, and whether it does.
+/// The words without `from=any` at the end, and whether it was there.
 fn anyone_apart<S: AsStr>(words: &[S]) -> (&[S], bool)
     ensures { (map S.text result.0.now, result.1) ≡ anyone_apart (map S.text words.now) }
 {
@@ -181,7 +181,7 @@ fn anyone_apart<S: AsStr>(words: &[S]) -> (&[S], bool)
     }
 }
 
-/// The station that names ask for, where they have a peer.
+/// The task of `station`, if the names include at least one peer.
 fn named_station<S: AsStr>(anyone: bool, names: &[S]) -> Option<Task<'_, S>>
     ensures { option_map (asked_by S.text) result ≡ station_named anyone (map S.text names.now) }
 {
@@ -221,7 +221,7 @@ fn view_words<S: AsStr>(view: ViewWord, spelling: Spelling, words: &[S]) -> Opti
     }
 }
 
-/// The question why, of a recording or of one with a certificate.
+/// The task of `why`, for a recording, or for a recording and a certificate.
 fn why_words<S: AsStr>(spelling: Spelling, names: &[S]) -> Option<Task<'_, S>>
     ensures { option_map (asked_by S.text) result ≡ why_asked spelling (map S.text names.now) }
 {
@@ -238,8 +238,8 @@ fn why_words<S: AsStr>(spelling: Spelling, names: &[S]) -> Option<Task<'_, S>>
     }
 }
 
-/// The picture of a recording in the order of a certificate, and the words that say which steps are
-/// shown.
+/// The task of `chart`: recording, certificate and picture, and the words that choose the shown
+/// steps.
 fn chart_words<S: AsStr>(force: bool, words: &[S]) -> Option<Task<'_, S>>
     ensures { option_map (asked_by S.text) result ≡ chart_asked force (map S.text words.now) }
 {
@@ -257,7 +257,7 @@ fn chart_words<S: AsStr>(force: bool, words: &[S]) -> Option<Task<'_, S>>
     }
 }
 
-/// The task of a command that takes just these names.
+/// The task of a command with these names, if it takes exactly such names.
 pub(crate) fn taken<S: AsStr>(
     takes: Takes,
     spelling: Spelling,

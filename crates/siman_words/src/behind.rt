@@ -1,5 +1,5 @@
-//! The words of a command line: the command, the names behind it, and the options that may stand
-//! anywhere among these.
+//! The words of a command line: the command, the names after it, and the options, which may be
+//! anywhere among the names.
 
 ghost use Rattle.std.specs.Prelude.{◌≡◌, ◌≤◌, IfOk, length, map, option_map};
 ghost use Rattle.siman_words.specs.Words.{times, is_choice, names_in, behind_of, line_of, asked_by, spelling_by, most, reads_lines, are_taken, asked_behind, asked_by_name};
@@ -11,7 +11,7 @@ use std::alloc::{AllocError, Global};
 use std::convert::AsStr;
 use std::marker::Model;
 
-/// The words behind a command: names, and how often each option stands among them. Contracts see the
+/// The words after a command: its names, and how many times each option occurs. Contracts see the
 /// names as texts.
 #[derive(Drop)]
 pub(crate) struct Behind<'a> {
@@ -29,7 +29,7 @@ impl<'a> Model for Behind<'a> {
     ghost view = { λ b. record { names = map (λ name. name.now) b.names.items; json = b.json; force = b.force } };
 }
 
-/// How often a word stands among words.
+/// How many times `wanted` occurs among words.
 fn times<S: AsStr>(wanted: &str, words: &[S]) -> usize
     ensures count { result ≡ times wanted.now (map S.text words.now) }
     ensures within { result ≤ length words.now }
@@ -45,14 +45,14 @@ fn times<S: AsStr>(wanted: &str, words: &[S]) -> usize
     count
 }
 
-/// Whether a word is an option that may stand anywhere behind a command.
+/// Whether a word is an option that is allowed anywhere after a command: `--json` or `--force`.
 pub(crate) fn is_choice(word: &str) -> bool
     ensures { result ≡ is_choice word.now }
 {
     word == "--json" || word == "--force"
 }
 
-/// The words behind a command that are no such option.
+/// The words after a command without these options.
 fn names_of<'a, S: AsStr>(alloc: Global, words: &'a [S]) -> Result<Vec<&'a str>, AllocError>
     ensures { IfOk result (λ names. map (λ name. name.now) names.items ≡ names_in (map S.text words.now)) }
 {
@@ -68,7 +68,7 @@ fn names_of<'a, S: AsStr>(alloc: Global, words: &'a [S]) -> Result<Vec<&'a str>,
     Ok(names)
 }
 
-/// The words behind a command, apart.
+/// Splits the words after a command into names and options.
 pub(crate) fn behind_of<'a, S: AsStr>(
     alloc: Global,
     words: &'a [S],
@@ -83,7 +83,7 @@ pub(crate) fn behind_of<'a, S: AsStr>(
     })
 }
 
-/// How lines are told behind so many `--json`.
+/// The spelling of rows, given how many times `--json` occurs: JSON unless it is 0.
 fn spelling_by(json: usize) -> Spelling
     ensures { result ≡ spelling_by json }
 {
@@ -94,7 +94,7 @@ fn spelling_by(json: usize) -> Spelling
     }
 }
 
-/// How often what may stand stands at most.
+/// Largest number of times that something may occur: 1 if it is allowed, else 0.
 pub(crate) fn most(taken: bool) -> usize
     ensures { result ≡ most taken }
 {
@@ -109,8 +109,8 @@ fn reads_lines(takes: Takes) -> bool
 }
 
 impl<'a> Behind<'a> {
-    /// Whether a command takes the options that stand there, as often as they do, and standard input
-    /// is read once at most.
+    /// Whether a command takes the given options, as often as they occur, and at most one word is
+    /// `-`, or none for a command that reads lines from standard input.
     fn are_taken(&self, takes: Takes) -> bool
         ensures { result ≡ are_taken takes self.now }
     {
@@ -119,7 +119,8 @@ impl<'a> Behind<'a> {
             && times("-", &self.names) <= most(!reads_lines(takes))
     }
 
-    /// What they ask for behind a command that takes this.
+    /// The task that the words ask for, after a command that takes `takes`; `None` if they ask for
+    /// none.
     pub(crate) fn task(&self, takes: Option<Takes>) -> Option<Task<'_, &'a str>>
         ensures { option_map (asked_by (λ word. word.now)) result ≡ asked_behind takes self.now }
     {
@@ -132,8 +133,7 @@ impl<'a> Behind<'a> {
     }
 }
 
-/// A command line: the command that it names, if it names one, and the words behind that. Contracts
-/// see texts.
+/// A command line: its command, if it names one, and the words after it. Contracts see texts.
 #[derive(Drop)]
 pub struct CommandLine<'a> {
     command: Option<&'a str>,
@@ -149,7 +149,7 @@ impl<'a> Model for CommandLine<'a> {
     ghost view = { λ line. record { command = option_map (λ name. name.now) line.command; behind = line.behind } };
 }
 
-/// The command line of these words, the program's name first.
+/// Reads the words of a command line; the first is the program's name.
 pub fn read_words<'a, S: AsStr>(
     alloc: Global,
     words: &'a [S],
@@ -169,7 +169,7 @@ pub fn read_words<'a, S: AsStr>(
 }
 
 impl<'a> CommandLine<'a> {
-    /// The task that it asks for; `None` where it asks for help or breaks the usage.
+    /// The task of the command line; `None` if it asks for help or is a fault of usage.
     pub fn task(&self) -> Option<Task<'_, &'a str>>
         ensures { option_map (asked_by (λ word. word.now)) result ≡ asked_by_name self.now.command self.now.behind }
     {

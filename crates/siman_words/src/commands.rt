@@ -1,4 +1,4 @@
-//! The commands, and what words ask for.
+//! The commands, and the tasks that words ask for.
 
 ghost use Rattle.std.specs.Prelude.{◌≡◌};
 ghost use Rattle.siman_words.specs.Words.{makes_file, takes_json, takes_force};
@@ -8,48 +8,49 @@ use siman_texts::Spelling;
 /// A command that takes no words.
 #[derive(Clone, Copy)]
 pub enum NoWord {
-    /// Show the datagrams that standard input has in hex text, one a line.
+    /// Shows the datagrams in hex text on standard input, one a line.
     Pdus,
 }
 
 /// A command that takes one word.
 #[derive(Clone, Copy)]
 pub enum OneWord {
-    /// Show the datagram of this hex text.
+    /// Shows the datagram of this hex text.
     Pdu,
-    /// Show the recording of this file.
+    /// Shows the recording in this file.
     Show,
 }
 
 /// A command that takes two words.
 #[derive(Clone, Copy)]
 pub enum TwoWords {
-    /// Judge the recording of the first file by the certificate of the second.
+    /// Judges the recording in the first file by the certificate in the second.
     Check,
-    /// Search the recording of the first file for an order that explains it, and make the second of
-    /// its certificate.
+    /// Searches the recording in the first file for a sequence that explains it, and writes its
+    /// certificate to the second.
     Audit,
-    /// Run the script of the first file, and make the second of its recording.
+    /// Runs the script in the first file, and writes its recording to the second.
     World,
-    /// Make the moves of the script of the first file over sockets, and make the second of their
-    /// recording.
+    /// Makes the moves of the script in the first file over sockets, and writes their recording to
+    /// the second.
     Live,
-    /// Carry the recording of the first file over to the second format, and make the second of it.
+    /// Converts the recording in the first file to the second format, and writes it to the second
+    /// file.
     Convert,
-    /// Keep what of the recording of the first file stands whole, and make the second of it.
+    /// Writes the whole entries of the torn recording in the first file to the second.
     Mend,
 }
 
-/// A view of a recording: a command that takes its file, and words that choose among its lines.
+/// A view of a recording: a command that takes its file, and words that choose among its rows.
 #[derive(Clone, Copy)]
 pub enum ViewWord {
-    /// What became of each order, and how each entity lived.
+    /// The fate of each order, and the life of each entity.
     Review,
-    /// What happened at each entry, with every datum and what goes with it.
+    /// Each entry, with every datum and the entries that it belongs to.
     Log,
 }
 
-/// The form that words ask for of a joined recording.
+/// The form that words ask for, for a joined recording.
 #[derive(Clone, Copy)]
 pub enum JoinForm {
     /// Stations may have taken part that nobody recorded.
@@ -58,75 +59,74 @@ pub enum JoinForm {
     Closed,
 }
 
-/// What the words of `station` name.
+/// The words of `station`.
 #[derive(Drop)]
 pub struct StationWords<'a, S> {
-    /// The file of the script that says how the station is set up.
+    /// The file of the script that configures the station.
     pub setup: &'a str,
     /// Its address in the exercise.
     pub address: &'a str,
     /// The file of the recording that it writes.
     pub recording: &'a str,
-    /// Where its socket is.
+    /// The address and port of its socket.
     pub bind: &'a str,
-    /// Where its peers are, at least one.
+    /// The addresses and ports of its peers, at least one.
     pub peers: &'a [S],
-    /// Whether it hears anyone, and not its peers alone.
+    /// Whether it listens to strangers too, and not to its peers alone.
     pub anyone: bool,
 }
 
-/// What the words of a command line ask for.
+/// The task that the words of a command line ask for.
 #[derive(Drop)]
 pub enum Task<'a, S> {
-    /// No words: run the script that standard input has, search the recording of its world for an
-    /// order, and judge it.
+    /// No words: run the script on standard input, search the recording of its world for a
+    /// sequence, and judge it.
     Trial,
     /// A command alone.
     Bare(NoWord),
     /// A command and its word.
     One(OneWord, &'a str),
-    /// A command, its two words, and whether a file that stands under the second is replaced, where
-    /// one is made.
+    /// A command, its two words, and whether an existing file with the second name is replaced, for
+    /// a command that makes one.
     Two(TwoWords, &'a str, &'a str, bool),
-    /// The pieces of an exercise are joined: their files, the file that is made of them, the form that
-    /// it is to have, where the words say one, and whether a file that stands there is replaced.
+    /// Joins the pieces of an exercise: their files, the file to make, the form that it is to have,
+    /// if the words give one, and whether an existing file is replaced.
     Join(&'a [S], &'a str, Option<JoinForm>, bool),
-    /// A station of a script is played over the network, by the lines of standard input.
+    /// Runs a station of a script over the network, by the lines of standard input.
     Station(StationWords<'a, S>),
-    /// A view: the file of the recording, the words that choose among the lines, and how these are
-    /// spelled.
+    /// A view: the file of the recording, the words that choose among the rows, and their spelling.
     View(ViewWord, &'a str, &'a [S], Spelling),
-    /// What contradicts what: the file of the recording, that of a certificate where the words name
-    /// one, and how the lines are spelled.
+    /// What contradicts what: the file of the recording, that of a certificate, if the words name
+    /// one, and the spelling of the rows.
     Why(&'a str, Option<&'a str>, Spelling),
-    /// The picture of an exercise: the file of the recording, that of its certificate, the file that is
-    /// made, the words that say which steps are shown, and whether a file that stands there is replaced.
+    /// Draws the picture of an exercise: the file of the recording, that of its certificate, the
+    /// file to make, the words that choose the shown steps, and whether an existing file is
+    /// replaced.
     Chart(&'a str, &'a str, &'a str, &'a [S], bool),
 }
 
-/// What a command takes, and so what it is.
+/// The words that a command takes, and so the kind of the command.
 #[derive(Clone, Copy)]
 pub enum Takes {
     Nothing(NoWord),
     One(OneWord),
     Two(TwoWords),
-    /// Files of pieces, the file that is made of them, and perhaps a form.
+    /// Files of pieces, the file to make, and perhaps a form.
     Pieces,
-    /// A file, an address, a file, where a socket is, where at least one peer is, and perhaps
+    /// A script, an address, a recording, a socket's address, at least one peer, and perhaps
     /// `from=any`.
     Station,
-    /// The file of a recording, and words that choose.
+    /// The file of a recording, and words that choose among the rows.
     View(ViewWord),
     /// The file of a recording, and perhaps that of a certificate.
     PerhapsTwo,
-    /// The file of a recording, that of a certificate, the file that is made, and words that say which
-    /// steps are shown.
+    /// The file of a recording, that of a certificate, the file to make, and words that choose the
+    /// shown steps.
     Picture,
 }
 
 impl TwoWords {
-    /// Whether the command makes the file of its second word, in the place of one that stands there if
-    /// that is asked for.
+    /// Whether the command makes the file of its second word and can replace an existing one.
     fn makes_file(self) -> bool
         ensures { result ≡ makes_file self }
     {
@@ -138,14 +138,14 @@ impl TwoWords {
 }
 
 impl Takes {
-    /// Whether `--json` may stand behind the command.
+    /// Whether the command takes `--json`.
     pub(crate) fn json(self) -> bool
         ensures { result ≡ takes_json self }
     {
         matches!(self, Takes::View(_) | Takes::PerhapsTwo)
     }
 
-    /// Whether `--force` may stand behind the command.
+    /// Whether the command takes `--force`.
     pub(crate) fn force(self) -> bool
         ensures { result ≡ takes_force self }
     {

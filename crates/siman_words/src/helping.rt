@@ -1,4 +1,4 @@
-//! Whether words that ask for no task ask for help, by the table of commands.
+//! Decides whether words that ask for no task ask for help, by the table of commands.
 
 ghost use Rattle.std.specs.Prelude.{◌≡◌, length, map};
 ghost use Rattle.siman_words.specs.Words.{is_short, is_help, is_version, left_of, is_refused, helps_behind, most_names, is_topic, helps, asks_help};
@@ -8,7 +8,7 @@ use crate::behind::{is_choice, most};
 use crate::commands::Takes;
 use std::convert::AsStr;
 
-/// Whether a word is a hyphen and this letter, with more behind them or not.
+/// Whether a word begins with a hyphen and this letter.
 fn is_short(letter: u8, word: &str) -> bool
     ensures { result ≡ is_short letter word.now }
 {
@@ -28,7 +28,7 @@ fn is_version(word: &str) -> bool
     word == "--version" || is_short(b'V', word)
 }
 
-/// How often an option may stand behind a word, which may be it.
+/// How many times an option is still allowed after a word, which may be that option.
 fn left_of(option: &str, word: &str, left: usize) -> usize
     ensures { result ≡ left_of option.now word.now left }
 {
@@ -39,7 +39,7 @@ fn left_of(option: &str, word: &str, left: usize) -> usize
     }
 }
 
-/// Whether a word is one that may stand no more: an option, or a name.
+/// Whether a word is refused: an option that is not allowed any more, or a name too many.
 fn is_refused(names: usize, json: usize, force: usize, word: &str) -> bool
     ensures { result ≡ is_refused names json force word.now }
 {
@@ -50,8 +50,8 @@ fn is_refused(names: usize, json: usize, force: usize, word: &str) -> bool
     }
 }
 
-/// Whether words behind a command that takes so many names, and its options so often, ask for its
-/// help, before a word that it does not take.
+/// Whether words after a command ask for its help before any word that it refuses. The command
+/// takes at most `names` names, and its options `json` and `force` times.
 fn helps_behind<S: AsStr>(names: usize, json: usize, force: usize, words: &[S]) -> bool
     ensures { result ≡ helps_behind names json force (map S.text words.now) }
 {
@@ -75,7 +75,7 @@ fn helps_behind<S: AsStr>(names: usize, json: usize, force: usize, words: &[S]) 
     false
 }
 
-/// How many names a command takes at most, of so many words.
+/// Largest number of names that a command takes, of `words` words.
 fn most_names(takes: Takes, words: usize) -> usize
     ensures { result ≡ most_names takes words }
 {
@@ -99,7 +99,7 @@ fn helps<S: AsStr>(takes: Option<Takes>, words: &[S]) -> bool
     }
 }
 
-/// Whether `help` may stand before words: none, or the name of a command or `help` itself.
+/// Whether `help` may be followed by these words: none, the name of a command, or `help` itself.
 fn is_topic<S: AsStr>(words: &[S]) -> bool
     ensures { result ≡ is_topic (map S.text words.now) }
 {
@@ -110,8 +110,8 @@ fn is_topic<S: AsStr>(words: &[S]) -> bool
     }
 }
 
-/// Whether words that ask for no task ask for help, the program's name first. Otherwise they break
-/// the usage.
+/// Whether words that ask for no task ask for help; if not, they are a fault of usage. The first
+/// word is the program's name.
 pub fn asks_help<S: AsStr>(words: &[S]) -> bool
     ensures { result ≡ asks_help (map S.text words.now) }
 {

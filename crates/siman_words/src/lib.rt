@@ -1,9 +1,9 @@
-//! The words of a command line: which task they ask for, by the table of commands, and the help or
-//! the fault of usage of those that ask for none.
+//! The words of a command line: the task that they ask for, by the table of commands, or else the
+//! help or the fault of usage.
 //!
-//! It runs no task and prints nothing. The layer above reads the words ([`read_words`]) and asks for
-//! their task ([`CommandLine::task`]), which the contract gives; of words without one it tells the
-//! [`usage_text`], as help where [`asks_help`], else as a fault.
+//! It runs no task and prints nothing. A caller reads the words ([`read_words`]) and may use the
+//! contract of [`CommandLine::task`], which gives their task; for words without one it prints
+//! [`usage_text`], as help if [`asks_help`], else as a fault.
 #![tactic(auto)]
 
 mod asking;

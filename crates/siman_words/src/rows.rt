@@ -1,8 +1,8 @@
-//! What a row of the table of commands says.
+//! The rows of the table of commands.
 
 use crate::commands::Takes;
 
-/// How often a word of a command may stand.
+/// How many times a word of a command may occur.
 #[derive(Clone, Copy)]
 pub(crate) enum Often {
     Once,
@@ -11,7 +11,8 @@ pub(crate) enum Often {
     AnyTimes,
 }
 
-/// A word that a command takes: how usage calls it, how often it may stand, and what it is.
+/// A word that a command takes: its name in the usage, how many times it may occur, and its
+/// description.
 #[derive(Clone, Copy)]
 pub(crate) struct Word {
     pub name: &'static str,
@@ -24,7 +25,7 @@ pub(crate) struct Word {
 pub(crate) struct Row {
     pub name: &'static str,
     pub takes: Takes,
-    /// What it does.
+    /// Its description.
     pub about: &'static str,
     pub example: &'static str,
     pub words: &'static [Word],

@@ -1,4 +1,4 @@
-//! The table of commands, from which the reading of words, usage and help follow.
+//! The table of commands, from which the reading of words, the usage and the help follow.
 
 ghost use Rattle.std.specs.Prelude.{ℕ, List, ◌≡◌, map};
 ghost use Rattle.siman_words.specs.Words.{takes_of, takes_named};
@@ -280,7 +280,7 @@ pub(crate) const ROWS: [Row; 15] = [
     },
 ];
 
-/// The rows of that table: what goes over them names no constant of its own.
+/// The rows of the table of commands, with the contract that callers use.
 #[tactic(auto, unfolding(crate::specs::Words::takes_named))]
 pub(crate) fn rows() -> &'static [Row]
     ensures { (name : List ℕ) → takes_of (map (λ row. (row.name.now, row.takes)) result.now) name ≡ takes_named name }

@@ -1,4 +1,4 @@
-//! The usage of the program and its help, as `clap` tells them.
+//! The usage of the program and its help, as `clap` formats them.
 
 use crate::commands::{Takes, TwoWords, ViewWord};
 use crate::rows::{Often, Row, Word};
@@ -11,16 +11,16 @@ use std::convert::AsStr;
 /// The version of the program.
 const VERSION: &str = "0.1.0";
 
-/// What the program does, for the help.
+/// What the program does, for its help.
 const ABOUT: &str =
     "Shows Simulation Management PDUs of DIS (IEEE 1278.1-2012), and runs, shows, searches and checks recorded exercises. With no command, a script is read from standard input, run, searched for an order and checked";
 
-/// What `--json` and `--force` do, for the help.
+/// What `--json` does, for the help.
 const JSON: &str = "Tells the lines in JSON, one object a line";
 
 const FORCE: &str = "Replaces the file that stands under the name of the one that is made";
 
-/// What the exit statuses tell, for the help, and the example of no words; those of the table follow.
+/// The exit statuses, for the end of the help, and the example of a call without words.
 const STATUSES: &str = "Exit status:
   0  the answer is on standard output; of `check` or `why` it is yes, of `audit` or `why` explained
   1  a datagram is refused, or the answer of `check`, `why` or `chart` is no, of `audit` or `why` blocked
@@ -30,7 +30,7 @@ const STATUSES: &str = "Exit status:
 Examples:
   siman < exercise.script";
 
-/// An argument that stands where it is named.
+/// A positional argument of a command.
 fn argument<'a>(alloc: Global, word: &'static Word) -> Arg<'a> {
     let required = matches!(word.often, Often::Once | Often::OnceOrMore);
     let argument = Arg::new(alloc, word.name)
@@ -43,7 +43,7 @@ fn argument<'a>(alloc: Global, word: &'static Word) -> Arg<'a> {
     }
 }
 
-/// An option that stands once at most.
+/// An option that may be given once.
 fn option<'a>(alloc: Global, name: &'static str, about: &'static str) -> Arg<'a> {
     Arg::new(alloc, name)
         .long(name)
@@ -65,7 +65,7 @@ fn arguments<'a>(alloc: Global, row: &'static Row) -> Result<Vec<Arg<'a>>, Alloc
     Ok(arguments)
 }
 
-/// The usage of a command, where its words do not tell it as it is.
+/// The usage of a command, unless `clap` derives it correctly from its words.
 fn usage_told(takes: Takes) -> Option<&'static str> {
     match takes {
         Takes::Two(TwoWords::Audit) => Some("siman audit <REC> <CERT> [--force]"),
@@ -84,8 +84,8 @@ fn usage_told(takes: Takes) -> Option<&'static str> {
     }
 }
 
-/// A command of the table, once its arguments are there: nothing half built is alive where memory
-/// may run out.
+/// A command of the table. Its arguments are made first, so that nothing half built is alive where
+/// memory may run out.
 fn command<'a>(alloc: Global, row: &'static Row) -> Result<Command<'a>, AllocError> {
     let arguments = arguments(alloc, row)?;
     let command = Command::new(alloc, row.name)
@@ -106,7 +106,7 @@ fn commands<'a>(alloc: Global) -> Result<Vec<Command<'a>>, AllocError> {
     Ok(commands)
 }
 
-/// What stands at the end of the help: the statuses, and an example of each command.
+/// The end of the help: the exit statuses, and an example of each command.
 fn ending(alloc: Global) -> Result<String, AllocError> {
     let mut text = String::new(alloc);
     text.push_str(STATUSES)?;
@@ -127,11 +127,11 @@ fn siman<'a>(alloc: Global, ending: &'a str) -> Result<Command<'a>, AllocError> 
         .subcommands(commands)
 }
 
-/// What is wrong with no words at a terminal.
+/// The fault of a call without words at a terminal.
 const AT_TERMINAL: &str =
     "no command is named, and standard input is a terminal: a script is read from a file or a pipe";
 
-/// What is wrong with words behind `join` that name enough files for the usage.
+/// The fault of words of `join` that `clap` accepts: a wrong form, or one piece without a form.
 fn join_complaint<S: AsStr>(words: &[S]) -> &'static str {
     if words.iter().any(|word| word.as_str().starts_with("form=")) {
         "the form is 'form=open' or 'form=closed', and stands behind <NEW>"
@@ -140,7 +140,7 @@ fn join_complaint<S: AsStr>(words: &[S]) -> &'static str {
     }
 }
 
-/// What is wrong with words that ask for no task, and that `clap` takes.
+/// The fault of words that ask for no task although `clap` accepts them.
 fn complaint<S: AsStr>(words: &[S]) -> &'static str {
     if words.iter().any(|word| word.as_str() == "--") {
         // `--` ends the options elsewhere; here no word needs it.
@@ -161,8 +161,8 @@ fn complaint<S: AsStr>(words: &[S]) -> &'static str {
     }
 }
 
-/// How words break the usage, or the help that they ask for; with no words, how it breaks the usage
-/// that standard input is a terminal.
+/// The error of `clap` for words: a fault of usage, or the help that they ask for. Without words,
+/// the fault that standard input is a terminal.
 fn told<'a, S: AsStr>(
     siman: &mut Command<'a>,
     words: Option<&'a [S]>,
@@ -176,11 +176,11 @@ fn told<'a, S: AsStr>(
     }
 }
 
-/// Where a tip of `clap` begins that says how an option that it does not know is passed as a value,
-/// behind `--`, which no command takes.
+/// Beginning of a tip of `clap` that is wrong here: it says to pass an unknown option as a value
+/// after `--`, which no command takes.
 const WRONG_TIP: &str = "\n  tip: to pass '";
 
-/// A text without that tip, and the empty line before it where it is the only one.
+/// A text without that tip, and without the empty line before it if it is the only tip.
 fn without_tip(alloc: Global, text: &str) -> Result<String, AllocError> {
     let Some((before, tip)) = text.split_once(WRONG_TIP) else {
         return String::from_str(alloc, text);
@@ -193,7 +193,7 @@ fn without_tip(alloc: Global, text: &str) -> Result<String, AllocError> {
     format!(in alloc; "{before}\n{behind}")
 }
 
-/// What is told of words, or of none.
+/// The help or the fault of usage for words, or for none at a terminal.
 fn text_of<S: AsStr>(alloc: Global, words: Option<&[S]>) -> Result<String, AllocError> {
     let ending = ending(alloc)?;
     let mut siman = siman(alloc, &ending)?;
@@ -205,15 +205,15 @@ fn text_of<S: AsStr>(alloc: Global, words: Option<&[S]>) -> Result<String, Alloc
     without_tip(alloc, &text)
 }
 
-/// The help that words ask for which ask for no task, the program's name first, or how they break
-/// the usage.
+/// The help that words ask for, or the fault of their usage. The words ask for no task; the first
+/// is the program's name.
 pub fn usage_text<S: AsStr>(alloc: Global, words: &[S]) -> Result<String, AllocError> {
     text_of(alloc, Some(words))
 }
 
-/// How no words break the usage where standard input is a terminal, on which nobody means to write
-/// a script. The layer above asks whether it is one; of [`read_words`](crate::read_words) no words are
-/// a task.
+/// The fault of a call without words if standard input is a terminal, where nobody means to type a
+/// script. The caller finds out whether it is one; for [`read_words`](crate::read_words) no words
+/// are a task.
 pub fn terminal_text(alloc: Global) -> Result<String, AllocError> {
     text_of::<&str>(alloc, None)
 }

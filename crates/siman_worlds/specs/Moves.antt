@@ -1,4 +1,5 @@
--- What a move makes of a world as it is kept: of its journal, and of the halves of each station (profile).
+-- The effect of a move on the state of a world: on its journal, and on the manager and application of each station
+-- (profile).
 use Rattle.std.specs.Prelude.{◌≡◌, ℕ, ◌+◌, nat_le, List, length, slice_get, slice_set, Option, Some, None, if◌then◌else◌}
 use Rattle.exercise_model.specs.declared.recording.TheConstants.{MOST_ENTRIES}
 use Rattle.siman_scripts.specs.declared.act.Act.{Act}
@@ -10,13 +11,15 @@ use Rattle.siman_worlds.specs.declared.world_fault.MoveFault.TheVariants as faul
 use Rattle.siman_worlds.specs.World.{sent_in}
 use Rattle.siman_worlds.specs.Acts.{Writes, Goes, sends_of, halves_entries, halves_fault, RepeatsShort}
 
--- What a world keeps to: each station has its halves, the datagrams are those that the entries send, and no repeat that is due is too long.
+-- the invariant of a world: each station has its manager and application, the datagrams are those that the entries
+-- send, and no repeat that is due is too long
 pub record IsFit (w : World) : Type 0 where
   pub stations : length w.nodes.items ≡ length w.journal.recording.setting.stations
   pub sends : sends_of w.journal ≡ sent_in w.journal.recording.entries
   pub repeats : (s : ℕ) (n : Node) → slice_get w.nodes.items s ≡ Some n → RepeatsShort n.manager
 
--- The move was made: its station's halves went on, those of the others stand, and the entries were written down.
+-- the move was made: the manager and application of its station changed, those of the others did not, and the
+-- entries were recorded
 pub record Does (m : Move) (old new : World) : Type 0 where
   pub before : Node
   pub after : Node
@@ -25,7 +28,7 @@ pub record Does (m : Move) (old new : World) : Type 0 where
   pub halves : Goes (sends_of old.journal) m.now m.act before after
   pub entries : Writes (halves_entries (sends_of old.journal) before m.station m.now m.act) old.journal new.journal
 
--- why the halves of a station, if it is there, do not do an act
+-- why a station, if there is such a station, cannot do an act
 abbrev pub node_fault : List (List ℕ) → ℕ → Act → Option Node → Option MoveFault
 node_fault sends now act None = Some faults.NoSuchStation
 node_fault sends now act (Some n) = halves_fault sends n now act

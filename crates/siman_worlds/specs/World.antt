@@ -1,4 +1,5 @@
--- Worlds: the entries that moves make, and the first move that cannot be made; told of the moves, the replies and the orders alone, without any table or machine (profile).
+-- Worlds: the entries that moves make, and the first move that cannot be made; as functions of the moves, the
+-- replies and the orders alone, without any table or machine (profile).
 use Rattle.std.specs.Prelude.{ℕ, ◌+◌, Bool, ◌==◌, ◌&&◌, nat_le, nat_lt, List, [], ◌∷◌, ◌++◌, length, map, reverse, slice_get, slice_index_or, Option, Some, None, option_and_then, if◌then◌else◌}
 use Rattle.std.specs.Option.{option_map, option_or}
 use Rattle.std.specs.List.{list_all}
@@ -37,11 +38,11 @@ pub record WorldData : Type 0 where
   pub exercise : ℕ
   pub stations : List WorldStationData
 
--- its setting, as a recording of the first form has it
+-- its setting, as a recording of the first format has it
 abbrev pub setting_of : WorldData → SettingData
 setting_of w = record { form = First; exercise = w.exercise; stations = map (λ s. s.station) w.stations }
 
--- no station at all
+-- a placeholder for no station
 abbrev pub no_station : WorldStationData
 no_station = record { station = nowhere; first_id = 0; tries = 0; wait = 0; datums = record { fixed = []; variable = [] }; actions = [] }
 
@@ -49,7 +50,7 @@ no_station = record { station = nowhere; first_id = 0; tries = 0; wait = 0; datu
 abbrev pub station_of : WorldData → ℕ → WorldStationData
 station_of w s = slice_index_or w.stations s no_station
 
--- what the application half of a station is begun with
+-- the configuration of a station's application
 abbrev pub outfit_of : WorldData → ℕ → Outfit
 outfit_of w s = record {
   exercise = w.exercise;
@@ -58,7 +59,7 @@ outfit_of w s = record {
   actions = (station_of w s).actions;
 }
 
--- what its manager half is begun with
+-- the configuration of a station's manager
 abbrev pub settings_of : WorldData → ℕ → Settings
 settings_of w s = record {
   exercise = w.exercise;
@@ -70,7 +71,8 @@ settings_of w s = record {
 
 -- What happened.
 
--- what happened in a world: its entries, in the order of the recording; and for each station the PDUs that came to its application half, and the calls of its manager half, each THE LATEST FIRST
+-- what happened in a world: its entries, in the order of the recording; and for each station the PDUs that its
+-- application received, and the calls of its manager, each THE LATEST FIRST
 pub record Course : Type 0 where
   pub entries : List Entry
   pub came : ℕ → List Pdu
@@ -87,18 +89,18 @@ sent_in (Sent s stamp b ∷ es) = b ∷ sent_in es
 sent_in (Received s stamp b ∷ es) = sent_in es
 sent_in (Told s e y ∷ es) = sent_in es
 
--- the k-th datagram that was sent over the whole world, from 0, if so many were
+-- the k-th datagram that was sent in the whole world, from 0, if there were so many
 abbrev pub datagram : Course → ℕ → Option (List ℕ)
 datagram c k = slice_get (sent_in c.entries) k
 
--- the PDU that an act brings: that of the datagram that is delivered
+-- the PDU that an act brings: that of the delivered datagram
 abbrev pub brought : Course → Act → Option Pdu
 brought c (Command order) = None
 brought c (Deliver k) = option_and_then reading (datagram c k)
 brought c Tick = None
 brought c (Tell e) = None
 
--- the call of the manager half that an act is: an order is made, a PDU came, or a tick
+-- the call of the manager that an act is: an order is made, a PDU is received, or a tick
 abbrev pub call_of : Course → ℕ → Act → Option Call
 call_of c now (Command order) = Some (Requested order now (stamp_of now))
 call_of c now (Deliver k) = option_map Came (brought c (Deliver k))
@@ -111,11 +113,11 @@ call_of c now (Tell e) = None
 abbrev pub made_by : WorldData → Course → ℕ → ℕ → Order → Pdu
 made_by w c s now order = order_pdu (settings_of w s) (next_id (settings_of w s) (count_made (settings_of w s) (c.calls s))) order (stamp_of now)
 
--- the reply of a station to a PDU that comes, if one is due
+-- the reply of a station to a received PDU, if one is due
 abbrev pub reply_by : WorldData → Course → ℕ → ℕ → Pdu → Option Pdu
 reply_by w c s now q = reply (outfit_of w s) (c.came s) q (stamp_of now)
 
--- a datagram comes to a station, and the reply to its PDU, if it is one and a reply is due, is sent
+-- a station receives a datagram, and the reply to its PDU, if it is one and a reply is due, is sent
 abbrev pub arrival : WorldData → Course → ℕ → ℕ → Option (List ℕ) → List Entry
 arrival w c s now None = []
 arrival w c s now (Some b) = Received s now b ∷ sent_as s now (option_and_then (reply_by w c s now) (reading b))
@@ -128,14 +130,15 @@ repeated_by w c s now = option_map (λ l. with_stamp (stamp_of now) l.order) (re
 abbrev pub state_by : WorldData → Course → ℕ → ℕ → EntityState
 state_by w c s e = state_after w.exercise (station_of w s).station (log_at s (past c.entries)) e
 
--- THE ENTRIES THAT AN ACT OF A STATION MAKES: the order that is sent; what is received, and the reply that is sent; the repeat that is sent; the state that is told
+-- THE ENTRIES OF AN ACT OF A STATION: the sent order; the received datagram and the sent reply; the sent repeat;
+-- the told state
 abbrev pub entries_by : WorldData → Course → ℕ → ℕ → Act → List Entry
 entries_by w c s now (Command order) = sent_as s now (Some (made_by w c s now order))
 entries_by w c s now (Deliver k) = arrival w c s now (datagram c k)
 entries_by w c s now Tick = sent_as s now (repeated_by w c s now)
 entries_by w c s now (Tell e) = Told s e (state_by w c s e) ∷ []
 
--- what is added in front of the list of one station
+-- the lists with an item added in front of the list of one station
 abbrev pub put_at : {X : Type 0} → ℕ → Option X → (ℕ → List X) → ℕ → List X
 put_at s None lists o = lists o
 put_at s (Some x) lists o = if s == o then x ∷ lists o else lists o
@@ -148,7 +151,7 @@ after_move w c m = record {
   calls = put_at m.station (call_of c m.now m.act) c.calls;
 }
 
--- WHAT HAPPENED after these moves, the latest first
+-- WHAT HAPPENED in these moves, the latest first
 unfoldable pub course_of : WorldData → List Move → Course
 course_of w [] = nothing
 course_of w (m ∷ earlier) = after_move w (course_of w earlier) m
@@ -166,7 +169,8 @@ is_world_station s = nat_le 1 s.tries && nat_le (length s.station.opening) MOST_
 abbrev pub are_world_stations : List WorldStationData → Bool
 are_world_stations ss = are_stations (map (λ s. s.station) ss) && list_all is_world_station ss
 
--- why a station cannot do an act: an order is of no request, or is refused by its manager half; the datagram was not sent so far; no entity has the number
+-- why a station cannot do an act: an order has the body of no request, or its manager refuses it; the datagram was
+-- not sent so far; no entity has the number
 abbrev pub act_fault : WorldData → Course → ℕ → ℕ → Act → Option MoveFault
 act_fault w c s now (Command order) =
     if is_request_body order.body
@@ -176,14 +180,15 @@ act_fault w c s now (Deliver k) = if nat_lt k (length (sent_in c.entries)) then 
 act_fault w c s now Tick = None
 act_fault w c s now (Tell e) = if is_entity e then None else Some faults.NoSuchEntity
 
--- WHY A MOVE CANNOT BE MADE: the first of these that holds. Fewer than two of the 1,048,576 entry numbers are left; the station is none of the world's; it cannot do so.
+-- WHY A MOVE CANNOT BE MADE: the first of these that holds. Fewer than two of the 1,048,576 entry numbers are left;
+-- the world has no such station; the station cannot do the act.
 abbrev pub move_fault : WorldData → Course → Move → Option MoveFault
 move_fault w c m =
     if nat_le (length c.entries + 2) MOST_ENTRIES
     then (if nat_lt m.station (length w.stations) then act_fault w c m.station m.now m.act else Some faults.NoSuchStation)
     else Some faults.Records
 
--- THE FIRST FAULT in the order of the moves, which stand the latest first, with the number of its move from 0
+-- THE FIRST FAULT in the order of the moves, which are given the latest first, with the number of its move, from 0
 abbrev pub first_fault : WorldData → List Move → Option WorldFault
 first_fault w [] = None
 first_fault w (m ∷ earlier) =

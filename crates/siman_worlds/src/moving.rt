@@ -1,4 +1,4 @@
-//! What a station of a world does in one move.
+//! One move of a station of a world.
 
 ghost use Rattle.std.specs.Prelude.{◌≡◌, ◌∷◌, [], ◌<◌, ◌≤◌, length, true, is_some, IfOk, IfErr, IfSome, OnOk, None, Some, slice_get, option_and_then};
 ghost use Rattle.dis_records.specs.declared.header.TheConstants.{LARGEST_DATAGRAM};
@@ -32,7 +32,7 @@ pub(crate) enum StepFault {
 }
 
 impl StepFault {
-    /// The fault of a world whose move of this number was not made.
+    /// Fault of a world whose move of this number was not made.
     pub fn at(self, number: usize) -> WorldFault
         ensures { result ≡ at_move number self }
     {
@@ -54,7 +54,7 @@ impl From<AllocError> for StepFault {
     }
 }
 
-/// The PDU of a new order stands in `text`.
+/// Makes an order, and writes its PDU into `text`.
 fn make_order(node: &mut Node, now: u64, order: Order, text: &mut Vec<u8>) -> Result<(), StepFault>
     ensures node { OnOk result (node.new ≡ after_order node.old now order) }
     ensures text { OnOk result (text.new.items ≡ pdu_text (next_order node.old.manager now order)) }
@@ -75,7 +75,7 @@ fn make_order(node: &mut Node, now: u64, order: Order, text: &mut Vec<u8>) -> Re
     }
 }
 
-/// Whether a repeat is due, which then stands in `text`.
+/// Writes the repeat that is due into `text`, if any. Returns whether one is due.
 fn make_repeat(node: &mut Node, now: u64, text: &mut Vec<u8>) -> Result<bool, AllocError>
     requires { RepeatsShort node.old.manager }
     ensures node { OnOk result (node.new ≡ after_tick node.old now) }
@@ -90,7 +90,7 @@ fn make_repeat(node: &mut Node, now: u64, text: &mut Vec<u8>) -> Result<bool, Al
     }
 }
 
-/// A station makes an order, and sends it.
+/// Makes an order of a station, and sends it.
 fn command(
     alloc: Global,
     journal: &mut Journal,
@@ -111,7 +111,7 @@ fn command(
     Ok(())
 }
 
-/// A station sends the repeat that is due, if one is.
+/// Sends the repeat of a station that is due, if any.
 fn tick(
     alloc: Global,
     journal: &mut Journal,
@@ -130,7 +130,7 @@ fn tick(
     Ok(())
 }
 
-/// The fault of a turn that had room for its entries.
+/// Fault of a turn that had room for its entries: always that memory ran out.
 fn of_turn(fault: TurnFault<LogFault>) -> StepFault
     requires { LacksMemory fault }
     ensures { result ≡ StepFault.Memory }
@@ -141,7 +141,7 @@ fn of_turn(fault: TurnFault<LogFault>) -> StepFault
     }
 }
 
-/// The datagram of a number comes to a station, and its reply is sent, if one is due.
+/// Delivers the datagram of this number to a station, and sends its reply, if one is due.
 fn deliver(
     alloc: Global,
     journal: &mut Journal,
@@ -180,7 +180,7 @@ fn deliver(
     }
 }
 
-/// A station tells the state of an entity.
+/// Records the state of an entity of a station as told.
 fn tell(journal: &mut Journal, node: &Node, station: u16, entity: u16) -> Result<(), StepFault>
     requires { HasRoom station journal.old.recording }
     ensures entries { OnOk result (Writes (Told station entity (state_over node.now.application.outfit (came node.now.application) entity) ∷ []) journal.old journal.new) }
@@ -195,7 +195,7 @@ fn tell(journal: &mut Journal, node: &Node, station: u16, entity: u16) -> Result
     Ok(())
 }
 
-/// Does an act at a station.
+/// Makes a station do an act.
 pub(crate) fn act_at(
     alloc: Global,
     journal: &mut Journal,

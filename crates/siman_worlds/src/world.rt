@@ -1,4 +1,4 @@
-//! Worlds: stations that are moved by a list, and the recording that they write.
+//! Worlds: stations that make a list of moves, and the recording of it.
 
 ghost use Rattle.std.specs.Prelude.{◌≡◌, ◌⊎◌, [], map, reverse, true, false, Some, None, OnOk, IfOk, IfErr};
 ghost use Rattle.std.specs.List.{list_all};
@@ -24,25 +24,25 @@ use siman_scripts::{Move, WorldStation};
 use siman_stations::Node;
 use std::alloc::{AllocError, Global};
 
-/// How many entities a station opens with at most (profile).
+/// Most entities that a station opens with (profile).
 const MOST_OPENING: usize = 4096;
 
-/// A world as far as it was moved.
+/// A world after some of its moves.
 #[derive(Drop)]
 struct World {
     journal: Journal,
-    /// The halves of each station.
+    /// Manager and application of each station.
     nodes: Vec<Node>,
 }
 
-/// Whether a world can have a station, but for its address.
+/// Whether a world can have a station, apart from its address.
 fn is_world_station(station: &WorldStation) -> bool
     ensures { result ≡ is_world_station station.now }
 {
     station.tries >= 1 && station.station.opening().len() <= MOST_OPENING
 }
 
-/// Equal datums.
+/// Copy of datums.
 fn copy_of(alloc: Global, datums: &[VariableDatum]) -> Result<Vec<VariableDatum>, AllocError>
     ensures { IfOk result (λ copy. copy.items ≡ datums.now) }
 {
@@ -53,7 +53,7 @@ fn copy_of(alloc: Global, datums: &[VariableDatum]) -> Result<Vec<VariableDatum>
     Ok(copy)
 }
 
-/// The two halves of a station.
+/// Manager and application of a station, in their initial state.
 fn node_of(alloc: Global, exercise: u8, station: &WorldStation) -> Result<Node, WorldFault>
     ensures node { IfOk result (IsNewNode exercise station.now) }
     ensures fault { IfErr result (λ fault. (fault ≡ WorldFault.Memory) ⊎ ((fault ≡ WorldFault.Stations) × (is_world_station station.now ≡ false))) }
@@ -88,7 +88,7 @@ fn node_of(alloc: Global, exercise: u8, station: &WorldStation) -> Result<Node, 
     })
 }
 
-/// The halves of each station.
+/// Manager and application of each station, in their initial state.
 fn nodes_of(alloc: Global, exercise: u8, stations: &[WorldStation]) -> Result<Vec<Node>, WorldFault>
     ensures nodes { IfOk result (λ nodes. AreNewNodes exercise stations.now nodes.items) }
     ensures fault { IfErr result (λ fault. (fault ≡ WorldFault.Memory) ⊎ ((fault ≡ WorldFault.Stations) × (list_all is_world_station stations.now ≡ false))) }
@@ -100,7 +100,7 @@ fn nodes_of(alloc: Global, exercise: u8, stations: &[WorldStation]) -> Result<Ve
     Ok(nodes)
 }
 
-/// A recording of the first form, of the stations, with no entries.
+/// A recording of the first format, of these stations, without entries.
 fn recording_of(
     alloc: Global,
     exercise: u8,
@@ -123,16 +123,16 @@ fn recording_of(
 /// The stations of a world before its first move.
 #[derive(Drop)]
 pub struct Beginning {
-    /// A recording of them with no entries.
+    /// Recording of the stations, without entries.
     pub recording: Recording,
-    /// The halves of each station.
+    /// Manager and application of each station.
     pub nodes: Vec<Node>,
 }
 
-/// The stations of a world as they are begun: a recording of them with no entries, and the halves of
-/// each. Stations is answered where a world cannot have them: there is none or more than 256, the
-/// addresses do not strictly rise, an order would be sent 0 times, or a station opens with more than
-/// 4,096 entities.
+/// Stations of a world in their initial state: their recording without entries, and the manager and
+/// application of each. Fails with Stations if a world cannot have them: there are none or more
+/// than 256, the addresses do not strictly rise, an order would be sent 0 times, or a station opens
+/// with more than 4,096 entities.
 pub fn begin_world(
     alloc: Global,
     exercise: u8,
@@ -197,12 +197,12 @@ impl World {
     }
 }
 
-/// Runs a world: the stations of an exercise, with both halves, moved by these moves. The recording
-/// has what they sent, received and told: a Command gives the order that is sent; a Deliver what is
-/// received, and the answer that is sent, if one is due; a Tick the repeat that is sent, if one is
-/// due; a Tell the state of the entity. Entries are stamped with the `now` of their move; the
-/// timestamp of a PDU is `2 * (now mod 2^31)`. Refused are, in this order: the stations, and then the
-/// first move that cannot be made. The entries, in their order, are a run.
+/// Runs a world: the stations of an exercise, each with manager and application, make these moves.
+/// The recording has what they sent, received and told: a Command gives the order that is sent; a
+/// Deliver the received datagram, and the answer that is sent, if one is due; a Tick the repeat
+/// that is sent, if one is due; a Tell the state of the entity. Entries are stamped with the `now`
+/// of their move; the timestamp of a PDU is `2 * (now mod 2^31)`. Refuses, in this order: the
+/// stations, and then the first move that cannot be made. The entries, in their order, are a run.
 pub fn run_world(
     alloc: Global,
     exercise: u8,

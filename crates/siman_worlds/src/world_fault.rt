@@ -26,7 +26,7 @@ pub enum MoveFault {
     /// The body of the order is that of no request.
     #[error("not-a-request")]
     NotARequest,
-    /// The manager half refuses the order: no identifier is left, or it is too long.
+    /// The manager refuses the order: no identifier is left, or it is too long.
     #[error("{0}")]
     Order(OrderFault),
 }
@@ -38,7 +38,7 @@ pub enum WorldFault {
     /// be sent 0 times, or a station opens with more than 4,096 entities.
     #[error("stations")]
     Stations,
-    /// The first move that cannot be made, by its number from 0.
+    /// The first move that cannot be made, by its number, from 0.
     #[error("{1} at move {0}")]
     Move(usize, MoveFault),
     /// Memory ran out.

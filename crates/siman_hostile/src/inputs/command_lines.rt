@@ -1,4 +1,4 @@
-//! Command lines that are made up, over a folder of files of every kind.
+//! Random command lines, over a folder with files of every kind.
 
 use crate::input::Input;
 use crate::inputs::Answer;
@@ -7,7 +7,7 @@ use crate::refusals::files::STEPS;
 use siman_refusals::RECORDING;
 use std::alloc::Global;
 
-/// The words that may stand in the place of others.
+/// Words that may replace others.
 const WORDS: [&str; 80] = [
     "pdu",
     "pdus",
@@ -91,10 +91,10 @@ const WORDS: [&str; 80] = [
     "127.0.0.1:0",
 ];
 
-/// How many words a command line has at most.
+/// Largest number of words in a command line.
 const MOST: usize = 10;
 
-/// Command lines as they should be, of every command.
+/// Correct command lines, of every command.
 const LINES: [&[&str]; 24] = [
     &[],
     &[
@@ -141,7 +141,7 @@ const LINES: [&[&str]; 24] = [
     ],
 ];
 
-/// A recording without entries, with the only certificate.
+/// A recording without entries, with its only certificate.
 const EMPTY: [u8; 25] = [
     68, 83, 82, 67, 48, 48, 48, 49, 1, 0, 1, 0, 2, 0, 3, 0, 1, 0, 7, 1, 0, 0, 0, 0, 0,
 ];
@@ -160,14 +160,14 @@ const CAPTURE: [u8; 24] = [
 
 const SCRIPT: &[u8] = b"exercise 1\nstation 1:1\nstation 2:3\ncreate 2:3 2:3:7\ndeliver 0 2:3\n";
 
-/// What a station is told to do.
+/// Lines of standard input for `station`.
 const MOVES: &[u8] =
     b"create 2:3 1:1:4\nat 10\ntick 2:3\n\ntell 2:3 7\nquery 2:3 65535:65535:65535 1\n";
 
-/// What stands on standard input.
+/// Standard inputs.
 const INPUTS: [&[u8]; 6] = [b"", SCRIPT, b"0701\n", b"GG\n00\n", b"exercise 1\n", MOVES];
 
-/// The files of which the words may ask; one of them is standard input.
+/// The files that the words may name; `-` is there as a file name too.
 const FILES: Files<'static> = &[
     ("rec", &EMPTY),
     ("cert", &CERTIFICATE),
@@ -182,9 +182,9 @@ const FILES: Files<'static> = &[
     ("-", SCRIPT),
 ];
 
-/// Whether an end is one that the pages name: an answer with something out and no fault told, or a
-/// fault that is told. Only `pdus`, `live` and `station` put out and tell; `pdus` answers nothing to no
-/// lines, and `log` where no entry passes.
+/// Whether a run ended as the pages say: with output and no fault, or with a fault alone. Only
+/// `pdus`, `live` and `station` may print both; without lines `pdus` prints nothing, and `log`
+/// prints nothing if no entry passes the filter.
 fn is_named(ended: &Ran, command: &str) -> bool {
     match command {
         "pdus" if ended.status <= 2 => (ended.status == 2) == !ended.errors.is_empty(),
@@ -195,17 +195,17 @@ fn is_named(ended: &Ran, command: &str) -> bool {
     }
 }
 
-/// Whether no file that is not empty was replaced, but by a command that may, where `--force` stands.
+/// Whether no file with bytes in it was replaced without `--force`.
 fn spares_files(ended: &Ran, words: &[&str]) -> bool {
     !ended.replaced || words.contains(&"--force")
 }
 
-/// A word that may stand in the place of another.
+/// A random word.
 fn word(input: &mut Input) -> &'static str {
     WORDS[input.random.below(80) % 80]
 }
 
-/// Puts a word at a place among so many, before those that stand from there on.
+/// Inserts a word at a place among the first `count` words, and moves those behind it up.
 fn insert(words: &mut [&'static str; MOST], count: usize, place: usize, word: &'static str) {
     for back in 0..count.saturating_sub(place) {
         let at = count.saturating_sub(back);
@@ -214,8 +214,9 @@ fn insert(words: &mut [&'static str; MOST], count: usize, place: usize, word: &'
     words[place % MOST] = word;
 }
 
-/// A command line that is made up, and how many words it has: one as it should be, in which a word is
-/// another in one of two, one more stands in one of three, and the last ones lack in one of six.
+/// A random command line and its number of words: a correct one, in which one time in two a word is
+/// replaced, one time in three a word is inserted, and one time in six the words are cut off, or
+/// padded with empty ones, at a random number.
 fn make_up(input: &mut Input) -> ([&'static str; MOST], usize) {
     let mut words = [""; MOST];
     let line = LINES[input.random.below(24) % 24];
@@ -235,7 +236,7 @@ fn make_up(input: &mut Input) -> ([&'static str; MOST], usize) {
     (words, count)
 }
 
-/// Tries a command line: it ends with a status that the pages name, and no file is lost.
+/// Tries a random command line: the run must end as the pages say, and lose no file.
 pub(crate) fn try_command_line(alloc: Global, input: &mut Input) -> Answer {
     let (words, count) = make_up(input);
     let words = &words[..count.min(MOST)];

@@ -1,4 +1,4 @@
-//! Datagrams of each kind that are made up, spoilt, and read by each way there is.
+//! Random datagrams of each kind, spoilt, and read in every way.
 
 use crate::input::Input;
 use crate::inputs::{Answer, UNTRIED};
@@ -6,7 +6,7 @@ use crate::ran::run_words;
 use siman_pdus::{Pdu, PduFault, decode, encode, encoded_size, view};
 use std::alloc::Global;
 
-/// Puts a variable datum record of fewer than 100 bits.
+/// Appends a variable datum record of fewer than 100 bits.
 fn put_variable(input: &mut Input) {
     let bits = input.random.below(100);
     input.put_some(4);
@@ -14,9 +14,10 @@ fn put_variable(input: &mut Input) {
     input.put_some(bits.div_ceil(64).saturating_mul(8));
 }
 
-/// Puts the numbers of records and the records, which are identifiers where `are_ids` says so.
+/// Appends the counts of fixed and variable records and the records, which are bare identifiers if
+/// `are_ids` is set.
 fn put_records(input: &mut Input, are_ids: bool) {
-    // Now and then about as many as a datagram holds.
+    // Now and then about as many records as fit into a datagram.
     let most = if input.random.one_in(100) { 1030 } else { 3 };
     let (fixed, variable) = (input.random.below(most), input.random.below(3));
     let [high, low] = ((fixed % 65536) as u16).to_be_bytes();
@@ -31,11 +32,11 @@ fn put_records(input: &mut Input, are_ids: bool) {
     }
 }
 
-/// How many bytes stand in a body before its records, or without any, by its kind, from 0 for Create
-/// Entity on.
+/// Number of bytes of a body before its records, or of the whole body, by kind, with Create Entity
+/// as kind 0.
 const BODIES: [usize; 12] = [4, 4, 20, 16, 8, 8, 8, 8, 8, 8, 8, 0];
 
-/// Puts the body of a kind.
+/// Appends the body of a kind of PDU.
 fn put_body(input: &mut Input, kind: usize) {
     input.put_some(BODIES[kind % 12]);
     if kind > 4 {
@@ -43,7 +44,7 @@ fn put_body(input: &mut Input, kind: usize) {
     }
 }
 
-/// Sets the length field, if it is there.
+/// Sets the length field to the length of the datagram, if it has that field.
 fn set_length(bytes: &mut Vec<u8>) {
     let length = (bytes.len() % 65536) as u16;
     if bytes.len() > 9 {
@@ -51,7 +52,7 @@ fn set_length(bytes: &mut Vec<u8>) {
     }
 }
 
-/// Puts a datagram of some kind that spells a PDU, and spoils it.
+/// Appends a datagram that spells a PDU of a random kind, and spoils it.
 fn put_datagram(input: &mut Input) {
     let kind = input.random.below(12);
     let version = if input.random.one_in(4) { 6 } else { 7 };
@@ -67,7 +68,7 @@ fn put_datagram(input: &mut Input) {
     }
 }
 
-/// Whether what was read or copied is this PDU.
+/// Whether a PDU was read, and equals this one.
 fn is_same<E: Drop>(read: Result<Pdu, E>, pdu: &Pdu) -> bool {
     match read {
         Ok(read) => read == *pdu,
@@ -75,7 +76,7 @@ fn is_same<E: Drop>(read: Result<Pdu, E>, pdu: &Pdu) -> bool {
     }
 }
 
-/// Whether what is written of a PDU is of its size and is read as the same PDU.
+/// Whether the encoding of a PDU has the size of [`encoded_size`] and decodes to this PDU.
 fn is_written_back(alloc: Global, pdu: &Pdu) -> bool {
     let size = match encoded_size(pdu) {
         Some(size) => usize::from(size),
@@ -85,8 +86,8 @@ fn is_written_back(alloc: Global, pdu: &Pdu) -> bool {
     encode(pdu, &mut text).is_ok() && size == text.len() && is_same(decode(alloc, &text), pdu)
 }
 
-/// Whether all ways to read a datagram agree, and the status that it should have: 0 where it is a
-/// PDU, which comes back where it is written, copied or shown in place, 1 where it is refused.
+/// Whether all ways to read a datagram agree, and the status that `pdu` must have: 0 for a PDU,
+/// which must also survive encoding, copying and viewing in place, and 1 for a refused datagram.
 fn wanted(alloc: Global, bytes: &[u8]) -> (bool, u8) {
     match (&decode(alloc, bytes), &view(bytes)) {
         (Ok(pdu), Ok(shown)) => {
@@ -98,8 +99,8 @@ fn wanted(alloc: Global, bytes: &[u8]) -> (bool, u8) {
     }
 }
 
-/// Tries a datagram: it is read and shown alike, and `pdu` shows it with status 0 where it is a PDU,
-/// and refuses it with status 1 where not.
+/// Tries a random datagram: decoding and viewing must agree, and `pdu` must show a PDU with status
+/// 0, and refuse any other datagram with status 1.
 pub(crate) fn try_datagram(alloc: Global, input: &mut Input) -> Answer {
     put_datagram(input);
     let bytes = input.bytes.as_slice();

@@ -1,4 +1,4 @@
-//! Recordings that are made up and spoilt, and certificates of them.
+//! Random recordings, spoilt, and their certificates.
 
 use crate::input::{Input, begin_input};
 use crate::inputs::Answer;
@@ -9,10 +9,10 @@ use siman_agreement::recording;
 use siman_fixtures::Random;
 use std::alloc::Global;
 
-/// The forms by the throw of a die: every second one is the first.
+/// Forms by the throw of a die: half of them are the first form.
 const FORMS: [Form; 4] = [Form::Closed, Form::Open, Form::First, Form::First];
 
-/// Puts the file of a recording that is made up and spoilt.
+/// Appends the file of a random recording, spoilt.
 fn put_recording(alloc: Global, input: &mut Input) {
     let form = FORMS[input.random.below(4) % 4];
     let is_written = match recording(alloc, form, false, input.random) {
@@ -25,12 +25,12 @@ fn put_recording(alloc: Global, input: &mut Input) {
     input.spoil(ways);
 }
 
-/// Whether two stations have the same address and the same entities.
+/// Whether two stations have equal addresses and equal opening entities.
 fn are_same(one: &Station, other: &Station) -> bool {
     one.address() == other.address() && one.opening() == other.opening()
 }
 
-/// Whether two logs have the same stations and the same entries.
+/// Whether two logs have equal heads, stations and entries.
 fn are_alike<L: ExerciseLog, M: ExerciseLog>(one: &L, other: &M) -> bool {
     for i in 0..one.station_count() {
         if i >= other.station_count() || !are_same(one.station(i), other.station(i)) {
@@ -57,7 +57,7 @@ fn wanted(alloc: Global, bytes: &[u8]) -> (bool, bool) {
     }
 }
 
-/// Where the entries of a recording begin.
+/// Offset of the first entry in the file of a recording.
 fn first_entry<L: ExerciseLog>(log: &L) -> usize {
     let mut place = match log.form() {
         Form::First => 11usize,
@@ -72,7 +72,8 @@ fn first_entry<L: ExerciseLog>(log: &L) -> usize {
     place
 }
 
-/// Where the state of one of the entries that tell a state stands in the file of a recording.
+/// Offset in the file of a recording of the state in a random told entry; `None` if there is no
+/// such entry.
 fn told_state<L: ExerciseLog>(log: &L, random: &mut Random) -> Option<usize> {
     let mut place = first_entry(log);
     let (mut told, mut found) = (0usize, None);
@@ -93,7 +94,8 @@ fn told_state<L: ExerciseLog>(log: &L, random: &mut Random) -> Option<usize> {
     found
 }
 
-/// Where one of the entries of a file that tell a state has it, if one does.
+/// Offset in a file of the state in a random told entry; `None` if there is no such entry, or the
+/// file is no recording.
 fn state_place(alloc: Global, random: &mut Random, bytes: &[u8]) -> Option<usize> {
     match RecordingView::over(alloc, bytes) {
         Ok(log) => told_state(&log, random),
@@ -101,7 +103,7 @@ fn state_place(alloc: Global, random: &mut Random, bytes: &[u8]) -> Option<usize
     }
 }
 
-/// Makes another state of the one that stands at a place; whether one stands there.
+/// Replaces the state at a place by another one; whether there was a state.
 fn change_state(bytes: &mut [u8], place: usize, more: u8) -> bool {
     match bytes.get_mut(place) {
         Some(state) => {
@@ -114,7 +116,8 @@ fn change_state(bytes: &mut [u8], place: usize, more: u8) -> bool {
     }
 }
 
-/// Whether a copy of a recording with another state told in one entry gets a no, if one tells a state.
+/// Whether `check` says no to a copy of a recording in which one told state is changed; true if the
+/// recording has no told state.
 fn is_other_refused(
     alloc: Global,
     random: &mut Random,
@@ -133,7 +136,7 @@ fn is_other_refused(
     }
 }
 
-/// Two steps of a certificate that stand beside each other change places.
+/// Swaps two neighbouring steps of a certificate, chosen at random.
 fn swap_steps(random: &mut Random, bytes: &mut Vec<u8>) {
     let steps = bytes.len().saturating_sub(12) / 8;
     let first = random.below(steps.saturating_sub(1));
@@ -149,7 +152,7 @@ fn swap_steps(random: &mut Random, bytes: &mut Vec<u8>) {
     }
 }
 
-/// Spoils a certificate, which the input is, or swaps two of its steps.
+/// Spoils the certificate in the input, or swaps two of its steps.
 fn spoil_certificate(input: &mut Input) {
     if input.random.one_in(2) {
         swap_steps(&mut input.random, &mut input.bytes);
@@ -159,7 +162,7 @@ fn spoil_certificate(input: &mut Input) {
     }
 }
 
-/// Whether a certificate that is spoilt gets a no, a fault or the report.
+/// Whether `check` answers a spoilt certificate with a no, a fault, or exactly this report.
 fn is_spoilt_judged(
     alloc: Global,
     random: &mut Random,
@@ -179,8 +182,8 @@ fn is_spoilt_judged(
     }
 }
 
-/// Whether a certificate that was found gets a yes, a spoilt one no other report, and a copy of the
-/// recording with another state told a no.
+/// Whether `check` says yes to the certificate that `audit` found, prints no other report for a
+/// spoilt one, and says no if a told state of the recording is changed.
 fn is_judged(alloc: Global, random: &mut Random, recording: &[u8], certificate: &[u8]) -> bool {
     let said = checked(alloc, recording, certificate);
     let report = said.out.as_slice();
@@ -190,7 +193,8 @@ fn is_judged(alloc: Global, random: &mut Random, recording: &[u8], certificate: 
         && is_other_refused(alloc, random, recording, certificate)
 }
 
-/// Whether `audit` ended as it should, of a recording or of what is none.
+/// Whether `audit` ended as it must: with a certificate that `check` accepts or with blocked
+/// entries for a recording, and with a fault for any other file.
 fn is_searched(
     alloc: Global,
     random: &mut Random,
@@ -208,8 +212,8 @@ fn is_searched(
     }
 }
 
-/// Whether `convert` carried a file over as it should: a recording of the first format byte by byte,
-/// behind the magic, the exercise and the flag, and nothing else.
+/// Whether `convert` ended as it must: it copies a recording of the first format byte by byte, with a
+/// new magic and with a flag behind the exercise, and refuses any other file.
 fn is_carried(bytes: &[u8], is_read: bool, carried: &Ran) -> bool {
     let (Some(rest), true) = (bytes.strip_prefix(b"DSRC0001"), is_read) else {
         let told: &[u8] = if is_read {
@@ -229,8 +233,9 @@ fn is_carried(bytes: &[u8], is_read: bool, carried: &Ran) -> bool {
     is_told && new.strip_prefix(&[*exercise, 0]) == Some(old)
 }
 
-/// Tries a recording: it is read and seen in place alike, `show` and `audit` refuse it where it is
-/// none, what `audit` finds `check` takes, and `convert` carries over what is of the first format.
+/// Tries a random recording: reading and viewing must agree, `show` and `audit` must refuse a file
+/// that is none, `check` must accept the certificate that `audit` finds, and `convert` must convert
+/// the first format.
 pub(crate) fn try_recording(alloc: Global, input: &mut Input) -> Answer {
     put_recording(alloc, input);
     let recording = input.bytes.as_slice();

@@ -1,11 +1,11 @@
-//! Scripts that are made up and spoilt.
+//! Random scripts, spoilt.
 
 use crate::input::Input;
 use crate::inputs::Answer;
 use crate::ran::{Ran, checked, run_words, searched};
 use std::alloc::Global;
 
-/// What one of the stations has.
+/// Lines for what a station begins with.
 const SETTINGS: [&str; 8] = [
     "opening F:1 E running\n",
     "opening 2:1 1 stopped\nopening 2:1 3 running\n",
@@ -17,7 +17,7 @@ const SETTINGS: [&str; 8] = [
     "",
 ];
 
-/// Orders of a station to another.
+/// Lines with orders of one station to another.
 const ORDERS: [&str; 8] = [
     "create F:1 T:1:E\n",
     "create F:1 T:1:E\n",
@@ -29,7 +29,7 @@ const ORDERS: [&str; 8] = [
     "set F:1 T:1:0 5 E\n",
 ];
 
-/// What stands behind a station, by the throw of a die.
+/// Lines of a station, by the throw of a die.
 const STATIONS: [&str; 4] = [
     "station F:1 first=4294967294 tries=1 wait=0\n",
     "station F:1 first=9 tries=2 wait=3\n",
@@ -37,7 +37,7 @@ const STATIONS: [&str; 4] = [
     "station F:1\n",
 ];
 
-/// Puts the lines of the stations 1:1 to 3:1, and of what one of them has.
+/// Appends the lines of the stations 1:1 to 3:1, and those for what one of them begins with.
 fn put_stations(input: &mut Input) {
     input.put(b"exercise 1\n");
     for site in 1..4usize {
@@ -49,7 +49,7 @@ fn put_stations(input: &mut Input) {
     input.put_lines(form, site.saturating_add(1), 0, entity);
 }
 
-/// Puts an order of a station to another.
+/// Appends a random order of one station to another.
 fn put_order(input: &mut Input) {
     let from = input.random.below(3).saturating_add(1);
     let to = input.random.below(4).saturating_add(1);
@@ -62,7 +62,7 @@ fn put_order(input: &mut Input) {
     input.put_lines(form, from, to, entity);
 }
 
-/// Puts a line that moves something, behind lines that sent at least so many datagrams.
+/// Appends a random move that is no order, behind moves that sent at least `sends` datagrams.
 fn put_move(input: &mut Input, sends: usize) {
     let site = input.random.below(3).saturating_add(1);
     let mut number = input.random.below(30);
@@ -79,7 +79,7 @@ fn put_move(input: &mut Input, sends: usize) {
     input.put_lines(form, site, 0, number);
 }
 
-/// Puts a script that is made up and spoilt.
+/// Appends a random script, and spoils some.
 fn put_script(input: &mut Input) {
     put_stations(input);
     let mut sends = 0usize;
@@ -95,7 +95,7 @@ fn put_script(input: &mut Input) {
     input.spoil(ways);
 }
 
-/// Whether bytes are these, one behind the other.
+/// Whether bytes are the concatenation of these parts.
 fn is_joined(bytes: &[u8], parts: &[&[u8]]) -> bool {
     let mut rest = bytes;
     for part in parts {
@@ -107,7 +107,8 @@ fn is_joined(bytes: &[u8], parts: &[&[u8]]) -> bool {
     rest.is_empty()
 }
 
-/// Whether the recording of a world is explained, and a trial says what the three commands say.
+/// Whether `audit` and `check` accept the recording of a world, and a trial prints exactly what
+/// `world`, `audit` and `check` print.
 fn is_closed(alloc: Global, made: &Ran, recording: &[u8], tried: &Ran) -> bool {
     let found = searched(alloc, recording);
     match &found.left {
@@ -133,8 +134,8 @@ pub(crate) fn is_tried(alloc: Global, made: &Ran, script: &[u8]) -> bool {
     }
 }
 
-/// Whether what the stations of a script record over lines that bring nothing is explained, or their
-/// fault is told.
+/// Whether `audit` explains what the stations of a script record with `live`, over links that
+/// deliver, or `live` ends with a fault and no output.
 fn is_lived(alloc: Global, script: &[u8]) -> bool {
     let files = [("script", script)];
     let lived = run_words(alloc, &["live", "script", "rec"], &files, &[]);
@@ -145,8 +146,8 @@ fn is_lived(alloc: Global, script: &[u8]) -> bool {
     }
 }
 
-/// Tries a script: its world and its trial end alike, what they make is explained, and what its
-/// stations record over lines is.
+/// Tries a random script: its world and its trial must end alike, and `audit` must explain the
+/// recordings of `world` and `live`.
 pub(crate) fn try_script(alloc: Global, input: &mut Input) -> Answer {
     put_script(input);
     let script = input.bytes.as_slice();

@@ -8,13 +8,13 @@ use std::alloc::Global;
 use std::io;
 use std::io::Write;
 
-/// How many orders are sent, received, answered, and their answers received.
+/// Number of orders; each is sent, received and answered, and its answer is received.
 const EXCHANGES: usize = 12_000;
 
-/// How many copies of the first order come later.
+/// Number of later copies of the first order.
 const COPIES: u32 = 27_000;
 
-/// Puts the script of the exercise.
+/// Appends the script of the exercise.
 fn put_script(script: &mut Input) {
     script.put(b"exercise 1\nstation 1:1\nstation 2:3\nopening 2:3 7 stopped\n");
     for number in 0..EXCHANGES {
@@ -27,15 +27,15 @@ fn put_script(script: &mut Input) {
     }
 }
 
-/// Puts the same recording with one entry more: 2:3 tells that its entity 7, which is running, is
-/// absent.
+/// Appends a copy of the recording with one more entry, in which 2:3 tells that its entity 7 is
+/// absent while it runs.
 fn put_told_wrong(file: &mut Input, recording: &[u8]) {
     file.put(recording);
     file.bytes.truncate(recording.len().saturating_sub(5));
     file.put(&[3, 0, 1, 0, 7, 0, 0, 0, 1, 142, 113]);
 }
 
-/// Puts the same certificate with one step more, for that entry.
+/// Appends a copy of the certificate with one more step, for that entry.
 fn put_with_step(file: &mut Input, certificate: &[u8]) {
     file.put(b"DSCT0001\x00\x01\x8e\x71");
     file.put(certificate.get(12..).unwrap_or(b""));
@@ -53,7 +53,7 @@ fn last_line(text: &[u8]) -> &[u8] {
     text.get(start..).unwrap_or(text)
 }
 
-/// Puts what `check` and `audit` say of the wrong state.
+/// Appends what `check` and `audit` print for the recording with the wrong state.
 fn put_wrong(alloc: Global, recording: &[u8], certificate: &[u8], told: &mut Input) {
     let mut wrong = begin_input(alloc, told.random);
     put_told_wrong(&mut wrong, recording);
@@ -63,8 +63,8 @@ fn put_wrong(alloc: Global, recording: &[u8], certificate: &[u8], told: &mut Inp
     told.put(&searched(alloc, &wrong.bytes).out);
 }
 
-/// Puts the last line of what `show` and `check` say of a recording, and what is said of the wrong
-/// state.
+/// Appends the last lines that `show` and `check` print for a recording, and what is printed for it
+/// with the wrong state.
 fn put_judged(alloc: Global, recording: &[u8], told: &mut Input) {
     let found = searched(alloc, recording);
     let Some(certificate) = &found.left else {
@@ -76,8 +76,8 @@ fn put_judged(alloc: Global, recording: &[u8], told: &mut Input) {
     put_wrong(alloc, recording, certificate, told);
 }
 
-/// Puts what the commands say of a script: what `world` and a trial told, and what is said of the
-/// recording.
+/// Appends what the commands print for a script: the output of `world`, whether its trial agrees,
+/// and what is printed for the recording.
 fn put_tried(alloc: Global, script: &[u8], told: &mut Input) {
     let files = [("script", script)];
     let made = run_words(alloc, &["world", "script", "rec"], &files, &[]);
@@ -90,7 +90,7 @@ fn put_tried(alloc: Global, script: &[u8], told: &mut Input) {
     }
 }
 
-/// Makes the exercise, and prints what the commands say of it.
+/// Makes the exercise, and prints the answers of the commands to it.
 pub(crate) fn put_exercise<W: Write>(alloc: Global, out: &mut W) -> io::Result<()> {
     let mut script = begin_input(alloc, Random { state: 0 });
     put_script(&mut script);

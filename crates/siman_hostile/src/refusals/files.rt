@@ -1,23 +1,23 @@
-//! Files that are judged.
+//! The call that checks files.
 
 use siman_console::{FilesFault, check_files};
 use siman_refusals::{Call, RECORDING, Said, refused, usual};
 use std::alloc::Global;
 
-/// The certificate of the order in which [`RECORDING`] has its entries.
+/// The certificate of [`RECORDING`] in the order of its entries.
 pub(crate) const STEPS: [u8; 44] = [
     68, 83, 67, 84, 48, 48, 48, 49, 0, 0, 0, 4, 0, 0, 0, 0, 255, 255, 255, 255, 0, 0, 0, 1, 0, 0,
     0, 0, 0, 0, 0, 2, 0, 0, 0, 1, 0, 0, 0, 3, 0, 0, 0, 2,
 ];
 
-/// What is reported of it.
+/// The report on it.
 const REPORT: &str = "yes records=4 others=0
 answer 2 request 1
 known 3 change 2
 entity 2:3:7 stopped
 ";
 
-/// A recording and its certificate are judged, and the report is written where there is room.
+/// Checks a recording with its certificate, and writes the report.
 pub(crate) struct Judging;
 
 impl Call<Vec<u8>> for Judging {

@@ -1,21 +1,21 @@
-//! Files of which it is told what contradicts what.
+//! The calls that say why a recording or a certificate is refused.
 
 use crate::refusals::reviews::Streams;
 use siman_console::{Spelling, why_command, why_not_command};
 use siman_refusals::{Call, Said, refused, usual};
 use std::alloc::Global;
 
-/// 2:3 tells that its entity 7 runs, which is absent.
+/// A recording in which 2:3 tells that its entity 7 runs, which is absent.
 const WRONG: [u8; 28] = [
     68, 83, 82, 67, 48, 48, 48, 49, 1, 0, 1, 0, 2, 0, 3, 0, 0, 3, 0, 0, 0, 7, 2, 0, 0, 0, 0, 1,
 ];
 
-/// The certificate of the one order that it could have.
+/// The certificate of the only possible sequence of its entries.
 const STEP: [u8; 20] = [
     68, 83, 67, 84, 48, 48, 48, 49, 0, 0, 0, 1, 0, 0, 0, 0, 255, 255, 255, 255,
 ];
 
-/// What is told of it.
+/// The output of `why` for the recording.
 const BLOCKED: &str = "blocked stations=1
 blocked 2:3 record=0 cause=13 wrong-state
 rule 13 a station tells the state that its entity has
@@ -24,7 +24,7 @@ repair sends=0 enough=no
 entry 0 2:3 told entity=2:3:7 state=running
 ";
 
-/// And of the certificate.
+/// The output of `why` for the recording and the certificate.
 const NO: &str = "no step=0 cause=13 wrong-state
 rule 13 a station tells the state that its entity has
 clash 0 entity=2:3:7 state=absent change=-
@@ -32,7 +32,7 @@ fault recording
 entry 0 2:3 told entity=2:3:7 state=running
 ";
 
-/// What was said, where this text was to be out, with status 1.
+/// The outcome of a call that must write this text, with status 1.
 fn said(status: u8, streams: &Streams, text: &str) -> Said {
     match status {
         1 => usual(streams.out.as_slice() == text.as_bytes() && streams.errors.is_empty()),
@@ -41,7 +41,7 @@ fn said(status: u8, streams: &Streams, text: &str) -> Said {
     }
 }
 
-/// What contradicts what in a recording is told, where there is room.
+/// Writes why no sequence explains a recording.
 pub(crate) struct Asking;
 
 impl Call<Streams> for Asking {
@@ -53,7 +53,7 @@ impl Call<Streams> for Asking {
     }
 }
 
-/// What is wrong with a certificate is told, where there is room.
+/// Writes why a certificate is wrong.
 pub(crate) struct AskingOfSteps;
 
 impl Call<Streams> for AskingOfSteps {

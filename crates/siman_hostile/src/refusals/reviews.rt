@@ -1,24 +1,24 @@
-//! Files that are reviewed.
+//! The call that reviews files.
 
 use siman_console::{Spelling, review_command};
 use siman_refusals::{Call, RECORDING, Said, refused, room, usual};
 use std::alloc::Global;
 use std::io;
 
-/// What is told of the order that is done.
+/// The review of the order that is done.
 const DONE: &str =
     "review exercise=1 stations=2 records=4 others=0 explained=yes orders=1 done=1 answered=0 refused=0 pending=0 unheard=0 unanswered=0 lost=0 unknown=0 nobody=0
 order 0 from=1:1 request=1 create-entity to=2:3:7 at=2:3 sends=1 receipts=1 got=1 said=able answer=2 heard=able news=3 took=0 change=2 fate=done
 ";
 
-/// What an answer and a fault are written to.
+/// Outputs of a call: its answer and its fault.
 #[derive(Drop)]
 pub(crate) struct Streams {
     pub out: Vec<u8>,
     pub errors: Vec<u8>,
 }
 
-/// Room for an answer and for a fault.
+/// Room for an answer and a fault.
 pub(crate) fn make_streams(alloc: Global) -> io::Result<Streams> {
     Ok(Streams {
         out: room(alloc)?,
@@ -26,7 +26,7 @@ pub(crate) fn make_streams(alloc: Global) -> io::Result<Streams> {
     })
 }
 
-/// A recording is reviewed under a filter, and its lines are written where there is room.
+/// Reviews a recording with a filter, and writes the rows.
 pub(crate) struct Reviewing;
 
 impl Call<Streams> for Reviewing {

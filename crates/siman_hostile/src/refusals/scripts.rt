@@ -1,4 +1,4 @@
-//! Scripts that are read, run and tried.
+//! Calls that read, run and try scripts.
 
 use exercise_model::ExerciseLog;
 use siman_console::{
@@ -7,7 +7,7 @@ use siman_console::{
 use siman_refusals::{Call, Said, refused, usual};
 use std::alloc::Global;
 
-/// A loss, a copy and a swap.
+/// A script with a loss, a copy and a swap.
 const SCRIPT: &str = "exercise 1
 station 1:1
 station 2:3
@@ -26,7 +26,7 @@ deliver 6 1:1
 deliver 5 1:1
 ";
 
-/// What is told of it.
+/// The output for it.
 const TOLD: &str = "world records=16 sent=8
 explained steps=16
 yes records=16 others=0
@@ -40,7 +40,7 @@ known 15 change 7
 entity 2:3:7 running
 ";
 
-/// A script is read.
+/// Reads a script.
 pub(crate) struct ReadingScript;
 
 impl Call<()> for ReadingScript {
@@ -52,7 +52,7 @@ impl Call<()> for ReadingScript {
     }
 }
 
-/// A world is run.
+/// Runs a world.
 pub(crate) struct RunningWorld;
 
 impl Call<()> for RunningWorld {
@@ -72,7 +72,7 @@ impl Call<()> for RunningWorld {
     }
 }
 
-/// What a trial said: whether all is told that is to be told, or, after want of memory, nothing.
+/// The outcome of a trial: a yes with the full output, or no output if memory ran out.
 fn said(ended: Result<bool, TrialFault>, out: &[u8]) -> Said {
     match ended {
         Ok(yes) => usual(yes && out == TOLD.as_bytes()),
@@ -80,7 +80,7 @@ fn said(ended: Result<bool, TrialFault>, out: &[u8]) -> Said {
     }
 }
 
-/// A script that was read is performed.
+/// Performs a script that was read.
 pub(crate) struct Performing;
 
 impl Call<Vec<u8>> for Performing {
@@ -92,7 +92,7 @@ impl Call<Vec<u8>> for Performing {
     }
 }
 
-/// A script is tried.
+/// Tries a script.
 pub(crate) struct Trying;
 
 impl Call<Vec<u8>> for Trying {

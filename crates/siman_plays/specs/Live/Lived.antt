@@ -1,4 +1,4 @@
--- What `live` leaves: what stands in its file, and what is told of it (profile).
+-- The file that `live` leaves, and its row of counts (profile).
 use Rattle.std.specs.Prelude.{◌≡◌, ◌⊎◌, ◌≤◌, ℕ, true, List, [], ◌∷◌, ◌++◌, length, map, codes, slice_get, Some, None, Option, Result, Ok, Err, if◌then◌else◌}
 use Rattle.std.specs.Io.KnownBytes.{Appends, Keeps}
 use Rattle.byte_files.specs.Writing.{WritesPart}
@@ -26,9 +26,9 @@ use Rattle.siman_answers.specs.Making.{Answered}
 use Rattle.siman_answers.specs.Outside.{Stream}
 use Rattle.siman_plays.specs.Live.Moves.{MovesEnd}
 
--- Of the line.
+-- The row.
 
--- live records=N, and behind it, where something was left out, busy=N dropped=N strangers=N
+-- live records=N, and behind it, if something was left out, busy=N dropped=N strangers=N
 abbrev pub live_line : (entries : ℕ) → LeftOut → Line
 live_line entries left =
     if is_nothing left then counted (codes "live") (codes "records") entries
@@ -38,7 +38,8 @@ live_line entries left =
 abbrev pub live_text : (entries : ℕ) → LeftOut → List ℕ
 live_text entries left = line_text (live_line entries left)
 
--- WHAT IS TOLD of a recording with so many entries and of what its stations left out, or of why it has no end: with status 0 the line is out, whole; after a failed write a prefix of it, after any other fault nothing
+-- THE OUTPUT for a recording with so many entries and for what its stations left out, or why it has no end: with
+-- status 0 the whole row is written; after a failed write a prefix of it, after any other fault nothing
 abbrev pub TellsEntries : (entries : Result ℕ Fault) → LeftOut → Answered → (out : Stream) → Type 0
 TellsEntries (Ok n) left (Ok status) out = (status ≡ 0) × Appends out.old out.new (live_text n left)
 TellsEntries (Ok n) left (Err Output) out = WritesPart out.old out.new (live_text n left)
@@ -46,9 +47,10 @@ TellsEntries (Ok n) left (Err Memory) out = Keeps out.old out.new
 TellsEntries (Ok n) left (Err other) out = ⊥
 TellsEntries (Err fault) left answered out = (answered ≡ Err fault) × Keeps out.old out.new
 
--- Of the file.
+-- The file.
 
--- how many entries a recording has, whose moves were all made: its end was written, or a prefix of it, or nothing more, where the recorder was spent before; or the fault of the moves, after which nothing more was written
+-- the number of entries of a recording whose moves were all made: its end was written, or a prefix of it, or
+-- nothing more, if the recorder was spent before; or the fault of the moves, after which nothing more was written
 abbrev pub EndsRecording : (moved : Result (Unit {0}) Fault) → (old new : WriterState) → (entries : Result ℕ Fault) → Type 0
 EndsRecording (Ok x) old new (Ok n) = (n ≡ old.entries) × (finish_refusal old ≡ None) × Finishes old new
 EndsRecording (Ok x) old new (Err fault) =
@@ -56,7 +58,8 @@ EndsRecording (Ok x) old new (Err fault) =
 EndsRecording (Err halted) old new (Ok n) = ⊥
 EndsRecording (Err halted) old new (Err fault) = (fault ≡ halted) × (new ≡ old)
 
--- WHAT STATIONS DID over a recording that was started: they made these moves, of which comes what comes of calls at them, and ended it
+-- THE ACTIONS OF STATIONS with a recorder that has begun: they made these moves, all that changed follows from
+-- calls at them, and they ended the recording
 pub record Performs {L : Type 0} (told : Telling L) (moves : List Move) (old new : AtLines L) (entries : Result ℕ Fault) : Type 0 where
   pub mid : WriterState
   pub moved : Result (Unit {0}) Fault
@@ -64,7 +67,8 @@ pub record Performs {L : Type 0} (told : Telling L) (moves : List Move) (old new
   pub follows : let there : AtLines L = record { stations = new.stations; recorder = mid } in Follows told old there
   pub end : EndsRecording moved mid new.recorder entries
 
--- THEY RECORDED IT in a file, which was empty before: its head was written, and then what they did; or a prefix of the head, and no move was made
+-- THEIR RECORDING in a file, which was empty before: its head was written, and then their actions; or a prefix of
+-- the head, and no move was made
 abbrev pub Records : {L : Type 0} → Telling L → SettingData → List Move → (old new : List (StationAtLine L)) → (file : Stream) → (entries : Result ℕ Fault) → Type 0
 Records {L} told w moves old new file entries =
     ((entries ≡ Err Output) × (new ≡ old) × WritesPart file.old file.new (head_text w))
@@ -73,7 +77,9 @@ Records {L} told w moves old new file entries =
     let after : AtLines L = record { stations = new; recorder = last } in
     Performs told moves before after entries))
 
--- WHAT STANDS IN THE FILE: the text of a recording with this setting and so many entries; or, after a fault, a beginning of the text of one, with some entries and at most one more. The entries, without that one, are a run in the order of the file, where each datagram that was received and is not other was sent before.
+-- WHAT THE FILE HAS: the text of a recording with this setting and so many entries; or, after a fault, a prefix of
+-- the text of one, with some entries and at most one more. The entries, without that one, are a run in the order of
+-- the file, in which each received datagram that is not other was sent before.
 abbrev pub IsRecorded : SettingData → (entries : Result ℕ Fault) → (file : Stream) → Type 0
 IsRecorded w (Ok n) file =
     (es : List Entry) × (n ≡ length es) × AreRun w es × IsRecording (record { setting = w; entries = es })
@@ -83,7 +89,7 @@ IsRecorded w (Err fault) file =
     × ((torn : List Entry) × (length torn ≤ 1) × IsRecording (record { setting = w; entries = es ++ torn })
     × WritesPart file.old file.new (recording_text (record { setting = w; entries = es ++ torn })))
 
--- WHAT `live` LEAVES, of stations at their lines as they are begun: what they did, what stands in the file, and what is told of it
+-- WHAT `live` LEAVES, of stations at their links in their initial state: their actions, the file, and the output
 pub record Lives {L : Type 0} (told : Telling L) (w : SettingData) (moves : List Move) (posts : List (StationAtLine L)) (file : Stream) (answered : Answered)
     (out : Stream) : Type 0 where
   pub after : List (StationAtLine L)
@@ -92,17 +98,17 @@ pub record Lives {L : Type 0} (told : Telling L) (w : SettingData) (moves : List
   pub recorded : IsRecorded w entries file
   pub tells : TellsEntries entries (left_out_by told.strangers after) answered out
 
--- Of its stations.
+-- Stations.
 
 -- the setting of a script's recording
 abbrev pub setting_of : ScriptData → SettingData
 setting_of script = record { form = First; exercise = script.exercise; stations = map (λ s. s.station) script.stations }
 
--- EACH STATION HAS ITS HALVES, as they are begun: nothing came, and no order was made
+-- EACH STATION HAS ITS MANAGER AND APPLICATION in their initial state: nothing was received, and no order was made
 pub record AreNew (w : SettingData) (nodes : List Node) : Type 0 where
   pub count : length nodes ≡ length w.stations
   pub fresh : (number : ℕ) (n : Node) (handed : Option Datagrams) → slice_get nodes number ≡ Some n → IsUnused handed → IsFresh number n w handed
 
--- lines that were handed nothing
+-- links that have sent nothing
 abbrev pub AreUnused : {L : Type 0} → Telling L → List L → Type 0
 AreUnused {L} told lines = (number : ℕ) (l : L) → slice_get lines number ≡ Some l → IsUnused (told.sent l)

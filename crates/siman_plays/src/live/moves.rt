@@ -1,4 +1,4 @@
-//! The moves of a script, made by stations that each have a line of their own.
+//! The moves of a script, made by stations that each have their own link.
 
 ghost use Rattle.std.specs.Prelude.{◌≡◌, ◌⊎◌, ◌<◌, length, None, Option, OnOk, IfOk, IfErr, option_map, slice_get};
 ghost use Rattle.siman_stations.specs.declared.station_fault.StationFault.{StationFault};
@@ -21,18 +21,18 @@ use siman_worlds::{MoveFault, WorldFault};
 use std::alloc::Global;
 use std::io::Write;
 
-/// How many rounds follow a move.
+/// Rounds of service after each move.
 const ROUNDS: u32 = 4;
 
-/// How many receives a station makes at most in a round.
+/// Most receives of a station in one round.
 const TURNS: u32 = 64;
 
-/// Why a move was not made, or what came of it not served.
+/// Why a move was not made, or why a station could not be served after it.
 #[derive(Clone, Copy)]
 pub(crate) enum Halt {
     /// The move is refused.
     Move(MoveFault),
-    /// A call of a line failed.
+    /// A call of a link failed.
     Line,
     /// An entry was not recorded.
     Record,
@@ -41,7 +41,7 @@ pub(crate) enum Halt {
 }
 
 impl Halt {
-    /// How it is told that this came at the move of a number.
+    /// Fault of this halt at the move of this number.
     pub(crate) fn at(self, number: usize) -> Fault<'static>
         ensures { result ≡ at_move number self }
     {
@@ -54,13 +54,12 @@ impl Halt {
     }
 }
 
-/// What a line of a station said of the last of its calls that failed, if one did: the first that has
-/// something to say.
+/// Last failed call of a link, from the first station whose link reports one.
 pub(crate) fn trouble_of<L: Line + Drop>(stations: &[StationAtLine<L>]) -> Option<LineTrouble> {
     stations.iter().find_map(|station| station.line.trouble())
 }
 
-/// Stations at their lines, the first at the first. There are to be as many lines as stations.
+/// Attaches each station to the link of the same index. There must be as many links as stations.
 pub(crate) fn stand_at_lines<L: Line + Drop>(
     alloc: Global,
     nodes: Vec<Node>,
@@ -77,7 +76,7 @@ pub(crate) fn stand_at_lines<L: Line + Drop>(
     }
 }
 
-/// What a station did or not, as what came of a move.
+/// The result of a station's call, as the result of a move.
 fn of_station(done: Result<(), AtLineFault>) -> Result<(), Halt>
     ensures made { (reason : Option StationFault) → OnOk done (reason ≡ None) → OnOk result (as_move reason ≡ None) }
     ensures fault { (reason : Option StationFault) → IfErr done (Hinders reason) → IfErr result (Gives (as_move reason)) }
@@ -92,7 +91,7 @@ fn of_station(done: Result<(), AtLineFault>) -> Result<(), Halt>
     }
 }
 
-/// A station does an act at its line.
+/// Makes a station do an act at its link. A delivery does nothing.
 fn act_at<L: Line + Drop, W: Write>(
     alloc: Global,
     station: &mut StationAtLine<L>,
@@ -115,8 +114,8 @@ fn act_at<L: Line + Drop, W: Write>(
     }
 }
 
-/// Makes a move, and serves what comes of it. A delivery is passed over, and nothing served: the
-/// lines deliver.
+/// Makes a move, and then serves all stations. A delivery does nothing, and nothing is served after
+/// it, since the links deliver.
 fn make_move<L: Line + Drop, W: Write>(
     alloc: Global,
     stations: &mut Vec<StationAtLine<L>>,
@@ -129,7 +128,7 @@ fn make_move<L: Line + Drop, W: Write>(
         let old : AtLines L = record { stations = stations.old.items; recorder = recorder.old } in
         let new : AtLines L = record { stations = stations.new.items; recorder = recorder.new } in
         MoveEnds told step old new result }
-    // What comes of it is what comes of calls at these stations, with a fault too.
+    // All that changed follows from calls at these stations, also after a fault.
     ensures follows { let told : Telling L = record { received = L.received; sent = L.sent; failures = L.failures; strangers = L.strangers } in
         let old : AtLines L = record { stations = stations.old.items; recorder = recorder.old } in
         let new : AtLines L = record { stations = stations.new.items; recorder = recorder.new } in
@@ -154,7 +153,7 @@ fn judge_and_make<L: Line + Drop, W: Write>(
         let old : AtLines L = record { stations = stations.old.items; recorder = recorder.old } in
         let new : AtLines L = record { stations = stations.new.items; recorder = recorder.new } in
         JudgedEnds told step old new result }
-    // What comes of it is what comes of calls at these stations, with a fault too.
+    // All that changed follows from calls at these stations, also after a fault.
     ensures follows { let told : Telling L = record { received = L.received; sent = L.sent; failures = L.failures; strangers = L.strangers } in
         let old : AtLines L = record { stations = stations.old.items; recorder = recorder.old } in
         let new : AtLines L = record { stations = stations.new.items; recorder = recorder.new } in
@@ -188,7 +187,7 @@ pub(crate) fn make_moves<L: Line + Drop, W: Write>(
         let old : AtLines L = record { stations = stations.old.items; recorder = recorder.old } in
         let new : AtLines L = record { stations = stations.new.items; recorder = recorder.new } in
         MovesEnd told moves.items old new result }
-    // What comes of them is what comes of calls at these stations, with a fault too.
+    // All that changed follows from calls at these stations, also after a fault.
     ensures follows { let told : Telling L = record { received = L.received; sent = L.sent; failures = L.failures; strangers = L.strangers } in
         let old : AtLines L = record { stations = stations.old.items; recorder = recorder.old } in
         let new : AtLines L = record { stations = stations.new.items; recorder = recorder.new } in

@@ -1,4 +1,4 @@
-//! What stations record of the moves of a script, and what is told of it.
+//! The recording of the moves of a script, and its row of counts.
 
 ghost use Rattle.std.specs.Prelude.{◌≡◌, IfOk, string_bytes};
 ghost use Rattle.exercise_model.specs.Setting.{IsSetting};
@@ -18,14 +18,14 @@ use siman_texts::{Field, Value, named_line};
 use std::alloc::{AllocError, Global};
 use std::io::Write;
 
-/// What stations recorded: how many entries, or why the recording has no end; and its file.
+/// The result of a recording: how many entries it has, or why it has no end; and its file.
 #[derive(Drop)]
 pub(crate) struct Recorded<F: Drop> {
     pub(crate) entries: Result<u32, Fault<'static>>,
     pub(crate) file: F,
 }
 
-/// The line of a recording with so many entries, and of what its stations left out.
+/// Row of a recording with `entries` entries, and of what its stations left out, if anything.
 fn live_line(alloc: Global, entries: u32, left: LeftOut) -> Result<String, AllocError>
     ensures { IfOk result (λ line. string_bytes line ≡ live_text entries left) }
 {
@@ -41,7 +41,7 @@ fn live_line(alloc: Global, entries: u32, left: LeftOut) -> Result<String, Alloc
     named_line(alloc, "live", &fields)
 }
 
-/// Tells the line of a recording, or why it has no end.
+/// Prints the row of a recording, or returns why it has no end.
 pub(crate) fn tell_entries<W: Write>(
     alloc: Global,
     entries: Result<u32, Fault<'static>>,
@@ -62,7 +62,7 @@ pub(crate) fn tell_entries<W: Write>(
     }
 }
 
-/// Makes moves in their order, and ends the recording. How many entries it has.
+/// Makes moves in their order, and ends the recording. Returns the number of its entries.
 fn end_moves<L: Line + Drop, W: Write>(
     alloc: Global,
     stations: &mut Vec<StationAtLine<L>>,
@@ -81,11 +81,14 @@ fn end_moves<L: Line + Drop, W: Write>(
     }
 }
 
-/// Makes moves in their order, each station at its line, and writes the recording of what the
-/// stations sent, received and told, entry by entry, and then its end. How many entries it has. A
-/// Tick sends the repeat that is due, if one is; a Tell tells the state of the entity; a Deliver is
-/// passed over, since the lines deliver. After each other move four rounds serve each station in turn,
-/// for at most 64 receives. After a fault the recording has no end. The stations are as they are begun.
+/// Makes moves in their order, each station at its link, and writes the recording: one entry for
+/// each datagram that a station sent or received and for each state that it told, and then the end.
+/// Returns the number of entries.
+///
+/// A Tick sends the repeat that is due, if any; a Tell records the state of the entity; a Deliver
+/// does nothing, since the links deliver. After each other move four rounds serve each station in
+/// turn, with at most 64 receives each. After a fault the recording has no end. The stations are in
+/// their initial state.
 pub(crate) fn record_moves<L: Line + Drop, F: Write + Drop>(
     alloc: Global,
     head: &Recording,
@@ -98,7 +101,7 @@ pub(crate) fn record_moves<L: Line + Drop, F: Write + Drop>(
     ensures records { let told : Telling L = record { received = L.received; sent = L.sent; failures = L.failures; strangers = L.strangers } in
         let kept : Stream = record { old = F.contents file; new = F.contents result.file } in
         Records told head.now.setting moves.items stations.old.items stations.new.items kept result.entries }
-    // The file is the text of a recording, whole or the beginning of it.
+    // The file has the text of a recording, whole or a prefix of it.
     ensures recorded { let kept : Stream = record { old = F.contents file; new = F.contents result.file } in
         IsRecorded head.now.setting result.entries kept }
 {

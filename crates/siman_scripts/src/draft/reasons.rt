@@ -1,4 +1,4 @@
-//! Why the lines of a script so far refuse one more.
+//! Why a line is refused after the lines before it.
 
 ghost use Rattle.std.specs.Prelude.{◌≡◌, ◌^◌, ◌<◌, None};
 ghost use Rattle.siman_scripts.specs.Draft.{index_of, takes_outfits};
@@ -13,7 +13,7 @@ use crate::why::{LineReason, Why};
 use dis_records::{Address, EntityState};
 use exercise_model::{MOST_STATIONS, is_above};
 
-/// Of a line that is before the exercise, or late for its part.
+/// Reason of a line that is before the exercise, or late for its part.
 fn part_why(part: Part, late: Why) -> Why
     ensures { result ≡ part_why part late }
 {
@@ -24,7 +24,7 @@ fn part_why(part: Part, late: Why) -> Why
     }
 }
 
-/// Of a station after this one, if there is one.
+/// Reason of a station that is not above this one, if there is one.
 fn rising_reason(before: Option<Address>, address: Address) -> Option<(usize, Why)>
     ensures { result ≡ rising_reason before address }
 {
@@ -36,7 +36,7 @@ fn rising_reason(before: Option<Address>, address: Address) -> Option<(usize, Wh
     }
 }
 
-/// The word of a move in which its station is named.
+/// The word of a move that names its station.
 fn station_place(act: &Act) -> usize
     ensures { result ≡ station_place act.now }
 {
@@ -89,7 +89,7 @@ impl Draft {
         }
     }
 
-    /// Of a line of what the station holds or knows.
+    /// Reason of a line of an outfit.
     fn outfit_reason(&self, address: Address) -> Option<(usize, Why)>
         ensures { result ≡ part_reason self.now.part (takes_outfits self.now.part) Why.LateOutfit (known_reason 1 address (λ _. None) (index_of address self.now.stations)) }
     {
@@ -99,7 +99,7 @@ impl Draft {
         self.station_unknown(1, address)
     }
 
-    /// Of an address in this word, which no station has.
+    /// Reason of an address, in this word, that no station has.
     fn station_unknown(&self, place: usize, address: Address) -> Option<(usize, Why)>
         ensures { result ≡ known_reason place address (λ _. None) (index_of address self.now.stations) }
     {
@@ -131,8 +131,8 @@ impl Draft {
         self.station_unknown(station_place(act), address)
     }
 
-    /// Why a line that says this is refused after the lines before it: a word of the line, from 0,
-    /// and why.
+    /// Why a statement is refused after the lines before it: a word of the line, from 0, and the
+    /// reason.
     pub fn reason(&self, statement: &Statement) -> Option<(usize, Why)>
         ensures { result ≡ draft_reason self.now statement.now }
     {
@@ -152,7 +152,7 @@ impl Draft {
         }
     }
 
-    /// Of the end of a text of so many lines.
+    /// Reason of a text of `count` lines that ends too early.
     pub fn end_reason(&self, count: usize) -> Option<LineReason>
         requires { count < 2 ^ 63 }
         ensures { result ≡ end_reason self.now count }

@@ -1,4 +1,4 @@
-//! What the law of own logs asks of a caller is there without a look at anything.
+//! An application whose contract follows from the law of own logs alone, with nothing else proved.
 
 ghost use Rattle.std.specs.Prelude.{◌≡◌, ◌∷◌, [], true, Some, IfOk};
 ghost use Rattle.siman_pdus.specs.declared.pdu.Pdu.{Pdu};
@@ -12,19 +12,20 @@ use exercise_model::Station;
 use siman_application::{AppFault, Application, own_logs_stand};
 use std::alloc::Global;
 
-/// A Start/Resume of exercise 1 from 1:1:0 to 2:3:7, under 1, in a spelling whose padding is not zero.
+/// A Start/Resume of exercise 1 from 1:1:0 to 2:3:7, with request identifier 1 and padding that is
+/// not zero.
 const START: [u8; 44] = [
     7, 1, 13, 5, 0, 0, 0, 0, 0, 44, 0, 9, 0, 1, 0, 1, 0, 0, 0, 2, 0, 3, 0, 7, 0, 0, 0, 0, 0, 0, 0,
     0, 0, 0, 0, 0, 0, 0, 0, 0, 0, 0, 0, 1,
 ];
 
-/// The Create Entity of 7 under 1.
+/// The Create Entity of entity 7, with request identifier 1.
 const CREATE: [u8; 28] = [
     7, 1, 11, 5, 0, 0, 0, 0, 0, 28, 0, 0, 0, 1, 0, 1, 0, 0, 0, 2, 0, 3, 0, 7, 0, 0, 0, 1,
 ];
 
-/// An application in whose log of two turns each answer stands: an order is sent, in whichever of its
-/// spellings, and a request is taken and answered at once.
+/// Begins an application. By its contract every answer in its log of two turns can happen: an order
+/// is sent with these bytes, and then a request is taken and answered at once.
 fn begin_to_answer(
     alloc: Global,
     exercise: u8,
@@ -40,8 +41,8 @@ fn begin_to_answer(
     Application::begin(alloc, exercise, station, &[], Vec::new(alloc), &[])
 }
 
-/// Entity 7 is absent in an application at a station without entities that begins to answer its creation,
-/// once the order of [`START`] is sent.
+/// An application at a station without entities begins with entity 7 absent, before it answers the
+/// creation of that entity, behind the order of [`START`].
 #[test]
 fn an_answer_stands(rt: HostRuntime) {
     let station = station(rt.alloc()).expect(&rt, "there is memory");

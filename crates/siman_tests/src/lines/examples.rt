@@ -1,5 +1,5 @@
-//! Whole lines: an order that nobody answered, a stretch of a life, a datum with its text, and a line
-//! whose text does not begin with its name.
+//! Whole rows: an order without an answer at its sender, a span of a life, a datum with its text,
+//! and a row whose text does not begin with its name.
 
 use dis_records::{EntityId, EntityState, Kind};
 use siman_texts::{Field, Value};
@@ -16,7 +16,7 @@ const ENTITY: EntityId = EntityId {
     entity: 9,
 };
 
-/// An order, without its two addresses.
+/// The fields of an order; its two addresses are missing.
 pub(super) const ORDER: [Field<'static>; 11] = [
     Field::Bare("entry", Value::Number(9)),
     Field::Keyed("from", Value::Missing),
@@ -73,7 +73,7 @@ pub(super) const DATUM_TEXT: &str = "variable 23 5 40 48454c4c4f text=HELLO";
 pub(super) const DATUM_JSON: &str =
     r#"{"line":"variable","entry":23,"id":5,"bits":40,"hex":"48454c4c4f","text":"HELLO"}"#;
 
-/// Text in which the number of the entry stands for the name.
+/// A text that begins with the entry number instead of the name of the row.
 pub(super) const ENTRY_TEXT: &str = "0 sent 1 stamp=5 other bytes=3";
 
 pub(super) const ENTRY_JSON: &str =

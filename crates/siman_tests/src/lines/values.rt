@@ -11,7 +11,7 @@ const ENTITY: EntityId = EntityId {
 
 const TIME: ClockTime = ClockTime { hour: 3, past: 5 };
 
-/// Each value.
+/// Each kind of value.
 pub(super) const VALUES: [Field<'static>; 13] = [
     Field::Keyed("n", Value::Number(4_294_967_295)),
     // Above 2^53, where a reader that takes it for a number loses its last bit.

@@ -20,12 +20,9 @@ PAGE = TOP / "docs" / "maintainers" / "PROMISES.md"
 # Crates that offer no calls to others: programs and tests.
 NO_LIBRARIES = {
     "siman",
-    "siman_agreement",
     "siman_cases",
-    "siman_fixtures",
     "siman_hostile",
     "siman_refusals",
-    "siman_examples",
     "siman_tests",
     "siman_trials",
 }

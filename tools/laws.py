@@ -3,9 +3,10 @@
 
 A law is a theorem that others can use: a public function that is no method, has a contract with `ensures` and no
 result, and whose body is empty, or does nothing but call such functions. When it runs it does nothing; who calls it may
-conclude what its contract says. The functions of siman_examples are no laws but uses of them, though some look like it.
+conclude what its contract says. The functions of `uses.rt` and `uses/` are no laws but uses of them, though some look
+like it.
 
-A law is called where a function of any crate, siman_examples among them, calls it and has a contract itself, or is
+A law is called where a function of any crate, uses among them, calls it and has a contract itself, or is
 called by one that has (a helper of a proved function). Tests and other laws are no callers. Two laws of one name are
 told apart by the crate that a file takes the name from.
 
@@ -19,7 +20,7 @@ from collections import namedtuple
 from pathlib import Path
 
 TOP = Path(__file__).resolve().parent.parent
-USES = "siman_examples"
+USES = "uses"
 HEAD = re.compile(r"^( *)(pub(?:\([^)]*\))? )?fn (\w+)")
 CALL = re.compile(r"(?<![\w.])(?:(\w+)::)?(\w+)(?:::<[^()]*?>)?\(")
 Function = namedtuple("Function", "crate name path public test method result contract body")
@@ -80,12 +81,16 @@ def calls_of(function, taken):
             yield taken.get(name, function.crate), name
 
 
+def is_use(path):
+    return path.stem == USES or path.parent.name == USES
+
+
 def laws_of(functions, calls):
     """The laws, each with its crate."""
     alike = {
         (f.crate, f.name): f
         for f in functions
-        if f.public and not f.method and not f.result and f.contract and f.crate != USES and not f.test
+        if f.public and not f.method and not f.result and f.contract and not is_use(f.path) and not f.test
     }
     laws = {key for key, f in alike.items() if not any(line.strip() for line in f.body)}
     while True:

@@ -17,12 +17,8 @@ for name in *; do
     set -- "$(lines "$name/src" rt)" "$(lines "$name/specs" antt)" "$(lines "$name/proofs" antt)" \
         "$(find "$name" -path "$name/must-fail/*.edit" | wc -l)"
     if [ "$name" = siman_tests ]; then
-        tests="the tests, \`$name\`: $(grep -r '#\[test\]' "$name/src" | wc -l) of them"
+        tests="the tests and uses of the laws, \`$name\`: $(grep -r '#\[test\]' "$name/src" | wc -l) tests"
         last=$(row "$tests" "$@")
-        continue
-    fi
-    if [ "$name" = siman_examples ]; then
-        uses=$(row "uses of the laws, \`$name\`" "$@")
         continue
     fi
     if [ "$name" = siman_cases ]; then
@@ -30,7 +26,7 @@ for name in *; do
         tried=$(row "$cases" "$@")
         continue
     fi
-    case $name in siman_fixtures | siman_trials | siman_agreement | siman_refusals)
+    case $name in plain_check | siman_refusals | siman_trials)
         shared="${shared:+$shared
 }$(row "what these programs call, \`$name\`" "$@")"
         continue
@@ -44,4 +40,4 @@ for name in *; do
     src=$((src + $1)) specs=$((specs + $2)) proofs=$((proofs + $3)) edits=$((edits + $4))
 done
 row 'in all' "$src" "$specs" "$proofs" "$edits"
-printf '%s\n' "$tried" "$hostile" "$shared" "$last" "$uses"
+printf '%s\n' "$tried" "$hostile" "$shared" "$last"

@@ -9,7 +9,7 @@ error, is compared with the lines that stand below it. A line `..` stands for li
 ` ..` at the end of a line for the rest of it. The README is taken as a newcomer would, in a fresh copy; in the copy of
 any other page the files of examples/ are made. A link has to lead to a file of the tree, and to a heading where it
 names one; and a source that the text names, as `laws.rt` or `tools/tour.py`, has to be there, with the folders before
-its name. The lines of a block of `rust` have to stand in a source of crates/siman_examples, in their order, with what a
+its name. The lines of a block of `rust` have to stand in a source of crates/siman_tests/src/uses, in their order, with what a
 line `..` stands for between them. Any other block without `$ `, and a link to another site, are not looked at.
 
 Each command, link and name that is wrong is told with its page and line; the last line is `N tried, M wrong`, with
@@ -32,7 +32,7 @@ from cases.trials import first_lines
 
 TOP = Path(__file__).resolve().parent.parent
 PROGRAM = Path("crates", "siman", "out", "siman")
-EXAMPLES_OF_LAWS = Path("crates", "siman_examples", "src")
+EXAMPLES_OF_LAWS = Path("crates", "siman_tests", "src", "uses")
 LONGEST = 60  # seconds for a command
 # A source that a page names. A name in capitals stands for many.
 SOURCE = r"`([\w./-]+\.(?:rt|antt|py|sh|c|cases|edit|md|txt))`"

@@ -62,8 +62,8 @@ LIES = [
     ("#a-part-of-it", "#none", "README.md:3: the link docs/OTHER.md#none leads to no heading of docs/OTHER.md"),
     ("`docs/OTHER.md`", "`other/OTHER.md`", "README.md:3: there is no file other/OTHER.md"),
     ("(#a-page)", "(#another)", "README.md:3: the link #another leads to no heading of README.md"),
-    ("    three();", "    four();", "README.md:28: no source of crates/siman_examples/src has this"),
-    ("pub fn one() {\n..", "pub fn one() {", "README.md:28: no source of crates/siman_examples/src has this"),
+    ("    three();", "    four();", "README.md:28: no source of crates/siman_tests/src/uses has this"),
+    ("pub fn one() {\n..", "pub fn one() {", "README.md:28: no source of crates/siman_tests/src/uses has this"),
     ("./siman | head -1", "cat examples/made", "README.md:15: `cat examples/made`: it prints `cat: examples/made: No .."),
 ]  # fmt: skip
 
@@ -72,7 +72,7 @@ def made_tree(folder, page):
     """A tree with a program, a page and another one."""
     texts = {
         "README.md": page, "docs/OTHER.md": OTHER, "siman": WRAPPER, "crates/siman/out/siman": PROGRAM,
-        "crates/siman_examples/src/one.rt": EXAMPLE,
+        "crates/siman_tests/src/uses/one.rt": EXAMPLE,
         "examples/make": "printf x >$(dirname $0)/made\n", ".gitignore": "out/\n/examples/made\n",
     }  # fmt: skip
     for name, text in texts.items():

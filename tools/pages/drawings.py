@@ -1,4 +1,4 @@
-"""The picture that chart draws, to the byte, by the pages of siman_pictures; and what chart answers, by READING.md."""
+"""The picture that chart draws, to the byte, by the pages of exercise_chart; and what chart answers, by READING.md."""
 import re
 
 from .charts import MOST_ENTITIES, Picture

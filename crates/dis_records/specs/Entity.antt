@@ -44,3 +44,7 @@ are_fitting kind n m = (n == m) || is_open kind n || is_open kind m
 -- the scope of two numbers that fit: the one that is not open, or all entities (profile)
 abbrev pub scope_of : Kind → ℕ → ℕ → Scope
 scope_of kind n m = if not (is_open kind n) then One n else (if not (is_open kind m) then One m else All)
+
+-- the identifier of an entity of a station
+abbrev pub entity_of : Pair → ℕ → EntityId
+entity_of address number = record { site = address.site; application = address.application; entity = number }

@@ -6,3 +6,6 @@ mod Shown
 mod Downwards
 mod Lives
 mod Barred
+mod Behind
+mod Below
+mod DrawnStations

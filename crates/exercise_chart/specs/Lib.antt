@@ -11,3 +11,14 @@ pub mod Bar
 pub mod Unanswered
 pub mod Marks
 pub mod Picture
+pub mod Element
+pub mod Frame
+pub mod Tone
+pub mod Words
+pub mod Rows
+pub mod Lines
+pub mod Signs
+pub mod Bars
+pub mod Columns
+pub mod Heading
+pub mod Drawing

@@ -1,28 +1,44 @@
-//! An exercise as a picture, before it is drawn: the marks of a sequence chart, taken from a
-//! recording and a certificate of it.
+//! An exercise as a picture: the marks of a sequence chart, taken from a recording and a
+//! certificate of it, and the chart drawn from them as an SVG text. Stations are columns, steps are
+//! rows, and each row ends with its entry in words.
 //!
 //! [`marks_of`] computes the [`Marks`] of a range of steps: a row for each step, an arrow for each
 //! receipt with a source, losses, receipts from outside, requests that were never answered, and a
-//! bar for each span of an entity's life. It opens no file, draws nothing and judges nothing:
-//! whether the certificate is good is for the checker to say. A caller may use the law
-//! [`pictures_are_runs`] for the marks of a good certificate: the rows are its steps, no arrow
-//! points upwards, and a bar has the state that the entity has after each step that it covers.
+//! bar for each span of an entity's life. [`draw`] draws them. Neither opens a file or writes to a
+//! stream, and neither judges the certificate: whether it is good is for the checker to say.
+//!
+//! A caller may use the law [`pictures_are_runs`] for the marks of a good certificate: the rows are
+//! its steps, no arrow points upwards, and a bar has the state that the entity has after each step
+//! that it covers. The contract of [`draw`] gives each byte, by the definition `picture_text` of
+//! the page `Drawing`. The pages `Rows`, `Words`, `Lines`, `Signs` and `Bars` define the elements
+//! of each mark, `Frame` their places, and `Element` the spelling of elements.
 #![tactic(auto)]
 
 mod arrow;
 mod bar;
+mod bars;
+mod columns;
 mod deeds;
+mod element;
 mod fault;
+mod frame;
+mod heading;
 mod laws;
+mod lines;
 mod loss;
 mod marks;
 mod outside;
+mod picture;
 mod point;
 mod row;
+mod rows;
 mod saying;
 mod scene;
+mod signs;
 mod taken;
+mod tone;
 mod unanswered;
+mod words;
 
 pub use arrow::Arrow;
 pub use bar::{Bar, MOST_ENTITIES, MOST_STRETCHES};
@@ -31,6 +47,7 @@ pub use laws::pictures_are_runs;
 pub use loss::Loss;
 pub use marks::{MOST_ROWS, Marks, marks_of};
 pub use outside::FromOutside;
+pub use picture::draw;
 pub use point::{Point, Rows};
 pub use row::{Again, Did, Row};
 pub use saying::Saying;

@@ -8,3 +8,4 @@ pub mod Checked
 pub mod Certificate
 pub mod FaultText
 pub mod Links
+pub mod Report

@@ -9,7 +9,8 @@
 //! missing or past the limit, and [`write_certificate`] writes that text. The laws are
 //! [`good_steps_have_no_cause`], [`conversion_keeps_checks`] (of a recording converted to the
 //! second format), [`text_and_reading_agree`], [`refusals_hold`] and [`links_are_of_the_logs`]:
-//! good certificates of one recording differ only in the sequence.
+//! good certificates of one recording differ only in the sequence. [`report_text`] is the report of
+//! a recording that a certificate explains, and [`no_line`] the row of a bad step.
 #![tactic(auto)]
 
 mod certificate;
@@ -23,6 +24,7 @@ mod judgement;
 mod laws;
 mod link_laws;
 mod number;
+mod report;
 
 pub use certificate::{Certificate, NO_LINK, Step};
 pub use certificate_fault::{CertificateFault, CertificateFormatFault, CertificateWriterFault};
@@ -36,3 +38,4 @@ pub use laws::{
     refusals_hold, text_and_reading_agree,
 };
 pub use link_laws::links_are_of_the_logs;
+pub use report::{no_line, report_text};

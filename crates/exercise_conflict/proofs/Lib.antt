@@ -19,7 +19,7 @@ mod Tables
 mod Every
 mod Repairs
 mod BadSteps
-mod Told
+mod Contradictions
 mod Fewer
 mod Members
 mod Compatible
@@ -33,3 +33,7 @@ mod Owning
 mod Asked
 mod Likeness
 mod Unowned
+mod Keyed
+mod Joined
+mod Standing
+pub mod Offered

@@ -19,3 +19,7 @@ pub mod Whole
 pub mod Further
 pub mod Own
 pub mod Near
+pub mod Rule
+pub mod Lines
+pub mod Blocked
+pub mod Told

@@ -36,3 +36,7 @@ pub use orders::plain_head;
 pub use report::{plain_cause, plain_others, plain_pair, plain_states};
 pub use review::plain_review;
 pub use search::{plain_audit, plain_steps};
+
+mod comparison;
+
+pub use comparison::{Answers, Reviews, compare_case, recording, try_generated, try_reviews};

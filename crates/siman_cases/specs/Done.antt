@@ -4,8 +4,8 @@ use Rattle.std.specs.IoError.{error_kind}
 use Rattle.std.specs.declared.io.Error.{Error}
 use Rattle.std.specs.declared.io.ErrorKind.{ErrorKind}
 use Rattle.http_server.specs.declared.log.Log.{Log}
-use Rattle.siman_answers.specs.declared.endpoint.Endpoint.{Endpoint}
-use Rattle.siman_answers.specs.Outside.{Stream, Found, Deed, Opens, Compares, Reads, LooksInto, Makes, Saves, Discards, LooksFor, Lines, Binds, Creates, Leaves}
+use Rattle.siman_outside.specs.declared.endpoint.Endpoint.{Endpoint}
+use Rattle.siman_outside.specs.Outside.{Stream, Found, Deed, Opens, Compares, Reads, LooksInto, Makes, Saves, Discards, LooksFor, Lines, Binds, Creates, Leaves}
 use Rattle.siman_cases.specs.declared.done.Done.{Done}
 use Rattle.siman_cases.specs.declared.done.Done.TheVariants as done
 

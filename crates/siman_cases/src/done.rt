@@ -2,7 +2,7 @@
 
 ghost use Rattle.std.specs.Prelude.{◌≡◌};
 ghost use Rattle.siman_cases.specs.Done.{letters_of, endpoints_of, found_of, found_as};
-ghost use Rattle.siman_answers.specs.Outside.{counted_by, had_by};
+ghost use Rattle.siman_outside.specs.Outside.{counted_by, had_by};
 
 use http_server::Log;
 use siman_console::Endpoint;

@@ -2,7 +2,7 @@
 //! turn.
 
 use crate::trial::run_case;
-use siman_fixtures::{Calls, Case, entries_of};
+use siman_trials::{Calls, Case, entries_of};
 use std::alloc::Global;
 use std::io;
 use std::io::{ErrorKind, Write};

@@ -85,10 +85,11 @@ mod done;
 mod failing;
 mod shelf;
 mod trial;
+mod uses;
 
 use crate::trial::{Tally, try_cases};
 use exercise_model::Form;
-use siman_agreement::{try_generated, try_reviews};
+use plain_check::{try_generated, try_reviews};
 use std::alloc::Global;
 use std::io::Write;
 use std::process::ExitCode;

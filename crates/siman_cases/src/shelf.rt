@@ -6,8 +6,9 @@ ghost use Rattle.siman_cases.specs.Done.{deed_of, deeds_of};
 use crate::done::{Done, endpoints, failure, had, letters, number};
 use http_server::Log;
 use siman_console::{Endpoint, FileKind, Known, Outside, SystemCall, SystemFault, file_kind_of};
-use siman_fixtures::{Calls, Case, File, Given, Written, found, read_from, write_to};
-use siman_trials::{WireLine, line_with, lines_of};
+use siman_trials::{
+    Calls, Case, File, Given, WireLine, Written, found, line_with, lines_of, read_from, write_to,
+};
 use std::alloc::Global;
 use std::io;
 use std::io::ErrorKind;

@@ -1,7 +1,7 @@
 //! Runs cases, and prints what differs from them.
 
 ghost use Rattle.std.specs.Prelude.{ℕ, List, Option, Result, None};
-ghost use Rattle.siman_answers.specs.declared.fault.Fault.{Fault};
+ghost use Rattle.siman_outside.specs.declared.fault.Fault.{Fault};
 ghost use Rattle.std.specs.declared.io.ErrorKind.{ErrorKind};
 ghost use Rattle.siman_console.specs.Program.{EndsProgram};
 ghost use Rattle.siman_cases.specs.Done.{deeds_of, untold};
@@ -10,10 +10,12 @@ ghost use Rattle.siman_trials.specs.declared.wire.WireLine.{WireLine};
 
 use crate::failing::try_failing;
 use crate::shelf::{Shelf, filled};
-use siman_agreement::compare_case;
+use plain_check::compare_case;
 use siman_console::{Ended, run};
-use siman_fixtures::{Calls, Case, Stream, WELL, Written, begin_case, read_from, write_to};
-use siman_trials::{compare, sent_text, try_at_line};
+use siman_trials::{
+    Calls, Case, Stream, WELL, Written, begin_case, compare, read_from, sent_text, try_at_line,
+    write_to,
+};
 use std::alloc::Global;
 use std::io;
 use std::io::Write;

@@ -11,9 +11,9 @@ use Rattle.exercise_check.specs.declared.checker.CheckFault.TheVariants.{Bad}
 use Rattle.exercise_check.proofs.Offered.{good_alike, refused_alike}
 use Rattle.exercise_audit.specs.declared.blocks.Block.{Block}
 use Rattle.exercise_audit.proofs.Offered.{blocked_alike}
-use Rattle.siman_reports.specs.Report.{report_text}
-use Rattle.siman_files.specs.Check.{IsDue}
-use Rattle.siman_views.specs.Audit.{blocked_text, IsListOf}
+use Rattle.exercise_check.specs.Report.{report_text}
+use Rattle.siman_file_commands.specs.Check.{IsDue}
+use Rattle.siman_analysis_commands.specs.Audit.{blocked_text, IsListOf}
 
 pub report_alike : (r : PlainRecording) → report_text (converted r) ≡ report_text r
 unfolding pair_of change_behind sender_of first_able entry_taken_up own_event others_of log_of

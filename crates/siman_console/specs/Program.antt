@@ -4,40 +4,40 @@ use Rattle.std.specs.declared.alloc.Global.{Global}
 use Rattle.std.specs.Io.KnownBytes.{Keeps}
 use Rattle.std.specs.declared.io.ErrorKind.{ErrorKind}
 use Rattle.siman_scripts.specs.Text.{lines_of}
-use Rattle.siman_texts.specs.declared.spelling.Spelling.{Spelling}
-use Rattle.siman_words.specs.declared.commands.NoWord.{NoWord}
-use Rattle.siman_words.specs.declared.commands.OneWord.{OneWord}
-use Rattle.siman_words.specs.declared.commands.TwoWords.{TwoWords}
-use Rattle.siman_words.specs.declared.commands.ViewWord.{ViewWord}
-use Rattle.siman_words.specs.Words.{Asked, Trial, Bare, One, Two, View, asked, asks_help}
-use Rattle.siman_words.specs.Words as asks
+use Rattle.siman_print.specs.declared.spelling.Spelling.{Spelling}
+use Rattle.siman_command_line.specs.declared.commands.NoWord.{NoWord}
+use Rattle.siman_command_line.specs.declared.commands.OneWord.{OneWord}
+use Rattle.siman_command_line.specs.declared.commands.TwoWords.{TwoWords}
+use Rattle.siman_command_line.specs.declared.commands.ViewWord.{ViewWord}
+use Rattle.siman_command_line.specs.Words.{Asked, Trial, Bare, One, Two, View, asked, asks_help}
+use Rattle.siman_command_line.specs.Words as asks
 use Rattle.siman_lines.specs.AtLines.{Telling}
-use Rattle.siman_answers.specs.declared.fault.Ended.{Ended}
-use Rattle.siman_answers.specs.declared.fault.Fault.{Fault}
-use Rattle.siman_answers.specs.declared.notes.Warning.{Warning}
+use Rattle.siman_outside.specs.declared.fault.Ended.{Ended}
+use Rattle.siman_outside.specs.declared.fault.Fault.{Fault}
+use Rattle.siman_outside.specs.declared.notes.Warning.{Warning}
 use Rattle.siman_console.specs.Reasons.{Explains}
-use Rattle.siman_answers.specs.declared.fault.Fault.TheVariants.{Words, Output, Memory}
-use Rattle.siman_files.specs.Answer.{said_of_hex, IsSaid}
-use Rattle.siman_views.specs.Audit.{SearchesFile, MakesFinding}
-use Rattle.siman_charts.specs.Chart.{ChartsNamed}
-use Rattle.siman_files.specs.Check.{ChecksFiles}
-use Rattle.siman_files.specs.Convert.{CarriesFile, MakesConverted}
-use Rattle.siman_answers.specs.Ending.{Ends, fault_in, IsToldAs}
-use Rattle.siman_answers.specs.Outside.{Has, Stream, Outcome, Deed}
-use Rattle.siman_files.specs.Join.{word_of, JoinsPieces}
-use Rattle.siman_plays.specs.Live.{EndsLive}
-use Rattle.siman_answers.specs.Making.{Answered}
-use Rattle.siman_files.specs.Mend.{MendsFile, MakesMended}
-use Rattle.siman_answers.specs.Opening.{WorksSparing}
-use Rattle.siman_files.specs.Pdus.{EndsLines}
-use Rattle.siman_views.specs.Log.{LogsNamed}
-use Rattle.siman_views.specs.Review.{ReviewsNamed}
-use Rattle.siman_answers.specs.Saying.{SaysOfFile, SaysOfFiles}
-use Rattle.siman_files.specs.Show.{ShowsFile}
-use Rattle.siman_plays.specs.ScriptTrial.{TriesInput}
-use Rattle.siman_plays.specs.Station.{EndsStation}
-use Rattle.siman_views.specs.Why.{WhyNamed}
-use Rattle.siman_plays.specs.World.{RunsFile, MakesWorld}
+use Rattle.siman_outside.specs.declared.fault.Fault.TheVariants.{Words, Output, Memory}
+use Rattle.siman_file_commands.specs.Answer.{said_of_hex, IsSaid}
+use Rattle.siman_analysis_commands.specs.Audit.{SearchesFile, MakesFinding}
+use Rattle.siman_file_commands.specs.Chart.{ChartsNamed}
+use Rattle.siman_file_commands.specs.Check.{ChecksFiles}
+use Rattle.siman_file_commands.specs.Convert.{CarriesFile, MakesConverted}
+use Rattle.siman_outside.specs.Ending.{Ends, fault_in, IsToldAs}
+use Rattle.siman_outside.specs.Outside.{Has, Stream, Outcome, Deed}
+use Rattle.siman_file_commands.specs.Join.{word_of, JoinsPieces}
+use Rattle.siman_exercise_commands.specs.Live.{EndsLive}
+use Rattle.siman_outside.specs.Making.{Answered}
+use Rattle.siman_file_commands.specs.Mend.{MendsFile, MakesMended}
+use Rattle.siman_outside.specs.Opening.{WorksSparing}
+use Rattle.siman_file_commands.specs.Pdus.{EndsLines}
+use Rattle.siman_analysis_commands.specs.Log.{LogsNamed}
+use Rattle.siman_analysis_commands.specs.Review.{ReviewsNamed}
+use Rattle.siman_outside.specs.Saying.{SaysOfFile, SaysOfFiles}
+use Rattle.siman_file_commands.specs.Show.{ShowsFile}
+use Rattle.siman_exercise_commands.specs.ScriptTrial.{TriesInput}
+use Rattle.siman_exercise_commands.specs.Station.{EndsStation}
+use Rattle.siman_analysis_commands.specs.Why.{WhyNamed}
+use Rattle.siman_exercise_commands.specs.World.{RunsFile, MakesWorld}
 
 -- WHAT A COMMAND DOES: the files that it opens and makes, in their order, its answer or fault, and its output
 abbrev pub DoesOne : OneWord → (word : List ℕ) → List Deed → Answered → Stream → Type 0

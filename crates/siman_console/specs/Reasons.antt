@@ -5,16 +5,16 @@ use Rattle.byte_files.specs.Writing.{Writes}
 use Rattle.byte_files.specs.declared.output.WriteFailed.{WriteFailed}
 use Rattle.siman_scripts.specs.ReasonText.{reason_text}
 use Rattle.siman_manager.specs.declared.fault.OrderFault.TheVariants as orders
-use Rattle.siman_worlds.specs.declared.world_fault.MoveFault.{MoveFault}
-use Rattle.siman_worlds.specs.declared.world_fault.MoveFault.TheVariants as moves
-use Rattle.siman_worlds.specs.declared.world_fault.WorldFault.TheVariants as worlds
+use Rattle.siman_stations.specs.declared.world_fault.MoveFault.{MoveFault}
+use Rattle.siman_stations.specs.declared.world_fault.MoveFault.TheVariants as moves
+use Rattle.siman_stations.specs.declared.world_fault.WorldFault.TheVariants as worlds
 use Rattle.siman_lines.specs.Trouble.{line_trouble_text}
-use Rattle.siman_reports.specs.Records.{line_end}
-use Rattle.siman_answers.specs.declared.fault.Fault.{Fault}
-use Rattle.siman_answers.specs.declared.fault.Fault.TheVariants.{Script, World, Step}
-use Rattle.siman_answers.specs.declared.move_place.MovePlace.{MovePlace}
-use Rattle.siman_answers.specs.declared.notes.Warning.{Warning}
-use Rattle.siman_answers.specs.declared.notes.Warning.TheVariants as warnings
+use Rattle.siman_print.specs.Records.{line_end}
+use Rattle.siman_outside.specs.declared.fault.Fault.{Fault}
+use Rattle.siman_outside.specs.declared.fault.Fault.TheVariants.{Script, World, Step}
+use Rattle.siman_outside.specs.declared.move_place.MovePlace.{MovePlace}
+use Rattle.siman_outside.specs.declared.notes.Warning.{Warning}
+use Rattle.siman_outside.specs.declared.notes.Warning.TheVariants as warnings
 use Rattle.siman_console.specs.declared.pieces.Piece.{Piece}
 use Rattle.siman_console.specs.declared.pieces.Piece.TheVariants as kinds
 use Rattle.siman_console.specs.declared.pieces.Pieces.{Pieces}

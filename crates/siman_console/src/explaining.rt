@@ -2,17 +2,17 @@
 
 ghost use Rattle.std.specs.Prelude.{◌≡◌, ◌++◌, Some, option_map};
 ghost use Rattle.byte_files.specs.Writing.{Writes};
-ghost use Rattle.siman_reports.specs.Records.{line_end};
+ghost use Rattle.siman_print.specs.Records.{line_end};
 ghost use Rattle.siman_console.specs.Reasons.{reason_words, second_line, mend_line, warning_line, Warns, Explains};
-ghost use Rattle.siman_answers.specs.Outside.{begun_by};
+ghost use Rattle.siman_outside.specs.Outside.{begun_by};
 
 use crate::named::Named;
 use crate::pieces::put_pieces;
 use crate::reason::{Reason, reason_of};
 use crate::warning::warning_pieces;
 use byte_files::{WriteFailed, put, put_both};
-use siman_answers::{Ended, Ending, Known, Warning};
 use siman_lines::put_line_trouble;
+use siman_outside::{Ended, Ending, Known, Warning};
 use siman_scripts::put_reason;
 use std::io::Write;
 

@@ -6,8 +6,8 @@
 //! [`review_command`] and [`log_command`] for views of a recording, [`why_command`] and
 //! [`why_not_command`] for its contradictions, [`world_command`] for a script and the recording of
 //! its world, and [`trial`] for a script and the report of its world. The commands are in
-//! `siman_files`, `siman_views`, `siman_charts` and `siman_plays`, their common parts in
-//! `siman_answers`; this crate leads from words to commands and writes the reasons of faults.
+//! `siman_file_commands`, `siman_analysis_commands`, `siman_file_commands` and `siman_exercise_commands`, their common parts in
+//! `siman_outside`; this crate leads from words to commands and writes the reasons of faults.
 //!
 //! It opens no file itself and ends no process.
 //!
@@ -29,24 +29,24 @@ mod warning;
 
 pub use laws::conversion_keeps_answers;
 pub use program::run;
-pub use siman_answers::{
-    Ended, Endpoint, FileKind, FilesFault, Known, LARGEST_CERTIFICATE, LARGEST_RECORDING, Outside,
-    SystemCall, SystemFault, TrialFault, Unread, file_kind_of,
+pub use siman_analysis_commands::{
+    audit_command, filter_of, log_command, review_command, why_command, why_not_command,
 };
-pub use siman_files::{
+pub use siman_command_line::{
+    CommandLine, JoinForm, NoWord, OneWord, Task, TwoWords, ViewWord, asks_help, read_words,
+};
+pub use siman_exercise_commands::{perform, trial, world_command};
+pub use siman_file_commands::{
     LARGEST_OLD_RECORDING, answers_follow_the_grammar, check_command, check_files, pdu_command,
     pdus_command, show_command,
 };
-pub use siman_plays::{perform, trial, world_command};
+pub use siman_outside::{
+    Ended, Endpoint, FileKind, FilesFault, Known, LARGEST_CERTIFICATE, LARGEST_RECORDING, Outside,
+    SystemCall, SystemFault, TrialFault, Unread, file_kind_of,
+};
+pub use siman_print::Spelling;
 pub use siman_scripts::{
     Act, LARGEST_SCRIPT, Move, Script, ScriptFault, WorldStation, read_script,
 };
-pub use siman_texts::Spelling;
-pub use siman_views::{
-    audit_command, filter_of, log_command, review_command, why_command, why_not_command,
-};
-pub use siman_words::{
-    CommandLine, JoinForm, NoWord, OneWord, Task, TwoWords, ViewWord, asks_help, read_words,
-};
-pub use siman_worlds::{MoveFault, WorldFault, run_world};
+pub use siman_stations::{MoveFault, WorldFault, run_world};
 pub use usage::end_at_terminal;

@@ -9,13 +9,13 @@ use crate::file_reason::{
 use crate::filter_reason::filter_pieces;
 use crate::named::Named;
 use crate::pieces::{Piece, Pieces, five, named, named_twice, two_named, words};
-use siman_answers::{
-    Fault, FileKind, JoinLimit, Known, LARGEST_RECORDING, MovePlace, SystemCall, SystemFault,
-};
 use siman_lines::{LineTrouble, system_words};
 use siman_manager::OrderFault;
+use siman_outside::{
+    Fault, FileKind, JoinLimit, Known, LARGEST_RECORDING, MovePlace, SystemCall, SystemFault,
+};
 use siman_scripts::LineReason;
-use siman_worlds::{MoveFault, WorldFault};
+use siman_stations::{MoveFault, WorldFault};
 
 /// The reason of a fault.
 #[derive(Clone, Copy)]

@@ -1,13 +1,13 @@
 //! The ending of command lines without a task, and of one without words at a terminal.
 
 ghost use Rattle.std.specs.Prelude.{ℕ, List, false, Option};
-ghost use Rattle.siman_answers.specs.declared.fault.Fault.{Fault};
-ghost use Rattle.siman_answers.specs.Outside.{Stream, Outcome, outcome_of};
+ghost use Rattle.siman_outside.specs.declared.fault.Fault.{Fault};
+ghost use Rattle.siman_outside.specs.Outside.{Stream, Outcome, outcome_of};
 ghost use Rattle.siman_console.specs.Program.{EndsUsage};
 
 use byte_files::put;
-use siman_answers::{Ended, Ending, Fault, conclude};
-use siman_words::terminal_text;
+use siman_command_line::terminal_text;
+use siman_outside::{Ended, Ending, Fault, conclude};
 use std::alloc::{AllocError, Global};
 use std::io::Write;
 

@@ -4,7 +4,7 @@ ghost use Rattle.std.specs.Prelude.{◌≡◌};
 ghost use Rattle.siman_console.specs.Reasons.{pieces_text, meant_text, nobody_text, warning_text};
 
 use crate::pieces::{Piece, Pieces, five};
-use siman_answers::Warning;
+use siman_outside::Warning;
 
 /// The warning about a recording with datagrams none of which means anything in this exercise.
 fn meant_pieces(datagrams: u64, exercise: u8) -> Pieces<'static>

@@ -1,6 +1,6 @@
 //! Bytes of an input, appended piece by piece.
 
-use siman_fixtures::Random;
+use siman_trials::Random;
 use std::alloc::Global;
 use std::io::Write;
 

@@ -12,7 +12,7 @@ use crate::inputs::datagrams::try_datagram;
 use crate::inputs::recordings::try_recording;
 pub(crate) use crate::inputs::scripts::is_tried;
 use crate::inputs::scripts::try_script;
-use siman_fixtures::Random;
+use siman_trials::Random;
 use std::alloc::Global;
 use std::io;
 use std::io::Write;

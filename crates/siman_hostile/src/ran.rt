@@ -2,8 +2,7 @@
 //! system succeeds.
 
 use siman_console::{Endpoint, Known, Outside, run};
-use siman_fixtures::{Given, WELL, Written, read_from, write_to};
-use siman_trials::{WireLine, lines_of};
+use siman_trials::{Given, WELL, WireLine, Written, lines_of, read_from, write_to};
 use std::alloc::Global;
 use std::io;
 use std::io::ErrorKind;

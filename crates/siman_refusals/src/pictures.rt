@@ -2,11 +2,10 @@
 
 use crate::call::{Call, Said, refused, usual};
 use crate::recordings::FOUND;
-use exercise_chart::{ChartFault, Rows};
+use exercise_chart::{ChartFault, Rows, draw};
 use exercise_findings::Findings;
 use exercise_model::{ExerciseLog, Recording};
 use exercise_review::Register;
-use siman_pictures::draw;
 use std::alloc::Global;
 
 /// Draws a creation; the log of its application is first.

@@ -8,3 +8,12 @@ pub mod Deeds
 pub mod Runs
 pub mod Bytes
 pub mod Offered
+pub mod Writings
+pub mod Steps
+pub mod Made
+pub mod Stations
+pub mod Closure
+pub mod CoursesActs
+pub mod Courses
+pub mod Begins
+pub mod NumberedMoves

@@ -5,3 +5,8 @@ pub mod Orders
 pub mod Halves
 pub mod Deeds
 pub mod Asked
+pub mod World
+pub mod Acts
+pub mod Moves
+pub mod WorldLaw
+pub mod Holds

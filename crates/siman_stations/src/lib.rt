@@ -1,22 +1,38 @@
 //! A station of an exercise with its two halves, the application and the manager: how it handles a
-//! received datagram, and the orders and repeats that it sends.
+//! received datagram, and the orders and repeats that it sends; and worlds, stations in memory that
+//! make the moves of a script.
+//!
 //! [`take_turn`] records a datagram, lets the application answer, records the answer, and passes
 //! the PDU to the manager, with any [`Recorder`]; [`order_text`] and [`repeat_text`] make the texts
-//! of orders and of repeats. The crate knows no script, reads no clock and sends nothing.
+//! of orders and of repeats. [`run_world`] makes the moves of a list in their order, and returns
+//! the recording of what its stations sent, received and told, or the first move that cannot be
+//! made; [`begin_world`] returns the stations in their initial state. The crate reads no script,
+//! opens no file, reads no clock and sends nothing.
+//!
 //! The contract for the layer above: what is recorded and how application and manager change
-//! (`specs/StationTurn.antt`, `specs/Sending.antt`), and the invariant of a station
+//! (`specs/StationTurn.antt`, `specs/Sending.antt`); the invariant of a station
 //! (`specs/Halves.antt`), which each step preserves ([`halves_follow_logs`]), and under which
-//! nothing that the station sends or tells has a cause against it ([`deeds_of_stations_stand`]).
+//! nothing that the station sends or tells has a cause against it ([`deeds_of_stations_stand`]);
+//! the recording of a world, or its first fault, as functions of the moves (`specs/World.antt`),
+//! and that its entries are a run ([`worlds_are_runs`]).
 #![tactic(auto)]
 
+mod journal;
 mod laws;
+mod moving;
 mod recorder;
 mod sending;
 mod station_fault;
 mod turn;
+mod world;
+mod world_fault;
+mod world_laws;
 
 pub use laws::{deeds_of_stations_stand, halves_follow_logs};
 pub use recorder::Recorder;
 pub use sending::{OrderTextFault, order_text, repeat_text};
 pub use station_fault::StationFault;
 pub use turn::{Node, TurnFault, stamp_of, take_turn};
+pub use world::{Beginning, begin_world, run_world};
+pub use world_fault::{MoveFault, WorldFault};
+pub use world_laws::worlds_are_runs;

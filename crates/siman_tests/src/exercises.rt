@@ -7,8 +7,8 @@ ghost use Rattle.siman_lines.specs.Memory.{sent_of};
 
 use siman_lines::{AtLineFault, MemoryLine};
 use siman_scripts::{Script, read_script};
+use siman_stations::WorldFault;
 use siman_trials::{ExerciseFault, Halt, record_exercise, record_on_network};
-use siman_worlds::WorldFault;
 use std::alloc::Global;
 
 /// The first of two stations orders the creation of 2:3:7.

@@ -3,7 +3,7 @@
 
 use dis_records::Address;
 use exercise_recording::*;
-use siman_fixtures::{Calls, WELL, read_from};
+use siman_trials::{Calls, WELL, read_from};
 use std::io::ErrorKind;
 
 /// A piece of the first format, of exercise 1: station 2:3 with entity 7 stopped, which received a

@@ -1,6 +1,7 @@
 //! The tests of all crates: calls that no command makes, on literal datagrams, files and PDUs. They
 //! never reach into a crate, but use its public functions, and have a crate of their own since a
 //! crate with tests is proved twice. Nothing is built on this crate: it has no contract to use.
+//! What a reader can conclude from the laws of siman stands in [`uses`].
 #![tactic(auto)]
 
 #[cfg(test)]
@@ -39,5 +40,6 @@ mod reviews;
 mod scripts;
 #[cfg(test)]
 mod troubles;
+pub mod uses;
 #[cfg(test)]
 mod worlds;

@@ -6,7 +6,7 @@ mod values;
 use self::examples::*;
 use self::values::*;
 use dis_records::Address;
-use siman_texts::{Field, Line, Spelling, Value, put_line};
+use siman_print::{Field, Line, Spelling, Value, put_line};
 use std::alloc::Global;
 
 /// Whether a row has this text and this JSON, each without its line end.

@@ -2,13 +2,13 @@
 //! by writers that fail at each of their calls.
 
 ghost use Rattle.std.specs.Prelude.{◌≡◌, ◌+◌, length, IfOk};
-ghost use Rattle.siman_sessions.specs.declared.reading.TheConstants.{LONGEST_LINE};
+ghost use Rattle.siman_operator.specs.declared.reading.TheConstants.{LONGEST_LINE};
 
 use dis_records::Address;
-use siman_fixtures::{Calls, WELL, read_from, write_to};
 use siman_lines::{LineCall, LineTrouble, MemoryLine, put_line_trouble};
+use siman_operator::{LONGEST_LINE, record_session, set_up, stand};
 use siman_scripts::read_script;
-use siman_sessions::{LONGEST_LINE, record_session, set_up, stand};
+use siman_trials::{Calls, WELL, read_from, write_to};
 use std::alloc::{AllocError, Global};
 use std::io::ErrorKind;
 use std::net::{Ipv4Addr, SocketAddrV4};

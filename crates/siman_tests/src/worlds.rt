@@ -4,7 +4,7 @@ use dis_records::EntityId;
 use siman_manager::Order;
 use siman_pdus::{Body, Datums};
 use siman_scripts::{Act, Move, Script, read_script};
-use siman_worlds::{MoveFault, WorldFault, run_world};
+use siman_stations::{MoveFault, WorldFault, run_world};
 use std::alloc::Global;
 
 /// A station at 1:1 that makes no move.

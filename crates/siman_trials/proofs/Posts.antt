@@ -8,8 +8,8 @@ use Rattle.exercise_model.specs.Setting.{IsSetting, station_in, nowhere}
 use Rattle.exercise_model.specs.Station.{StationData, are_stations}
 use Rattle.siman_scripts.specs.Stations.{WorldStationData}
 use Rattle.siman_stations.specs.declared.turn.Node.{Node}
-use Rattle.siman_worlds.specs.Holds.{IsNewNode, AreNewNodes}
-use Rattle.siman_worlds.specs.World.{WorldData, setting_of}
+use Rattle.siman_stations.specs.Holds.{IsNewNode, AreNewNodes}
+use Rattle.siman_stations.specs.World.{WorldData, setting_of}
 use Rattle.siman_lines.specs.declared.station_at_line.StationAtLine.{StationAtLine}
 use Rattle.siman_lines.specs.AtLines.{Telling, posts_from, posts_of, AreFresh}
 use Rattle.siman_lines.specs.Calls.{IsUnused, IsFresh}

@@ -10,9 +10,9 @@ use Rattle.siman_lines.specs.declared.station_at_line.StationAtLine.{StationAtLi
 use Rattle.siman_lines.specs.AtLines.{Telling, AtLines, Misfits, posts_of}
 use Rattle.siman_scripts.specs.declared.act.Move.{Move}
 use Rattle.siman_stations.specs.declared.turn.Node.{Node}
-use Rattle.siman_worlds.specs.declared.world_fault.WorldFault.TheVariants as worlds
-use Rattle.siman_worlds.specs.Holds.{AreNewNodes}
-use Rattle.siman_worlds.specs.World.{WorldData, setting_of, are_world_stations}
+use Rattle.siman_stations.specs.declared.world_fault.WorldFault.TheVariants as worlds
+use Rattle.siman_stations.specs.Holds.{AreNewNodes}
+use Rattle.siman_stations.specs.World.{WorldData, setting_of, are_world_stations}
 use Rattle.siman_trials.specs.declared.performed.Halt.{Halt}
 use Rattle.siman_trials.specs.declared.recorded.ExerciseFault.{ExerciseFault}
 use Rattle.siman_trials.specs.declared.recorded.ExerciseFault.TheVariants as faults

@@ -1,7 +1,7 @@
 //! An exercise over a network in memory.
 
 ghost use Rattle.std.specs.Prelude.{◌≡◌, ◌⊎◌, List, length, None, Err};
-ghost use Rattle.siman_worlds.specs.World.{WorldData, setting_of};
+ghost use Rattle.siman_stations.specs.World.{WorldData, setting_of};
 ghost use Rattle.siman_lines.specs.AtLines.{Telling};
 ghost use Rattle.siman_lines.specs.declared.fault.AtLineFault.TheVariants as at_lines;
 ghost use Rattle.siman_trials.specs.declared.recorded.ExerciseFault.TheVariants.{Lines};

@@ -5,8 +5,8 @@ ghost use Rattle.exercise_model.specs.Recording.{opened};
 ghost use Rattle.exercise_model.specs.Setting.{SettingData, IsSetting};
 ghost use Rattle.exercise_recording.specs.Writer.{Starts};
 ghost use Rattle.siman_lines.specs.AtLines.{Telling, AtLines, AreFresh};
-ghost use Rattle.siman_worlds.specs.Holds.{AreNewNodes};
-ghost use Rattle.siman_worlds.specs.World.{WorldData, setting_of};
+ghost use Rattle.siman_stations.specs.Holds.{AreNewNodes};
+ghost use Rattle.siman_stations.specs.World.{WorldData, setting_of};
 ghost use Rattle.siman_trials.specs.Recorded.{Leaves, AreUnused};
 ghost use Rattle.siman_trials.specs.Ended.{Performs, Records, StandsAndRecords, ComesToEnd};
 
@@ -15,7 +15,7 @@ use exercise_model::Recording;
 use exercise_recording::{RecordingWriter, WriterFault};
 use siman_lines::{AtLineFault, Line, StationAtLine, lines_make_a_run, stations_at_lines};
 use siman_scripts::{Move, WorldStation};
-use siman_worlds::{Beginning, WorldFault, begin_world};
+use siman_stations::{Beginning, WorldFault, begin_world};
 use std::alloc::Global;
 use std::io::Write;
 

@@ -1,7 +1,7 @@
 //! Calls of a station at its link, and the text of their answers.
 
+use crate::{Asked, Call};
 use exercise_recording::RecordingWriter;
-use siman_fixtures::{Asked, Call};
 use siman_lines::{IssueFault, MemoryLine, ServeFault, Served, issue, nudge, serve};
 use siman_manager::OrderStatus;
 use siman_scripts::{Act, Move};

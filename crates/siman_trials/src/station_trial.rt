@@ -1,12 +1,11 @@
 //! Runs the calls of a station at its link, and compares the results with the case.
 
 use crate::station_call::make_call;
+use crate::{Calls, Case, Entries, Stream, WELL, Written, entries_of, found, write_to};
 use exercise_recording::RecordingWriter;
-use siman_fixtures::{Calls, Case, Entries, Stream, WELL, Written, entries_of, found, write_to};
 use siman_lines::MemoryLine;
 use siman_scripts::{Move, Script, read_script};
-use siman_stations::Node;
-use siman_worlds::{Beginning, begin_world};
+use siman_stations::{Beginning, Node, begin_world};
 use std::alloc::{AllocError, Global};
 use std::io;
 use std::io::{ErrorKind, Write};

@@ -2,8 +2,8 @@
 
 ghost use Rattle.std.specs.Prelude.{◌≡◌, IfOk, length};
 
+use crate::Stream;
 use http_server::Log;
-use siman_fixtures::Stream;
 use siman_lines::{Line, LineFault};
 use std::alloc::{AllocError, Global};
 use std::cell::RefCell;

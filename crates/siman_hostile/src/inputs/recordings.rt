@@ -5,8 +5,8 @@ use crate::inputs::Answer;
 use crate::ran::{Ran, checked, run_words, searched};
 use exercise_model::{EntryView, ExerciseLog, Form, Station};
 use exercise_recording::{RecordingView, read_recording, write_recording};
-use siman_agreement::recording;
-use siman_fixtures::Random;
+use plain_check::recording;
+use siman_trials::Random;
 use std::alloc::Global;
 
 /// Forms by the throw of a die: half of them are the first form.

@@ -3,7 +3,7 @@
 use crate::input::{Input, begin_input};
 use crate::inputs::is_tried;
 use crate::ran::{checked, run_words, searched};
-use siman_fixtures::Random;
+use siman_trials::Random;
 use std::alloc::Global;
 use std::io;
 use std::io::Write;

@@ -2,7 +2,7 @@
 //! and a row whose text does not begin with its name.
 
 use dis_records::{EntityId, EntityState, Kind};
-use siman_texts::{Field, Value};
+use siman_print::{Field, Value};
 
 const ALL: EntityId = EntityId {
     site: 65_535,

@@ -1,7 +1,7 @@
 //! Each value and each shape of a field.
 
 use dis_records::{ClockTime, EntityId, EntityState, Kind};
-use siman_texts::{Field, Value};
+use siman_print::{Field, Value};
 
 const ENTITY: EntityId = EntityId {
     site: 65_535,

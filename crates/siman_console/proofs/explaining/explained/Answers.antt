@@ -3,8 +3,8 @@ use Rattle.std.proofs.Common.{◌≡◌, ℕ, List, Option, Some, ◌++◌, fals
 use Rattle.std.specs.Prelude.{Ok, Err}
 use Rattle.std.specs.Result.{is_err}
 use Rattle.byte_files.specs.Writing.{Writes}
-use Rattle.siman_answers.specs.declared.fault.Fault.{Fault}
-use Rattle.siman_answers.specs.declared.notes.Warning.{Warning}
+use Rattle.siman_outside.specs.declared.fault.Fault.{Fault}
+use Rattle.siman_outside.specs.declared.notes.Warning.{Warning}
 use Rattle.siman_console.specs.Reasons.{Wrote, IsReason, second_line, mend_line, Explains}
 use Rattle.siman_console.proofs.explaining.explained.Goals as goal
 

@@ -1,4 +1,4 @@
-use Rattle.siman_reports.specs.Records.{line_end}
+use Rattle.siman_print.specs.Records.{line_end}
 use Rattle.siman_console.specs.Reasons.{reason_words}
 use Rattle.byte_files.proofs.Offered.{at_error, writes_part, writes_then}
 use Rattle.siman_console.proofs.explaining.put_ended.Goals as goal

@@ -1,7 +1,7 @@
 -- The word and the name, and then the word NEW.
 use Rattle.std.proofs.Common.{◌++◌, codes}
 use Rattle.byte_files.proofs.Offered.{at_error, writes_part, writes_then}
-use Rattle.siman_reports.specs.Records.{line_end}
+use Rattle.siman_print.specs.Records.{line_end}
 use Rattle.siman_console.proofs.explaining.put_mend.Goals as goal
 
 pub returns-in_err-put_both : goal.returns-in_err-put_both

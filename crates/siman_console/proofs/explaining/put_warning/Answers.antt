@@ -1,5 +1,5 @@
 use Rattle.std.proofs.Common.{◌++◌, codes}
-use Rattle.siman_reports.specs.Records.{line_end}
+use Rattle.siman_print.specs.Records.{line_end}
 use Rattle.siman_console.specs.Reasons.{warning_text}
 use Rattle.byte_files.proofs.Offered.{at_error, writes_part, writes_then}
 use Rattle.siman_console.proofs.explaining.put_warning.Goals as goal

@@ -1,13 +1,13 @@
 -- What standard input asks for is answered with no file; what words ask for, as their files have it.
 use Rattle.std.proofs.Common.{◌≡◌, ℕ, List, [], Option, None, refl}
 use Rattle.std.proofs.lemmas.List.Elements.{All-nil}
-use Rattle.siman_words.specs.declared.commands.NoWord.{NoWord}
-use Rattle.siman_words.specs.declared.commands.NoWord.TheVariants.{Pdus}
+use Rattle.siman_command_line.specs.declared.commands.NoWord.{NoWord}
+use Rattle.siman_command_line.specs.declared.commands.NoWord.TheVariants.{Pdus}
 use Rattle.siman_scripts.specs.Text.{lines_of}
-use Rattle.siman_answers.specs.Outside.{Has, Outcome, WasHeld}
+use Rattle.siman_outside.specs.Outside.{Has, Outcome, WasHeld}
 use Rattle.siman_console.specs.Program.{EndsBare}
-use Rattle.siman_files.specs.Pdus.{EndsLines}
-use Rattle.siman_answers.proofs.Offered.{adds_none}
+use Rattle.siman_file_commands.specs.Pdus.{EndsLines}
+use Rattle.siman_outside.proofs.Offered.{adds_none}
 use Rattle.siman_console.proofs.program.end_task.Goals as goal
 
 pub returns-in-Trial : goal.returns-in-Trial

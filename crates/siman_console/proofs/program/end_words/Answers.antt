@@ -4,11 +4,11 @@ use Rattle.std.specs.Io.KnownBytes.{Keeps}
 use Rattle.std.proofs.KnownBytes.{Keeps-refl}
 use Rattle.std.proofs.lemmas.List.Elements.{All-nil}
 use Rattle.siman_lines.specs.AtLines.{Telling}
-use Rattle.siman_words.specs.Words.{Asked, CommandLine, asked_by_name}
-use Rattle.siman_answers.specs.declared.fault.Fault.TheVariants.{Memory}
-use Rattle.siman_answers.specs.Ending.{Ends}
-use Rattle.siman_answers.specs.Outside.{Outcome, WasHeld, begun_by}
-use Rattle.siman_answers.proofs.Offered.{adds_none}
+use Rattle.siman_command_line.specs.Words.{Asked, CommandLine, asked_by_name}
+use Rattle.siman_outside.specs.declared.fault.Fault.TheVariants.{Memory}
+use Rattle.siman_outside.specs.Ending.{Ends}
+use Rattle.siman_outside.specs.Outside.{Outcome, WasHeld, begun_by}
+use Rattle.siman_outside.proofs.Offered.{adds_none}
 use Rattle.siman_console.specs.Program.{EndsIn, EndsAsked}
 use Rattle.siman_console.proofs.program.end_words.Goals as goal
 

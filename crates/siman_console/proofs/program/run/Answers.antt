@@ -2,9 +2,9 @@
 use Rattle.std.proofs.Common.{[], Err, refl}
 use Rattle.std.proofs.KnownBytes.{Keeps-refl}
 use Rattle.std.proofs.lemmas.List.Elements.{All-nil}
-use Rattle.siman_answers.specs.Ending.{Ends}
-use Rattle.siman_answers.specs.Outside.{WasHeld, begun_by}
-use Rattle.siman_answers.proofs.Offered.{adds_none}
+use Rattle.siman_outside.specs.Ending.{Ends}
+use Rattle.siman_outside.specs.Outside.{WasHeld, begun_by}
+use Rattle.siman_outside.proofs.Offered.{adds_none}
 use Rattle.siman_console.proofs.program.run.Goals as goal
 
 pub returns-in-Err : goal.returns-in-Err

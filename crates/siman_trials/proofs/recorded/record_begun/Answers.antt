@@ -12,7 +12,7 @@ use Rattle.siman_scripts.specs.declared.act.Move.{Move}
 use Rattle.siman_stations.specs.declared.turn.Node.{Node}
 use Rattle.siman_trials.specs.declared.recorded.ExerciseFault.TheVariants.{Lines}
 use Rattle.siman_trials.specs.Ended.{Records, StandsAndRecords}
-use Rattle.siman_worlds.specs.World.{setting_of}
+use Rattle.siman_stations.specs.World.{setting_of}
 use Rattle.siman_trials.specs.Recorded.{Leaves}
 use Rattle.siman_trials.proofs.Posts.{begun_at_lines}
 use Rattle.siman_trials.proofs.recorded.record_begun.Goals as goal

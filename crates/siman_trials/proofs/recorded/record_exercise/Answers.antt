@@ -6,9 +6,9 @@ use Rattle.exercise_model.specs.Recording.{PlainRecording}
 use Rattle.exercise_model.specs.Setting.{SettingData}
 use Rattle.siman_lines.specs.AtLines.{Telling}
 use Rattle.siman_scripts.specs.declared.act.Move.{Move}
-use Rattle.siman_worlds.specs.declared.world_fault.WorldFault.{WorldFault}
-use Rattle.siman_worlds.specs.declared.world_fault.WorldFault.TheVariants.{Stations, Memory}
-use Rattle.siman_worlds.specs.World.{WorldData, are_world_stations}
+use Rattle.siman_stations.specs.declared.world_fault.WorldFault.{WorldFault}
+use Rattle.siman_stations.specs.declared.world_fault.WorldFault.TheVariants.{Stations, Memory}
+use Rattle.siman_stations.specs.World.{WorldData, are_world_stations}
 use Rattle.siman_trials.specs.declared.recorded.ExerciseFault.TheVariants.{World}
 use Rattle.siman_trials.specs.Ended.{StandsAndRecords, ComesToEnd}
 use Rattle.siman_trials.proofs.recorded.record_exercise.Goals as goal

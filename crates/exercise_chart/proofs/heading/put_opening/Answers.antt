@@ -1,0 +1,13 @@
+use Rattle.std.proofs.Common.{◌≡◌, ◌++◌, string_bytes, append_assoc}
+use Rattle.exercise_chart.specs.Heading.{size_text, view_text, opening_text}
+use Rattle.exercise_chart.proofs.Behind.{behind}
+use Rattle.exercise_chart.proofs.heading.put_opening.Goals as goal
+
+pub returns : goal.returns
+unfolding opening_text
+returns c =
+    let first : string_bytes c.write.new.self ≡ string_bytes c.args.text.now ++ size_text c.args.frame =
+    simp append_assoc (rw (c.width-width.ensures, c.height-height.ensures) at c.in_ok-write.ensures.bytes) in
+    let second : string_bytes c.write-2.new.self ≡ string_bytes c.write.new.self ++ view_text c.args.frame =
+    simp append_assoc (rw (c.width-width.ensures, c.height-height.ensures) at c.in_ok-write-2.ensures.bytes) in
+    behind _ _ _ (size_text c.args.frame) (view_text c.args.frame) first second

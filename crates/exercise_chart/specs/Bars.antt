@@ -1,0 +1,56 @@
+-- Bars: the spans of the entities' lives (profile).
+use Rattle.std.specs.Prelude.{ℕ, ◌+◌, ◌-◌, List, [], ◌∷◌, ◌++◌, codes, decimal, Option, Some, None, if◌then◌else◌}
+use Rattle.std.specs.List.{flat_map}
+use Rattle.dis_records.specs.Texts.{entity_text, state_text}
+use Rattle.dis_records.specs.declared.entity_state.EntityState.{EntityState}
+use Rattle.dis_records.specs.declared.entity_state.EntityState.TheVariants as states
+use Rattle.exercise_chart.specs.declared.bar.Bar.{Bar}
+use Rattle.exercise_chart.specs.declared.point.Point.{Point}
+use Rattle.exercise_chart.specs.declared.frame.Frame.{Frame}
+use Rattle.exercise_chart.specs.Element.{element_text, words_text, number, word}
+use Rattle.exercise_chart.specs.Frame.{is_wide, slot_x, since_y, until_y}
+
+-- green for Running, else amber
+abbrev pub state_colour : EntityState → List ℕ
+state_colour states.Running = codes "#4ade80"
+state_colour state = codes "#fbbf24"
+
+-- the entry of a change, or `-`
+abbrev pub change_text : Option Point → List ℕ
+change_text (Some change) = decimal change.entry
+change_text None = codes "-"
+
+-- the left edge of a bar in its slot, and its width
+abbrev pub left_of : Frame → Bar → ℕ
+left_of f b = if is_wide f then slot_x f b.station b.slot - 6 else slot_x f b.station b.slot - 4
+
+abbrev pub width_of : Frame → ℕ
+width_of f = if is_wide f then 11 else 7
+
+-- THE RECTANGLE OF A SPAN, from the change that began it to the change that ended it
+abbrev pub stretch_text : Frame → Bar → List ℕ
+stretch_text f b =
+    element_text (codes "rect")
+    (number (codes "x") (left_of f b) ∷ number (codes "y") (since_y f b.from) ∷ number (codes "width") (width_of f)
+    ∷ number (codes "height") (until_y f b.to - since_y f b.from) ∷ word (codes "fill") (state_colour b.state) ∷ word (codes "class") (codes "bar")
+    ∷ word (codes "data-entity") (entity_text b.entity) ∷ word (codes "data-state") (state_text b.state)
+    ∷ word (codes "data-from") (change_text b.from) ∷ word (codes "data-to") (change_text b.to) ∷ [])
+
+-- the number of the entity, at the upper end of the bar
+abbrev pub bar_name_text : Frame → Bar → List ℕ
+bar_name_text f b =
+    words_text (number (codes "x") (slot_x f b.station b.slot) ∷ number (codes "y") (since_y f b.from + 7) ∷ []) (decimal b.entity.entity)
+
+abbrev pub bar_text : Frame → Bar → List ℕ
+bar_text f b = stretch_text f b ++ bar_name_text f b
+
+-- the font size; the numbers run vertically, since the bars are narrow
+abbrev pub font_of : Frame → List ℕ
+font_of f = if is_wide f then codes "12" else codes "8"
+
+abbrev pub bars_begin : Frame → List ℕ
+bars_begin f = codes "<g fill=\"#1f2933\" writing-mode=\"vertical-rl\" font-size=\"" ++ font_of f ++ codes "\">\n"
+
+-- THE BARS
+unfoldable pub bars_text : Frame → List Bar → List ℕ
+bars_text f bars = bars_begin f ++ flat_map (bar_text f) bars ++ codes "</g>\n"

@@ -1,0 +1,38 @@
+-- The columns of a picture, one for each station, and their names (profile).
+use Rattle.std.specs.Prelude.{ℕ, List, [], ◌∷◌, ◌++◌, codes}
+use Rattle.exercise_model.specs.Recording.{PlainRecording}
+use Rattle.exercise_model.specs.History.{station_at}
+use Rattle.siman_print.specs.Spelled.{address_text}
+use Rattle.siman_print.specs.Below.{texts_below}
+use Rattle.exercise_chart.specs.declared.frame.Frame.{Frame}
+use Rattle.exercise_chart.specs.declared.frame.TheConstants.{TOP}
+use Rattle.exercise_chart.specs.Element.{element_text, words_text, number}
+use Rattle.exercise_chart.specs.Frame.{column_x, bottom_y, names_y, blocks_of}
+
+-- the line of the column of station s
+abbrev pub column_text : Frame → (s : ℕ) → List ℕ
+column_text f s =
+    element_text (codes "line")
+    (number (codes "x1") (column_x f s) ∷ number (codes "y1") TOP ∷ number (codes "x2") (column_x f s) ∷ number (codes "y2") (bottom_y f) ∷ [])
+
+-- THE LINES OF THE COLUMNS
+unfoldable pub columns_text : Frame → List ℕ
+columns_text f = codes "<g stroke=\"#94a3b8\">\n" ++ texts_below (column_text f) f.stations ++ codes "</g>\n"
+
+-- the name of station s at a height
+abbrev pub name_text : Frame → PlainRecording → (y s : ℕ) → List ℕ
+name_text f r y s =
+    words_text (number (codes "x") (column_x f s) ∷ number (codes "y") y ∷ []) (address_text (station_at r s).address)
+
+-- the names of all stations at a height
+unfoldable pub names_at : Frame → PlainRecording → (y : ℕ) → List ℕ
+names_at f r y = texts_below (name_text f r y) f.stations
+
+abbrev pub names_above : Frame → PlainRecording → (block : ℕ) → List ℕ
+names_above f r b = names_at f r (names_y b)
+
+-- THE NAMES OF ALL STATIONS, above each block of rows
+unfoldable pub names_text : Frame → PlainRecording → List ℕ
+names_text f r =
+    codes "<g fill=\"#1f2933\" stroke=\"#ffffff\" stroke-width=\"4\" paint-order=\"stroke\" font-weight=\"bold\" text-anchor=\"middle\">\n"
+    ++ texts_below (names_above f r) (blocks_of f) ++ codes "</g>\n"

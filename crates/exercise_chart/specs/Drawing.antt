@@ -1,0 +1,56 @@
+-- THE PICTURE OF AN EXERCISE, as a text in SVG (profile).
+use Rattle.std.specs.Prelude.{◌≡◌, ℕ, ◌<◌, ◌⊎◌, List, ◌++◌, length, codes, All, Result, Ok, Err, String, string_bytes}
+use Rattle.std.specs.declared.alloc.Global.{Global}
+use Rattle.exercise_model.specs.Recording.{PlainRecording}
+use Rattle.exercise_check.specs.declared.certificate.Step.{Step}
+use Rattle.exercise_chart.specs.declared.fault.ChartFault.{ChartFault}
+use Rattle.exercise_chart.specs.declared.fault.ChartFault.TheVariants.{OverLimit, Memory}
+use Rattle.exercise_chart.specs.declared.loss.Loss.{Loss}
+use Rattle.exercise_chart.specs.declared.marks.TheConstants.{MOST_ROWS}
+use Rattle.exercise_chart.specs.declared.point.Rows.{Rows}
+use Rattle.exercise_chart.specs.declared.row.Row.{Row}
+use Rattle.exercise_chart.specs.Bar.{IsOverfull}
+use Rattle.exercise_chart.specs.Marks.{MarksData, scene_of, marks_of}
+use Rattle.exercise_chart.specs.Row.{row_count}
+use Rattle.exercise_chart.specs.declared.frame.Frame.{Frame}
+use Rattle.exercise_chart.specs.Heading.{heading_text}
+use Rattle.exercise_chart.specs.Rows.{rows_text}
+use Rattle.exercise_chart.specs.Columns.{columns_text, names_text}
+use Rattle.exercise_chart.specs.Bars.{bars_text}
+use Rattle.exercise_chart.specs.Lines.{arrows_text, outsiders_text, losses_text}
+use Rattle.exercise_chart.specs.Signs.{deeds_text, all_unanswered_text}
+
+-- the rows and the losses name only stations below n
+pub record AreOfStations (n : ℕ) (m : MarksData) : Type 0 where
+  pub rows : All (λ (row : Row). row.at.station < n) m.rows
+  pub losses : All (λ (loss : Loss). loss.at < n) m.losses
+
+-- the frame: the shown rows and the number of stations decide all places
+abbrev pub frame_of : PlainRecording → Rows → Frame
+frame_of r rows = record { rows = rows; stations = length r.setting.stations }
+
+-- the part below the lines: heading, rows, columns and bars
+unfoldable pub under_text : Frame → PlainRecording → MarksData → List ℕ
+under_text f r m = heading_text f r ++ rows_text f r m.rows ++ columns_text f ++ bars_text f m.bars
+
+-- the lines, the signs, the names of the stations and the end
+unfoldable pub over_text : Frame → PlainRecording → MarksData → List ℕ
+over_text f r m =
+    arrows_text f m.arrows ++ outsiders_text f m.outside ++ losses_text f r m.losses ++ deeds_text f m.rows
+    ++ all_unanswered_text f m.unanswered ++ names_text f r ++ codes "</svg>\n"
+
+abbrev pub picture_in : Frame → PlainRecording → MarksData → List ℕ
+picture_in f r m = under_text f r m ++ over_text f r m
+
+-- THE PICTURE of the marks of a recording, with these steps shown
+abbrev pub picture_text : PlainRecording → MarksData → Rows → List ℕ
+picture_text r m rows = picture_in (frame_of r rows) r m
+
+-- ---- results of functions
+
+-- the picture of a range of steps of a certificate; OverLimit says that there are too many rows, or
+-- too many spans of some station
+abbrev pub Draws : PlainRecording → List Step → Rows → Result (String Global) ChartFault → Type 0
+Draws r steps w (Ok text) = string_bytes text ≡ picture_text r (marks_of r steps w) w
+Draws r steps w (Err OverLimit) = (MOST_ROWS < row_count (scene_of r steps w)) ⊎ IsOverfull r
+Draws r steps w (Err Memory) = Unit {0}

@@ -1,0 +1,37 @@
+-- The signs on the columns: sends, datagrams that mean nothing, state reports, and requests that
+-- were never answered there (profile).
+use Rattle.std.specs.Prelude.{ℕ, List, [], ◌∷◌, codes}
+use Rattle.std.specs.List.{flat_map}
+use Rattle.exercise_chart.specs.declared.point.Point.{Point}
+use Rattle.exercise_chart.specs.declared.row.Did.{Did}
+use Rattle.exercise_chart.specs.declared.row.Did.TheVariants as deeds
+use Rattle.exercise_chart.specs.declared.row.Row.{Row}
+use Rattle.exercise_chart.specs.declared.frame.Frame.{Frame}
+use Rattle.exercise_chart.specs.Element.{element_text, number, word}
+use Rattle.exercise_chart.specs.Frame.{column_x, step_y}
+use Rattle.exercise_chart.specs.Tone.{tone_of, colour_of}
+
+-- a sign at the place of an entry
+abbrev pub sign_text : Frame → Point → (sign colour class : List ℕ) → List ℕ
+sign_text f p sign colour class =
+    element_text (codes "use")
+    (word (codes "href") sign ∷ number (codes "x") (column_x f p.station) ∷ number (codes "y") (step_y f p.step) ∷ word (codes "fill") colour
+    ∷ word (codes "class") class ∷ number (codes "data-entry") p.entry ∷ [])
+
+-- THE SIGN OF WHAT A STATION DID; a receipt that means something has none: its arrow shows it
+abbrev pub deed_text : Frame → Point → Did → List ℕ
+deed_text f p (deeds.Sent said again) = sign_text f p (codes "#sent") (colour_of (tone_of said)) (codes "sent")
+deed_text f p (deeds.Received said) = []
+deed_text f p (deeds.SentOther bytes) = sign_text f p (codes "#other") (codes "#475569") (codes "other")
+deed_text f p (deeds.ReceivedOther bytes) = sign_text f p (codes "#other") (codes "#475569") (codes "other")
+deed_text f p (deeds.Told e y) = sign_text f p (codes "#told") (codes "#ffffff") (codes "told")
+
+unfoldable pub deeds_text : Frame → List Row → List ℕ
+deeds_text f rows = flat_map (λ (row : Row). deed_text f row.at row.did) rows
+
+-- THE SIGN OF A REQUEST that was never answered there
+unfoldable pub unanswered_text : Frame → Point → List ℕ
+unanswered_text f p = sign_text f p (codes "#unanswered") (codes "#ffffff") (codes "unanswered")
+
+unfoldable pub all_unanswered_text : Frame → List Point → List ℕ
+all_unanswered_text f points = flat_map (unanswered_text f) points

@@ -1,0 +1,124 @@
+//! Bars: the spans of the entities' lives.
+
+ghost use Rattle.std.specs.Prelude.{◌≡◌, ◌++◌, OnOk, string_bytes};
+ghost use Rattle.std.specs.List.{flat_map};
+ghost use Rattle.exercise_chart.specs.Element.{shown_text};
+ghost use Rattle.exercise_chart.specs.Bars.{state_colour, change_text, left_of, width_of, stretch_text, bar_name_text, bar_text, font_of, bars_begin, bars_text};
+
+use crate::element::{Attribute, Shown, put_element, put_words};
+use crate::frame::Frame;
+use crate::{Bar, Point};
+use dis_records::EntityState;
+use std::alloc::AllocError;
+
+/// The colour of a state: green for Running, else amber.
+fn state_colour(state: EntityState) -> &'static str
+    ensures { result.now ≡ state_colour state }
+{
+    match state {
+        EntityState::Running => "#4ade80",
+        _ => "#fbbf24",
+    }
+}
+
+/// The entry of a change, or the value for none.
+fn change_shown<'a>(change: Option<Point>) -> Shown<'a>
+    ensures { shown_text result ≡ change_text change }
+{
+    match change {
+        Some(change) => Shown::Number(change.entry as u64),
+        None => Shown::Missing,
+    }
+}
+
+/// Left edge of a bar in its slot.
+fn left_of(frame: Frame, bar: &Bar) -> u64
+    ensures { result ≡ left_of frame bar.now }
+{
+    let middle = frame.slot_x(bar.station, bar.slot);
+    if frame.is_wide() {
+        middle - 6
+    } else {
+        middle - 4
+    }
+}
+
+/// Width of a bar.
+fn width_of(frame: Frame) -> u64
+    ensures { result ≡ width_of frame }
+{
+    if frame.is_wide() { 11 } else { 7 }
+}
+
+/// Writes the rectangle of a bar.
+fn put_stretch(text: &mut String, frame: Frame, bar: &Bar) -> Result<(), AllocError>
+    ensures { OnOk result (string_bytes text.new ≡ string_bytes text.old ++ stretch_text frame bar.now) }
+{
+    let top = frame.since_y(bar.from);
+    let height = frame.until_y(bar.to).saturating_sub(top);
+    let stretch = [
+        Attribute("x", Shown::Number(left_of(frame, bar))),
+        Attribute("y", Shown::Number(top)),
+        Attribute("width", Shown::Number(width_of(frame))),
+        Attribute("height", Shown::Number(height)),
+        Attribute("fill", Shown::Word(state_colour(bar.state))),
+        Attribute("class", Shown::Word("bar")),
+        Attribute("data-entity", Shown::Entity(bar.entity)),
+        Attribute("data-state", Shown::State(bar.state)),
+        Attribute("data-from", change_shown(bar.from)),
+        Attribute("data-to", change_shown(bar.to)),
+    ];
+    put_element(text, "rect", &stretch)?;
+    Ok(())
+}
+
+/// Writes the number of the bar's entity, at its upper end.
+fn put_name(text: &mut String, frame: Frame, bar: &Bar) -> Result<(), AllocError>
+    ensures { OnOk result (string_bytes text.new ≡ string_bytes text.old ++ bar_name_text frame bar.now) }
+{
+    let place = [
+        Attribute("x", Shown::Number(frame.slot_x(bar.station, bar.slot))),
+        Attribute("y", Shown::Number(frame.since_y(bar.from) + 7)),
+    ];
+    let number = Shown::Number(u64::from(bar.entity.entity));
+    put_words(text, &place, &number)?;
+    Ok(())
+}
+
+/// Writes a bar: its rectangle and the number of its entity.
+fn put_bar(text: &mut String, frame: Frame, bar: &Bar) -> Result<(), AllocError>
+    ensures { OnOk result (string_bytes text.new ≡ string_bytes text.old ++ bar_text frame bar.now) }
+{
+    put_stretch(text, frame, bar)?;
+    put_name(text, frame, bar)
+}
+
+/// Font size of the entity numbers.
+fn font_of(frame: Frame) -> &'static str
+    ensures { result.now ≡ font_of frame }
+{
+    if frame.is_wide() { "12" } else { "8" }
+}
+
+/// Writes the start tag of the bars. The entity numbers run vertically, since the bars are narrow.
+fn begin_bars(text: &mut String, frame: Frame) -> Result<(), AllocError>
+    ensures { OnOk result (string_bytes text.new ≡ string_bytes text.old ++ bars_begin frame) }
+{
+    text.push_str("<g fill=\"#1f2933\" writing-mode=\"vertical-rl\" font-size=\"")?;
+    text.push_str(font_of(frame))?;
+    text.push_str("\">\n")?;
+    Ok(())
+}
+
+/// Writes all bars.
+#[tactic(auto, unfolding(crate::specs::Bars::bars_text))]
+pub(crate) fn put_bars(text: &mut String, frame: Frame, bars: &[Bar]) -> Result<(), AllocError>
+    ensures { OnOk result (string_bytes text.new ≡ string_bytes text.old ++ bars_text frame bars.now) }
+{
+    begin_bars(text, frame)?;
+    for bar in bars {
+        put_bar(text, frame, bar)?;
+    }
+    text.push_str("</g>\n")?;
+    Ok(())
+}

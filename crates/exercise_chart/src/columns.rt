@@ -1,0 +1,96 @@
+//! The columns of a picture, one for each station, and their names.
+
+ghost use Rattle.std.specs.Prelude.{◌≡◌, ◌<◌, ◌^◌, ◌++◌, length, OnOk, string_bytes};
+ghost use Rattle.siman_print.specs.Below.{texts_below};
+ghost use Rattle.exercise_chart.specs.Frame.{blocks_of};
+ghost use Rattle.exercise_chart.specs.Columns.{column_text, columns_text, name_text, names_at, names_above, names_text};
+
+use crate::element::{Attribute, Shown, put_element, put_words};
+use crate::frame::{Frame, TOP, names_y};
+use exercise_model::ExerciseLog;
+use std::alloc::AllocError;
+
+/// Writes the vertical line of a station's column.
+fn put_column(text: &mut String, frame: Frame, station: u16) -> Result<(), AllocError>
+    ensures { OnOk result (string_bytes text.new ≡ string_bytes text.old ++ column_text frame station) }
+{
+    let x = frame.x(station);
+    let line = [
+        Attribute("x1", Shown::Number(x)),
+        Attribute("y1", Shown::Number(TOP)),
+        Attribute("x2", Shown::Number(x)),
+        Attribute("y2", Shown::Number(frame.bottom_y())),
+    ];
+    put_element(text, "line", &line)?;
+    Ok(())
+}
+
+/// Writes the lines of all columns.
+#[tactic(auto, unfolding(crate::specs::Columns::columns_text))]
+pub(crate) fn put_columns(text: &mut String, frame: Frame) -> Result<(), AllocError>
+    ensures { OnOk result (string_bytes text.new ≡ string_bytes text.old ++ columns_text frame) }
+{
+    text.push_str("<g stroke=\"#94a3b8\">\n")?;
+    for station in 0..frame.stations {
+        put_column(text, frame, station)?;
+    }
+    text.push_str("</g>\n")?;
+    Ok(())
+}
+
+/// Writes the name of a station at height `y`.
+fn put_name<L: ExerciseLog>(
+    text: &mut String,
+    frame: Frame,
+    log: &L,
+    y: u64,
+    station: u16,
+) -> Result<(), AllocError>
+    requires { station < length (L.recording log.now).setting.stations }
+    ensures { OnOk result (string_bytes text.new ≡ string_bytes text.old ++ name_text frame (L.recording log.now) y station) }
+{
+    let place = [
+        Attribute("x", Shown::Number(frame.x(station))),
+        Attribute("y", Shown::Number(y)),
+    ];
+    let address = log.station(usize::from(station)).address();
+    put_words(text, &place, &Shown::Address(address))?;
+    Ok(())
+}
+
+/// Writes the names of all stations at height `y`.
+#[tactic(auto, unfolding(crate::specs::Columns::names_at))]
+fn put_names_at<L: ExerciseLog>(
+    text: &mut String,
+    frame: Frame,
+    log: &L,
+    y: u64,
+) -> Result<(), AllocError>
+    requires { frame.stations ≡ length (L.recording log.now).setting.stations }
+    ensures { OnOk result (string_bytes text.new ≡ string_bytes text.old ++ names_at frame (L.recording log.now) y) }
+{
+    for station in 0..frame.stations {
+        put_name(text, frame, log, y, station)?;
+    }
+    Ok(())
+}
+
+/// Writes the names of all stations, above each block of rows.
+#[tactic(auto, unfolding(crate::specs::Columns::names_text))]
+pub(crate) fn put_names<L: ExerciseLog>(
+    text: &mut String,
+    frame: Frame,
+    log: &L,
+) -> Result<(), AllocError>
+    requires { frame.stations ≡ length (L.recording log.now).setting.stations }
+    ensures { OnOk result (string_bytes text.new ≡ string_bytes text.old ++ names_text frame (L.recording log.now)) }
+{
+    text.push_str(
+        "<g fill=\"#1f2933\" stroke=\"#ffffff\" stroke-width=\"4\" paint-order=\"stroke\" font-weight=\"bold\" text-anchor=\"middle\">\n",
+    )?;
+    for block in 0..frame.blocks() {
+        put_names_at(text, frame, log, names_y(block))?;
+    }
+    text.push_str("</g>\n")?;
+    Ok(())
+}

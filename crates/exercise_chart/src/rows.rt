@@ -1,0 +1,89 @@
+//! The rows of a picture, in words.
+
+ghost use Rattle.std.specs.Prelude.{◌≡◌, ◌<◌, ◌^◌, ◌++◌, length, All, OnOk, string_bytes};
+ghost use Rattle.std.specs.List.{flat_map};
+ghost use Rattle.exercise_chart.specs.declared.row.Row.{Row as RowData};
+ghost use Rattle.exercise_chart.specs.Rows.{rule_text, row_words, row_text, rows_text};
+
+use crate::Row;
+use crate::element::{Attribute, Shown, begin_words, put_element};
+use crate::frame::Frame;
+use crate::words::put_did;
+use exercise_model::ExerciseLog;
+use siman_print::{Field, Spelling, Value, put_fields, put_opening};
+use std::alloc::AllocError;
+
+/// Writes the horizontal rule, at height `y`, that leads to the words of a row.
+#[tactic(auto, unfolding(crate::specs::Rows::rule_text))]
+fn put_rule(text: &mut String, frame: Frame, y: u64) -> Result<(), AllocError>
+    requires { y < 2 ^ 24 }
+    ensures { OnOk result (string_bytes text.new ≡ string_bytes text.old ++ rule_text frame y) }
+{
+    let rule = [
+        Attribute("x1", Shown::Number(16)),
+        Attribute("y1", Shown::Number(y)),
+        Attribute("x2", Shown::Number(frame.words_x() - 8)),
+        Attribute("y2", Shown::Number(y)),
+        Attribute("stroke", Shown::Word("#e2e8f0")),
+    ];
+    put_element(text, "line", &rule)?;
+    Ok(())
+}
+
+/// Writes the entry of a row, the address of its station, and what the station did.
+#[tactic(auto, unfolding(crate::specs::Rows::row_words))]
+fn put_row_words<L: ExerciseLog>(text: &mut String, log: &L, row: &Row) -> Result<(), AllocError>
+    requires { row.now.at.station < length (L.recording log.now).setting.stations }
+    ensures { OnOk result (string_bytes text.new ≡ string_bytes text.old ++ row_words (L.recording log.now) row.now) }
+{
+    let address = log.station(usize::from(row.at.station)).address();
+    let entry = Field::Bare("entry", Value::Number(row.at.entry as u64));
+    put_opening(text, Spelling::Text, "", &Some(entry))?;
+    let station = [Field::Bare("address", Value::Address(address))];
+    put_fields(text, Spelling::Text, &station)?;
+    put_did(text, address, &row.did)
+}
+
+/// Writes a row: its rule and its words.
+fn put_row<L: ExerciseLog>(
+    text: &mut String,
+    frame: Frame,
+    log: &L,
+    row: &Row,
+) -> Result<(), AllocError>
+    requires { row.now.at.station < length (L.recording log.now).setting.stations }
+    ensures { OnOk result (string_bytes text.new ≡ string_bytes text.old ++ row_text frame (L.recording log.now) row.now) }
+{
+    let y = frame.step_y(row.at.step);
+    put_rule(text, frame, y)?;
+    let place = [
+        Attribute("x", Shown::Number(frame.words_x())),
+        Attribute("y", Shown::Number(y + 4)),
+        Attribute("class", Shown::Word("row")),
+        Attribute("data-step", Shown::Number(row.at.step as u64)),
+        Attribute("data-entry", Shown::Number(row.at.entry as u64)),
+    ];
+    begin_words(text, &place)?;
+    put_row_words(text, log, row)?;
+    text.push_str("</text>\n")?;
+    Ok(())
+}
+
+/// Writes all rows.
+#[tactic(auto, unfolding(crate::specs::Rows::rows_text))]
+pub(crate) fn put_rows<L: ExerciseLog>(
+    text: &mut String,
+    frame: Frame,
+    log: &L,
+    rows: &[Row],
+) -> Result<(), AllocError>
+    requires { All (λ (row : RowData). row.at.station < length (L.recording log.now).setting.stations) rows.now }
+    ensures { OnOk result (string_bytes text.new ≡ string_bytes text.old ++ rows_text frame (L.recording log.now) rows.now) }
+{
+    text.push_str("<g fill=\"#1f2933\">\n")?;
+    for row in rows {
+        put_row(text, frame, log, row)?;
+    }
+    text.push_str("</g>\n")?;
+    Ok(())
+}

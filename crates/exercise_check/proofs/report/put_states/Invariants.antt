@@ -1,0 +1,9 @@
+-- The lines so far are those of the places so far.
+use Rattle.std.proofs.Common.{◌≡◌, ◌++◌, string_bytes}
+use Rattle.siman_print.specs.Below.{texts_below}
+use Rattle.exercise_check.specs.Report.{entities_at}
+use Rattle.exercise_check.proofs.report.put_states.Given as goal
+
+abbrev pub invariant-loop-station : goal.invariant-loop-station
+invariant-loop-station g l =
+    string_bytes l.text ≡ string_bytes l.initial.text ++ texts_below (entities_at (g.L.ExerciseLog.recording l.log)) l.station

@@ -1,0 +1,40 @@
+-- What is ready is the text of the review, and the laws hold of what it tells.
+use Rattle.std.proofs.Common.{◌≡◌, ◌≤◌, ◌++◌, refl, sym, ap, subst, ◌∙◌}
+use Rattle.exercise_model.specs.Recording.{PlainRecording}
+use Rattle.exercise_review.specs.declared.party.Party.TheVariants.{Station}
+use Rattle.exercise_review.specs.declared.review.TheConstants.{MOST_LINES}
+use Rattle.exercise_review.specs.Fate.{fate_of}
+use Rattle.exercise_audit.specs.Audit.{IsExplained}
+use Rattle.exercise_review.specs.Review.{line_count}
+use Rattle.siman_print.specs.declared.spelling.Spelling.{Spelling}
+use Rattle.siman_reviews.specs.Review.{review_spelled, told_spelled}
+use Rattle.siman_analysis_commands.specs.Review.{IsFateIn}
+use Rattle.siman_analysis_commands.proofs.Reviewed.{each_fate}
+use Rattle.siman_analysis_commands.proofs.review.ready.Goals as goal
+
+pub returns : goal.returns
+returns g c =
+    let r : PlainRecording = g.L.ExerciseLog.recording c.args.log.now in
+    let s : Spelling = c.args.spelling in
+    let filters = c.args.filters.now in
+    let explained = c.in_ok-is_explained.field-0.is_explained in
+    let told : PlainRecording = c.in_ok-reviewed.reviewed in
+    let limits = c.in_ok-of.ensures.limits in
+    let same : c.in_ok-is_explained.field-0.findings ≡ r = c.in_ok-is_explained.ensures.findings ∙ c.in_ok-of.ensures.findings in
+    let law = c.fates_hold.ensures in
+    record {
+      recording = r;
+      read = refl;
+      explained = explained;
+      explains = subst (λ (x : PlainRecording). IsExplained x explained) c.in_ok-of.ensures.findings c.in_ok-is_explained.ensures.explained;
+      within = subst (λ (x : PlainRecording). line_count x ≤ MOST_LINES) same c.in_ok-reviewed.ensures.within;
+      text_is = ap (λ t. t ++ told_spelled s told filters) c.in_ok-head.ensures ∙ sym (c.head_and_told_are_all.ensures s told explained filters)
+          ∙ ap (λ (x : PlainRecording). review_spelled s x explained filters) (c.in_ok-reviewed.ensures.reviewed ∙ same);
+      part = c.filters_take_away.ensures r explained filters;
+      fates = λ h o s t explains within maker. each_fate (λ fate. fate_of r o (Station t) ≡ fate → IsFateIn r h o s t fate)
+          (law.done r h o s t limits explains within maker) (law.answered r h o s t limits explains within maker)
+          (law.refused r h o s t limits explains within maker) (law.pending r h o s t explains maker) (law.unheard r h o s t explains maker)
+          (law.unanswered r h o s t explains maker) (law.lost r h o s t explains maker) (law.known r o s t maker) (λ nobody. tt)
+          (fate_of r o (Station t)) refl;
+      lives = c.lives_are_states.ensures r;
+    }

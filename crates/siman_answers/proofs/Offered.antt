@@ -1,7 +1,0 @@
--- The lemmas on files and what is said of them that this crate offers to the crates above; its other pages of proofs are its own.
-pub use Rattle.siman_answers.proofs.Openings.{adds_none, adds_then, all_one, all_two}
-pub use Rattle.siman_answers.proofs.Inputs.{Said, at_fault, of_any, of_recording, over, unfetched_recording}
-pub use Rattle.siman_answers.proofs.Searches.{unsearched, uncertified}
-pub use Rattle.siman_answers.proofs.Verdicts.{not_good}
-pub use Rattle.siman_answers.proofs.Shown.{recording_unread}
-pub use Rattle.siman_answers.proofs.Passings.{fails-longer, fails-same, held-more, loop-fails, loop-none, loop-passes, passed-then, passed-whole, passes-last, passes-short, passes-then}

@@ -1,2 +1,0 @@
-pub mod ChartWords
-pub mod Chart

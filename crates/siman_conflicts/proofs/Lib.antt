@@ -1,4 +1,0 @@
-mod Keyed
-mod Joined
-mod Standing
-pub mod Offered

@@ -1,4 +1,0 @@
-pub mod Rule
-pub mod Lines
-pub mod Blocked
-pub mod Told

@@ -1,6 +1,0 @@
-use Rattle.siman_examples.proofs.Results.{if_then}
-use Rattle.siman_examples.proofs.archived.need_no_second_search.Goals as goal
-
-pub returns : goal.returns
-returns c = λ first.
-    if_then c.audit.result (λ answer. (c.conversion_keeps_searches.ensures.answers c.args.recording.now answer first).0) c.audit.ensures

@@ -1,5 +1,0 @@
-use Rattle.siman_logs.specs.Log.{log_lines}
-use Rattle.siman_examples.proofs.log.is_read_by_programs.Goals as goal
-
-pub returns : goal.returns
-returns c = λ r filters. (log_lines r filters, c.json_says_the_same.ensures.text r filters, c.json_says_the_same.ensures.json r filters)

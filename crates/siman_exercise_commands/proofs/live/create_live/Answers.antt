@@ -1,0 +1,28 @@
+-- A file was created, the moves were made, and it was left.
+use Rattle.std.proofs.Common.{refl, ap, subst, ◌∙◌}
+use Rattle.siman_lines.specs.declared.left.LeftOut.{LeftOut}
+use Rattle.siman_lines.specs.LeftOut.{left_out_by}
+use Rattle.siman_outside.specs.Outside.{WasHeld}
+use Rattle.siman_exercise_commands.specs.Live.Lived.{TellsEntries}
+use Rattle.siman_outside.proofs.Offered.{adds_then, all_two}
+use Rattle.siman_exercise_commands.proofs.live.create_live.Goals as goal
+
+pub returns-in-Ok : goal.returns-in-Ok
+returns-in-Ok g c = (
+  _,
+  adds_then _ _ _ _ _ c.in-Ok.ensures.done c.close.ensures.done,
+  (λ holds. all_two (WasHeld holds) _ _ c.in-Ok.ensures.fresh tt),
+  (
+    refl,
+    record {
+      after = c.record_moves-recorded.new.stations.items;
+      entries = c.record_moves-recorded.result.entries;
+      records = c.record_moves-recorded.ensures.records;
+      recorded = c.record_moves-recorded.ensures.recorded;
+      tells =
+          subst (λ (left : LeftOut). TellsEntries c.record_moves-recorded.result.entries left c.tell_entries-answered.result (record { old = g.W.Write.contents c.args.out.now; new = g.W.Write.contents c.tell_entries-answered.new.out }))
+          (c.left_out.ensures ∙ ap (left_out_by g.O.Line.Line.strangers) c.deref.ensures.value) c.tell_entries-answered.ensures;
+    },
+  ),
+  refl,
+)

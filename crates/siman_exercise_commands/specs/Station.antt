@@ -1,0 +1,188 @@
+-- What `station` does with a script and its words, and how it ends (profile).
+use Rattle.std.specs.Prelude.{◌≡◌, ◌⊎◌, ⊤, ℕ, ◌+◌, Bool, true, false, List, [], ◌∷◌, ◌++◌, length, map, codes, is_some, Option, Some, None, Result, Ok, Err, Vec, if◌then◌else◌}
+use Rattle.std.specs.declared.alloc.Global.{Global}
+use Rattle.std.specs.Io.KnownBytes.{Keeps}
+use Rattle.dis_records.specs.Address.{Pair}
+use Rattle.siman_scripts.specs.declared.script_fault.ScriptFault.TheVariants as scripts
+use Rattle.siman_scripts.specs.Script.{ScriptData}
+use Rattle.siman_scripts.specs.Statement.{address_of}
+use Rattle.siman_scripts.specs.Stations.{WorldStationData}
+use Rattle.siman_stations.specs.declared.world_fault.WorldFault.TheVariants as worlds
+use Rattle.siman_operator.specs.Posts.{IsBegun}
+use Rattle.siman_operator.specs.declared.reading.TheConstants.{LONGEST_LINE}
+use Rattle.siman_operator.specs.declared.recorded.Ready.{Ready}
+use Rattle.siman_operator.specs.declared.scripted.SetUp.{SetUp}
+use Rattle.siman_operator.specs.declared.scripted.SetUpFault.{SetUpFault}
+use Rattle.siman_operator.specs.declared.scripted.SetUpFault.TheVariants as set_ups
+use Rattle.siman_operator.specs.declared.told.Told.{Told}
+use Rattle.siman_operator.specs.Recorded.{open_setting, Records, IsLeft}
+use Rattle.siman_operator.specs.Scripted.{IsSetUp, SetsUp}
+use Rattle.siman_command_line.specs.Words.{StationAsked}
+use Rattle.siman_outside.specs.declared.endpoint.Endpoint.{Endpoint}
+use Rattle.siman_outside.specs.declared.fault.Ended.{Ended}
+use Rattle.siman_outside.specs.declared.fault.Fault.{Fault}
+use Rattle.siman_outside.specs.declared.fault.Fault.TheVariants.{Script, ScriptRead, World, LineFailed, NotInSetup, Exists, Memory}
+use Rattle.siman_exercise_commands.specs.declared.station.Placed.{Placed}
+use Rattle.siman_outside.specs.Ending.{Ends, IsToldAs, fault_text}
+use Rattle.siman_outside.specs.Endpoints.{endpoint_of}
+use Rattle.siman_outside.specs.Opening.{IsUnopened}
+use Rattle.siman_outside.specs.Outside.{Has, Stream, Outcome, Deed, Opens, Reads, LooksFor, Binds, Creates, Leaves}
+use Rattle.siman_exercise_commands.specs.Live.{IsUncreated}
+use Rattle.siman_exercise_commands.specs.Explained.{Scripted, TextRead, text_read, TellsWhyNot}
+use Rattle.std.specs.Result.{result_err}
+
+-- Words.
+
+-- the first word that is no endpoint
+abbrev pub bad_endpoint : List (List ℕ) → Option (List ℕ)
+bad_endpoint [] = None
+bad_endpoint (word ∷ words) = if is_some (endpoint_of word) then bad_endpoint words else Some word
+
+-- THE FIRST WORD THAT IS NO ADDRESS: the station's own, that of its socket, that of a peer
+abbrev pub bad_word : StationAsked → Option (List ℕ)
+bad_word asked = if is_some (address_of asked.address) then bad_endpoint (asked.bind ∷ asked.peers) else Some asked.address
+
+-- its fault: `station: address WORD` with the word as it was typed
+abbrev pub TellsWord : List ℕ → Fault → Type 0
+TellsWord word fault = fault_text fault ≡ codes "station: address " ++ word
+
+abbrev pub FindsAddress : List ℕ → Result Pair Fault → Type 0
+FindsAddress word (Ok address) = address_of word ≡ Some address
+FindsAddress word (Err fault) = (address_of word ≡ None) × TellsWord word fault
+
+abbrev pub FindsEndpoint : List ℕ → Result Endpoint Fault → Type 0
+FindsEndpoint word (Ok endpoint) = endpoint_of word ≡ Some endpoint
+FindsEndpoint word (Err fault) = (endpoint_of word ≡ None) × TellsWord word fault
+
+abbrev pub FindsEndpoints : List (List ℕ) → Result (Vec Endpoint Global) Fault → Type 0
+FindsEndpoints words (Ok endpoints) = map endpoint_of words ≡ map Some endpoints.items
+FindsEndpoints words (Err fault) = (fault ≡ Memory) ⊎ ((word : List ℕ) × (bad_endpoint words ≡ Some word) × TellsWord word fault)
+
+-- THE WORDS NAME the address and the endpoints of the station and its peers, and there is a buffer for a line of
+-- text
+pub record IsPlaced (asked : StationAsked) (placed : Placed) : Type 0 where
+  pub address : address_of asked.address ≡ Some placed.address
+  pub bind : endpoint_of asked.bind ≡ Some placed.bind
+  pub peers : map endpoint_of asked.peers ≡ map Some placed.peers.items
+  pub anyone : placed.anyone ≡ asked.anyone
+  pub room : length placed.room.items ≡ LONGEST_LINE + 1
+
+-- the places that the words name; or the fault of one that is no address; or memory ran out, which may happen at
+-- any time
+abbrev pub Places : StationAsked → Result Placed Fault → Type 0
+Places asked (Ok placed) = IsPlaced asked placed
+Places asked (Err fault) = (fault ≡ Memory) ⊎ ((word : List ℕ) × (bad_word asked ≡ Some word) × TellsWord word fault)
+
+-- The script.
+
+-- the fault of a station of a script that was not set up
+abbrev pub of_set_up : SetUpFault → Fault
+of_set_up set_ups.NotInSetup = NotInSetup
+of_set_up set_ups.Stations = World worlds.Stations None
+of_set_up set_ups.Memory = Memory
+
+-- WHY THE STATION OF A SCRIPT AT AN ADDRESS IS NOT SET UP: the first refused line of the script, no station there,
+-- or one that a world cannot have; or the script could not be read; or memory ran out, which may happen at any time
+abbrev pub SetsUpNone : Scripted → (address : Pair) → Fault → Type 0
+SetsUpNone scripted address (Script (scripts.BadLine line) why) = scripted ≡ Err (scripts.BadLine line)
+SetsUpNone scripted address (Script (scripts.UnknownStation line) why) = scripted ≡ Err (scripts.UnknownStation line)
+SetsUpNone scripted address (ScriptRead failed) = ⊤
+SetsUpNone scripted address NotInSetup = (s : ScriptData) × (scripted ≡ Ok s) × SetsUp s address (Err set_ups.NotInSetup)
+SetsUpNone scripted address (World worlds.Stations there) = (s : ScriptData) × (scripted ≡ Ok s) × SetsUp s address (Err set_ups.Stations)
+SetsUpNone scripted address Memory = ⊤
+SetsUpNone scripted address other = ⊥
+
+abbrev pub SetsUpText : Scripted → (address : Pair) → Result SetUp Fault → Type 0
+SetsUpText scripted address (Ok set_up) = (s : ScriptData) × (scripted ≡ Ok s) × SetsUp s address (Ok set_up)
+SetsUpText scripted address (Err fault) = SetsUpNone scripted address fault
+
+-- a station is set up from what was read of a text; or the reason why there is none
+abbrev pub SetsUpRead : TextRead → (address : Pair) → Result SetUp Fault → Type 0
+SetsUpRead t address set_up = SetsUpText t.scripted address set_up × TellsWhyNot t set_up
+
+-- a station is set up from a file with these bytes, if they are known
+abbrev pub SetsUpFile : (known : Option (List ℕ)) → (address : Pair) → Result SetUp Fault → Type 0
+SetsUpFile known address set_up = (text : List ℕ) × Has known text × SetsUpRead (text_read text) address set_up
+
+-- a station of some script was set up
+abbrev pub IsOfScript : SetUp → Type 0
+IsOfScript set_up = (exercise : ℕ) × (addresses : List Pair) × (s : WorldStationData) × IsSetUp exercise addresses s set_up
+
+-- The exercise.
+
+-- the output of entries and that of faults
+pub record Streams : Type 0 where
+  pub out : Stream
+  pub errors : Stream
+
+-- the result of a session, or the fault that prevented it
+abbrev pub Played : Type 0
+Played = Result Told Fault
+
+-- nothing more is done, printed or reported
+abbrev pub PlaysNone : Fault → List Deed → Played → Streams → Type 0
+PlaysNone fault deeds played s = (deeds ≡ []) × (played ≡ Err fault) × Keeps s.out.old s.out.new × Keeps s.errors.old s.errors.new
+
+-- A FILE IS CREATED, in which the station records what it does with the lines of standard input, and is closed
+abbrev pub CreatesPlayed : {L : Type 0} → (strangers : L → ℕ) → Ready L → (name : List ℕ) → (input : Option (List ℕ)) → List Deed → Played → Streams → Type 0
+CreatesPlayed strangers ready name input (Creates made (Err kind) ∷ []) played s =
+    (made ≡ name) × ((fault : Fault) × IsUncreated kind fault × PlaysNone fault [] played s)
+CreatesPlayed strangers ready name input (Creates made (Ok fresh) ∷ Leaves left ∷ []) played s =
+    (made ≡ name)
+    × ((told : Told) × (played ≡ Ok told) × Records strangers input ready fresh left s.out.old s.out.new s.errors.old s.errors.new told
+    × IsLeft (open_setting ready.head) ready.post.station.node.application.outfit told.status fresh left)
+CreatesPlayed strangers ready name input deeds played s = ⊥
+
+-- THE STATION IS ATTACHED TO ITS LINK as it was set up, among the stations of its script; it is not if memory runs
+-- out
+abbrev pub Stands : {L : Type 0} → (strangers : L → ℕ) → SetUp → (address : Pair) → (name : List ℕ) → (input : Option (List ℕ)) → List Deed → Played → Streams → Type 0
+Stands {L} strangers set_up address name input deeds played s =
+    PlaysNone Memory deeds played s
+    ⊎ ((ready : Ready L) × (ready.head ≡ set_up.head) × IsBegun set_up.head.setting.exercise address set_up.node ready.post
+    × (ready.stations ≡ set_up.stations) × CreatesPlayed strangers ready name input deeds played s)
+
+-- ITS LINK is requested, with the endpoints that the words name; if there is none, the fault is `live: line`, or
+-- that memory ran out
+abbrev pub HasLine : {L : Type 0} → (strangers : L → ℕ) → SetUp → Placed → (name : List ℕ) → (input : Option (List ℕ)) → List Deed → Played → Streams → Type 0
+HasLine strangers set_up placed name input (Binds bind peers anyone (Err kind) ∷ deeds) played s =
+    (bind ≡ placed.bind) × (peers ≡ placed.peers.items) × (anyone ≡ placed.anyone)
+    × ((fault : Fault) × IsToldAs kind LineFailed fault × PlaysNone fault deeds played s)
+HasLine strangers set_up placed name input (Binds bind peers anyone (Ok x) ∷ deeds) played s =
+    (bind ≡ placed.bind) × (peers ≡ placed.peers.items) × (anyone ≡ placed.anyone) × Stands strangers set_up placed.address name input deeds played s
+HasLine strangers set_up placed name input deeds played s = ⊥
+
+-- A FILE OF THE RECORDING'S NAME EXISTS: nothing is done, and no link is requested
+abbrev pub PlaysSetUp : {L : Type 0} → (strangers : L → ℕ) → SetUp → Placed → (name : List ℕ) → (input : Option (List ℕ)) → List Deed → Played → Streams → Type 0
+PlaysSetUp strangers set_up placed name input (LooksFor looked true ∷ deeds) played s = (looked ≡ name) × PlaysNone Exists deeds played s
+PlaysSetUp strangers set_up placed name input (LooksFor looked false ∷ deeds) played s =
+    (looked ≡ name) × HasLine strangers set_up placed name input deeds played s
+PlaysSetUp strangers set_up placed name input deeds played s = ⊥
+
+-- THE SCRIPT IS OPENED and read, and its station set up
+abbrev pub PlaysFile : {L : Type 0} → (strangers : L → ℕ) → StationAsked → Placed → (input : Option (List ℕ)) → List Deed → Played → Streams → Type 0
+PlaysFile strangers asked placed input (Opens opened (Err kind) ∷ deeds) played s =
+    (opened ≡ asked.setup) × ((fault : Fault) × IsUnopened asked.setup kind fault × PlaysNone fault deeds played s)
+PlaysFile strangers asked placed input (Opens opened (Ok known) ∷ Reads read ∷ deeds) played s =
+    (opened ≡ asked.setup) × (read ≡ known)
+    × (((fault : Fault) × SetsUpFile known placed.address (Err fault) × PlaysNone fault deeds played s)
+    ⊎ ((set_up : SetUp) × SetsUpFile known placed.address (Ok set_up) × PlaysSetUp strangers set_up placed asked.recording input deeds played s))
+PlaysFile strangers asked placed input deeds played s = ⊥
+
+-- THE END OF `station`: the result of its session, or its fault, which is then reported
+abbrev pub EndsPlayed : Played → Ended → (old new : Option (List ℕ)) → Type 0
+EndsPlayed (Ok told) ended old new = (ended.status ≡ told.status) × (ended.written ≡ told.written) × (new ≡ old)
+EndsPlayed (Err fault) ended old new = Ends (Err fault) ended old new
+
+-- the fault that prevented a session
+abbrev pub played_fault : Played → Option Fault
+played_fault played = result_err played
+
+-- the effect of `station`: nothing, if a word is no address. The session itself reports a recording that it began
+-- and could not end.
+abbrev pub EndsStation : {L : Type 0} → (strangers : L → ℕ) → StationAsked → List Deed → (input : Option (List ℕ)) → Outcome → Type 0
+EndsStation strangers asked deeds input o =
+    (o.begun ≡ None)
+    × (((fault : Fault) × Places asked (Err fault) × (deeds ≡ []) × Keeps o.out.old o.out.new × Ends (Err fault) o.ended o.errors.old o.errors.new × (o.fault ≡ Some fault))
+    ⊎ ((placed : Placed) × (played : Played) × (mid : Option (List ℕ)) × IsPlaced asked placed
+    × (let s : Streams = record { out = o.out; errors = record { old = o.errors.old; new = mid } } in PlaysFile strangers asked placed input deeds played s)
+    × EndsPlayed played o.ended mid o.errors.new × (o.fault ≡ played_fault played)))

@@ -1,0 +1,66 @@
+//! Why a script is refused, and the place of a move that cannot be made.
+
+ghost use Rattle.std.specs.Prelude.{◌≡◌, Ok, Some, IfSome};
+ghost use Rattle.siman_scripts.specs.MoveLine.{line_of_move};
+ghost use Rattle.siman_scripts.specs.Script.{ScriptData, script_at};
+ghost use Rattle.siman_exercise_commands.specs.Explained.{text_read, sends_before, StandsAt, Refuses, Stopped};
+
+use crate::world::sent_count;
+use siman_outside::{Fault, MovePlace};
+use siman_scripts::{Script, ScriptFault, line_of_move, read_script, reason_of_script};
+use siman_stations::{WorldFault, run_world};
+use std::alloc::Global;
+
+/// Fault of a text that is no script, with its first reason.
+pub(crate) fn refused(alloc: Global, text: &[u8], fault: ScriptFault) -> Fault<'static>
+    ensures { Refuses (text_read text.now) fault result }
+{
+    if let ScriptFault::Memory = fault {
+        return Fault::Memory;
+    }
+    match reason_of_script(alloc, text) {
+        Ok(reason) => Fault::Script(fault, reason),
+        Err(_) => Fault::Memory,
+    }
+}
+
+/// Number of datagrams that the moves before this one send.
+fn sends_before(alloc: Global, text: &[u8], number: usize) -> Option<usize>
+    ensures { IfSome result (λ n. (s : ScriptData) × (script_at text.now ≡ Ok s) × (n ≡ sends_before s number)) }
+{
+    let Script {
+        exercise,
+        stations,
+        moves,
+    } = read_script(alloc, text).ok()?;
+    let mut moves = moves;
+    moves.truncate(number);
+    let recording = run_world(alloc, exercise, stations, moves).ok()?;
+    Some(sent_count(recording.entries()))
+}
+
+/// Place of a move in its script, given its number, from 0. `None` if memory runs out.
+fn place_of(alloc: Global, text: &[u8], number: usize) -> Option<MovePlace>
+    ensures { IfSome result (StandsAt (text_read text.now) number) }
+{
+    let line = line_of_move(alloc, text, number).ok()??;
+    let sends = sends_before(alloc, text, number)?;
+    Some(MovePlace {
+        line,
+        sends: Some(sends),
+    })
+}
+
+/// Fault of a world that does not run, with the place of the move that cannot be made.
+pub(crate) fn stopped(alloc: Global, text: &[u8], fault: WorldFault) -> Fault<'static>
+    ensures { Stopped (text_read text.now) fault result }
+{
+    match fault {
+        WorldFault::Stations => Fault::World(WorldFault::Stations, None),
+        WorldFault::Move(number, fault) => match place_of(alloc, text, number) {
+            Some(place) => Fault::World(WorldFault::Move(number, fault), Some(place)),
+            None => Fault::Memory,
+        },
+        WorldFault::Memory => Fault::Memory,
+    }
+}

@@ -1,0 +1,22 @@
+//! The commands that play a script: `world`, which runs its world in memory, `live`, which makes
+//! its moves over links, `station`, which plays one of its stations by lines of text, and the trial
+//! of a script, which no words of the command line name.
+//! The crate opens no file and no socket itself and ends no process: [`world_command`], [`perform`]
+//! and [`trial`] are functions over readers and writers, and [`end_live`] and [`end_station`] reach
+//! files and links only through the caller's `siman_outside::Outside`.
+//! The contract for the layer above: what is written for each script, to the byte (`EndsWorld`,
+//! `EndsLive`, `EndsStation`, `Tries`).
+#![tactic(auto)]
+
+mod explained;
+mod live;
+mod recording_file;
+mod script_trial;
+mod station;
+mod warned;
+mod world;
+
+pub use live::end_live;
+pub use script_trial::{TrialCommand, perform, trial};
+pub use station::end_station;
+pub use world::{WorldFile, world_command};

@@ -1,0 +1,321 @@
+//! The command `station`: plays one station of a script over the network, by the lines of standard
+//! input.
+
+ghost use Rattle.std.specs.Prelude.{◌≡◌, ◌+◌, ◌∷◌, ℕ, List, length, Option, None, Ok, map};
+ghost use Rattle.std.specs.List.{All};
+ghost use Rattle.siman_outside.specs.Outside.{Stream, outcome_of, Deed, Found, Adds, WasHeld, Has};
+ghost use Rattle.siman_scripts.specs.Script.{script_at};
+ghost use Rattle.siman_operator.specs.declared.reading.TheConstants.{LONGEST_LINE};
+ghost use Rattle.siman_operator.specs.Recorded.{IsReady};
+ghost use Rattle.siman_command_line.specs.Words.{named_by};
+ghost use Rattle.siman_exercise_commands.specs.Explained.{TextRead, text_read, TellsWhyNot};
+ghost use Rattle.siman_exercise_commands.specs.Station.{of_set_up, Streams, FindsAddress, FindsEndpoint, FindsEndpoints, Places, SetsUpText, SetsUpFile, IsOfScript, CreatesPlayed, Stands, HasLine, PlaysSetUp, PlaysFile, EndsPlayed, EndsStation};
+
+use crate::explained::refused;
+use crate::live::uncreated;
+use dis_records::Address;
+use siman_command_line::StationWords;
+use siman_lines::Line;
+use siman_operator::{
+    LONGEST_LINE, Ready, Recorded, SetUp, SetUpFault, Told, record_session, set_up, stand,
+};
+use siman_outside::{
+    Ended, Ending, Endpoint, Fault, Outside, conclude, end, endpoint_of, of_error, read_text,
+    unopened,
+};
+use siman_scripts::{LARGEST_SCRIPT, Script, address_of, read_script};
+use siman_stations::WorldFault;
+use std::alloc::Global;
+use std::io::{Read, Write};
+
+/// Address of a station, endpoint of its socket, endpoints of its peers, and a buffer for a line of
+/// text.
+#[derive(Drop)]
+struct Placed {
+    address: Address,
+    bind: Endpoint,
+    peers: Vec<Endpoint>,
+    /// Whether it accepts datagrams from anyone, not from its peers alone.
+    anyone: bool,
+    room: Vec<u8>,
+}
+
+/// Address that a word spells.
+fn station_address(word: &str) -> Result<Address, Fault<'_>>
+    ensures { FindsAddress word.now result }
+{
+    match address_of(word.as_bytes()) {
+        Some(address) => Ok(address),
+        None => Err(Fault::StationWord(word)),
+    }
+}
+
+/// Endpoint that a word spells.
+fn endpoint(word: &str) -> Result<Endpoint, Fault<'_>>
+    ensures { FindsEndpoint word.now result }
+{
+    match endpoint_of(word.as_bytes()) {
+        Some(endpoint) => Ok(endpoint),
+        None => Err(Fault::StationWord(word)),
+    }
+}
+
+/// Endpoints that words spell.
+fn endpoints<'a>(alloc: Global, words: &'a [&'a str]) -> Result<Vec<Endpoint>, Fault<'a>>
+    ensures { FindsEndpoints (map (λ word. word.now) words.now) result }
+{
+    let mut endpoints = Vec::new(alloc);
+    let mut others = words;
+    while let [word, rest @ ..] = others {
+        match endpoint(word) {
+            Ok(endpoint) => endpoints.push(endpoint)?,
+            Err(fault) => return Err(fault),
+        }
+        others = rest;
+    }
+    Ok(endpoints)
+}
+
+/// Address, endpoints and line buffer of a station, from its words.
+fn place<'a>(alloc: Global, words: &StationWords<'a, &'a str>) -> Result<Placed, Fault<'a>>
+    ensures { Places (named_by (λ word. word.now) words.now) result }
+{
+    let address = station_address(words.address)?;
+    let bind = endpoint(words.bind)?;
+    let peers = endpoints(alloc, words.peers)?;
+    let room = vec![in alloc; 0u8; LONGEST_LINE + 1]?;
+    Ok(Placed {
+        address,
+        bind,
+        peers,
+        anyone: words.anyone,
+        room,
+    })
+}
+
+/// Fault of a station that was not set up.
+fn of_set_up(fault: SetUpFault) -> Fault<'static>
+    ensures { result ≡ of_set_up fault }
+{
+    match fault {
+        SetUpFault::NotInSetup => Fault::NotInSetup,
+        SetUpFault::Stations => Fault::World(WorldFault::Stations, None),
+        SetUpFault::Memory => Fault::Memory,
+    }
+}
+
+/// Sets up the station of a script with this address.
+fn set_up_script(alloc: Global, script: Script, address: Address) -> Result<SetUp, Fault<'static>>
+    ensures sets_up { SetsUpText (Ok script) address result }
+    ensures why { (t : TextRead) → TellsWhyNot t result }
+{
+    match set_up(alloc, script, address) {
+        Ok(set_up) => Ok(set_up),
+        Err(fault) => Err(of_set_up(fault)),
+    }
+}
+
+/// Sets up the station with this address of the script that a text spells.
+fn set_up_text(alloc: Global, text: &[u8], address: Address) -> Result<SetUp, Fault<'static>>
+    ensures sets_up { SetsUpText (script_at text.now) address result }
+    ensures why { TellsWhyNot (text_read text.now) result }
+{
+    match read_script(alloc, text) {
+        Ok(script) => set_up_script(alloc, script, address),
+        Err(fault) => Err(refused(alloc, text, fault)),
+    }
+}
+
+/// Sets up the station with this address of the script of a reader.
+fn set_up_file<R: Read + Drop>(
+    alloc: Global,
+    script: R,
+    address: Address,
+) -> Result<SetUp, Fault<'static>>
+    ensures { SetsUpFile (R.remaining script) address result }
+{
+    let mut script = script;
+    let text = read_text(alloc, &mut script, LARGEST_SCRIPT)?;
+    set_up_text(alloc, &text, address)
+}
+
+/// Creates the file of a recording, and plays a station at its link by the lines of a reader,
+/// recorded in that file.
+fn create_played<O: Outside, R: Read, W: Write, E: Write>(
+    alloc: Global,
+    ready: Ready<O::Line>,
+    room: &mut [u8],
+    name: &str,
+    outside: &mut O,
+    input: &mut R,
+    out: &mut W,
+    errors: &mut E,
+) -> Result<Told, Fault<'static>>
+    requires room { length room.old ≡ LONGEST_LINE + 1 }
+    requires ready { IsReady ready }
+    ensures { let s : Streams = record { out = record { old = W.contents out.old; new = W.contents out.new }; errors = record { old = E.contents errors.old; new = E.contents errors.new } } in
+        (deeds : List Deed) × Adds (O.deeds outside.old) (O.deeds outside.new) deeds × ((holds : List ℕ → Option Found) → All (WasHeld holds) deeds) × CreatesPlayed O.Line.strangers ready name.now (R.remaining input.old) deeds result s }
+{
+    match outside.create(name) {
+        Ok(file) => {
+            let recorded = record_session(alloc, ready, file, input, room, out, errors);
+            let Recorded { told, file } = recorded;
+            outside.close(file);
+            Ok(told)
+        }
+        Err(error) => {
+            drop(ready);
+            Err(uncreated(&error))
+        }
+    }
+}
+
+/// Attaches a configured station to its link, and plays it.
+fn play_at_line<O: Outside, R: Read, W: Write, E: Write>(
+    alloc: Global,
+    set_up: SetUp,
+    address: Address,
+    line: O::Line,
+    room: &mut [u8],
+    name: &str,
+    outside: &mut O,
+    input: &mut R,
+    out: &mut W,
+    errors: &mut E,
+) -> Result<Told, Fault<'static>>
+    requires room { length room.old ≡ LONGEST_LINE + 1 }
+    requires set_up { IsOfScript set_up }
+    ensures { let s : Streams = record { out = record { old = W.contents out.old; new = W.contents out.new }; errors = record { old = E.contents errors.old; new = E.contents errors.new } } in
+        (deeds : List Deed) × Adds (O.deeds outside.old) (O.deeds outside.new) deeds × ((holds : List ℕ → Option Found) → All (WasHeld holds) deeds) × Stands O.Line.strangers set_up address name.now (R.remaining input.old) deeds result s }
+{
+    match stand(alloc, set_up, address, line) {
+        Ok(ready) => create_played(alloc, ready, room, name, outside, input, out, errors),
+        Err(_) => Err(Fault::Memory),
+    }
+}
+
+/// Requests the station's link, and plays the station there.
+fn play_placed<O: Outside, R: Read, W: Write, E: Write>(
+    alloc: Global,
+    set_up: SetUp,
+    placed: Placed,
+    name: &str,
+    outside: &mut O,
+    input: &mut R,
+    out: &mut W,
+    errors: &mut E,
+) -> Result<Told, Fault<'static>>
+    requires room { length placed.room.items ≡ LONGEST_LINE + 1 }
+    requires set_up { IsOfScript set_up }
+    ensures { let s : Streams = record { out = record { old = W.contents out.old; new = W.contents out.new }; errors = record { old = E.contents errors.old; new = E.contents errors.new } } in
+        (deeds : List Deed) × Adds (O.deeds outside.old) (O.deeds outside.new) deeds × ((holds : List ℕ → Option Found) → All (WasHeld holds) deeds) × HasLine O.Line.strangers set_up placed name.now (R.remaining input.old) deeds result s }
+{
+    let Placed {
+        address,
+        bind,
+        peers,
+        anyone,
+        mut room,
+    } = placed;
+    let line = match outside.line_at(alloc, bind, &peers, anyone) {
+        Ok(line) => line,
+        Err(error) => {
+            drop(set_up);
+            return Err(of_error(&error, Fault::LineFailed));
+        }
+    };
+    play_at_line(
+        alloc, set_up, address, line, &mut room, name, outside, input, out, errors,
+    )
+}
+
+/// Plays a configured station, with a new recording file. Refuses if a file of this name exists.
+fn play_set_up<O: Outside, R: Read, W: Write, E: Write>(
+    alloc: Global,
+    set_up: SetUp,
+    placed: Placed,
+    name: &str,
+    outside: &mut O,
+    input: &mut R,
+    out: &mut W,
+    errors: &mut E,
+) -> Result<Told, Fault<'static>>
+    requires room { length placed.room.items ≡ LONGEST_LINE + 1 }
+    requires set_up { IsOfScript set_up }
+    ensures { let s : Streams = record { out = record { old = W.contents out.old; new = W.contents out.new }; errors = record { old = E.contents errors.old; new = E.contents errors.new } } in
+        (deeds : List Deed) × Adds (O.deeds outside.old) (O.deeds outside.new) deeds × ((holds : List ℕ → Option Found) → All (WasHeld holds) deeds) × PlaysSetUp O.Line.strangers set_up placed name.now (R.remaining input.old) deeds result s }
+{
+    if outside.is_taken(name) {
+        drop(set_up);
+        drop(placed);
+        return Err(Fault::Exists);
+    }
+    play_placed(alloc, set_up, placed, name, outside, input, out, errors)
+}
+
+/// Opens the script that the words name, and plays its station.
+fn play_file<'a, O: Outside, R: Read, W: Write, E: Write>(
+    alloc: Global,
+    words: &StationWords<'a, &'a str>,
+    placed: Placed,
+    outside: &mut O,
+    input: &mut R,
+    out: &mut W,
+    errors: &mut E,
+) -> Result<Told, Fault<'a>>
+    requires { length placed.room.items ≡ LONGEST_LINE + 1 }
+    ensures { let s : Streams = record { out = record { old = W.contents out.old; new = W.contents out.new }; errors = record { old = E.contents errors.old; new = E.contents errors.new } } in
+        (deeds : List Deed) × Adds (O.deeds outside.old) (O.deeds outside.new) deeds × All (WasHeld (O.holds outside.old)) deeds × PlaysFile O.Line.strangers (named_by (λ word. word.now) words.now) placed (R.remaining input.old) deeds result s }
+{
+    let opened = match outside.open(words.setup) {
+        Ok(opened) => opened,
+        Err(error) => return Err(unopened(words.setup, &error)),
+    };
+    let name = words.recording;
+    match set_up_file(alloc, outside.read(opened), placed.address) {
+        Ok(set_up) => play_set_up(alloc, set_up, placed, name, outside, input, out, errors),
+        Err(fault) => Err(fault),
+    }
+}
+
+/// Ends with the result of a session, or reports the fault that prevented it.
+fn end_played<E: Write>(played: Result<Told, Fault<'_>>, errors: &mut E) -> Ended
+    ensures { EndsPlayed played.entry result (E.contents errors.old) (E.contents errors.new) }
+{
+    match played {
+        Ok(told) => Ended {
+            status: told.status,
+            written: told.written,
+        },
+        Err(fault) => end(Err(fault), errors),
+    }
+}
+
+/// Plays a station of a script with these words, by the lines of a reader, and returns its ending,
+/// with a fault reported on `errors`.
+pub fn end_station<'a, O: Outside, R: Read + Drop, W: Write, E: Write>(
+    alloc: Global,
+    words: StationWords<'a, &'a str>,
+    outside: &mut O,
+    input: R,
+    out: &mut W,
+    errors: &mut E,
+) -> Ending<'a>
+    ensures { let out : Stream = record { old = W.contents out.old; new = W.contents out.new } in
+        let errors : Stream = record { old = E.contents errors.old; new = E.contents errors.new } in
+        (deeds : List Deed) × Adds (O.deeds outside.old) (O.deeds outside.new) deeds × All (WasHeld (O.holds outside.old)) deeds × EndsStation O.Line.strangers (named_by (λ word. word.now) words.entry) deeds (R.remaining input) (outcome_of result out errors) }
+{
+    let placed = match place(alloc, &words) {
+        Ok(placed) => placed,
+        Err(fault) => return conclude(Err(fault), errors),
+    };
+    let mut input = input;
+    let played = play_file(alloc, &words, placed, outside, &mut input, out, errors);
+    Ending {
+        ended: end_played(played, errors),
+        fault: played.err(),
+        begun: None,
+        trouble: None,
+        warning: None,
+    }
+}

@@ -1,0 +1,72 @@
+//! Warning of a script that has an order for a station that it lacks.
+
+ghost use Rattle.std.specs.Prelude.{◌≡◌, IfSome};
+ghost use Rattle.siman_operator.specs.Receiver.{gets};
+ghost use Rattle.siman_exercise_commands.specs.Warned.{is_got, nobody_of, is_lost, WarnsOf};
+
+use dis_records::Address;
+use siman_outside::Warning;
+use siman_scripts::{Act, Move, Script, WorldStation, line_of_move};
+use std::alloc::Global;
+
+/// The site number that means every site, and the application number that means every application.
+const EVERY: u16 = 0xFFFF;
+
+/// Whether the station with this address receives what is sent to this site and application.
+fn gets(address: Address, site: u16, application: u16) -> bool
+    ensures { result ≡ gets site application address }
+{
+    address.site() == site && (application == EVERY || address.application() == application)
+}
+
+/// Whether one of these stations receives what is sent to this site and application.
+fn is_got(stations: &[WorldStation], site: u16, application: u16) -> bool
+    ensures { result ≡ is_got stations.now site application }
+{
+    stations.iter().any(|station| gets(station.station.address(), site, application))
+}
+
+/// Site and application of an order, if none of these stations receives it.
+fn nobody_of(stations: &[WorldStation], act: &Act) -> Option<(u16, u16)>
+    ensures { result ≡ nobody_of stations.now act.now }
+{
+    match act {
+        Act::Command(order) => {
+            let (site, application) = (order.target.site, order.target.application);
+            if site == EVERY || is_got(stations, site, application) {
+                return None;
+            }
+            Some((site, application))
+        }
+        Act::Deliver(_) | Act::Tick | Act::Tell(_) => None,
+    }
+}
+
+/// Whether a move is an order that no station receives.
+fn is_lost(stations: &[WorldStation], step: &Move) -> bool
+    ensures { result ≡ is_lost stations.now step.entry.now }
+{
+    nobody_of(stations, &step.act).is_some()
+}
+
+/// Warning of the first order of a script for a station that the script lacks, given its text.
+/// `None` also if there is no memory to find its line.
+pub(crate) fn no_such_station(alloc: Global, text: &[u8], script: &Script) -> Option<Warning>
+    ensures { IfSome result (WarnsOf text.now script.now) }
+{
+    let stations = script.stations.as_slice();
+    let number = script
+        .moves
+        .iter()
+        .position(|step| is_lost(stations, step))?;
+    let Some(step) = script.moves.as_slice().get(number) else {
+        return None;
+    };
+    let (site, application) = nobody_of(stations, &step.act)?;
+    let line = line_of_move(alloc, text, number).ok()??;
+    Some(Warning::NoSuchStation {
+        line,
+        site,
+        application,
+    })
+}

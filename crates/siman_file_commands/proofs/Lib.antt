@@ -1,0 +1,7 @@
+mod Readings
+mod Tellings
+mod Shown
+mod Verdicts
+mod Conversions
+mod JoinedPieces
+mod Pictured

@@ -1,0 +1,149 @@
+-- What `join` makes of pieces of a recording, and its ending.
+use Rattle.std.specs.Prelude.{◌≡◌, ◌⊎◌, ℕ, Bool, List, [], ◌∷◌, ◌++◌, map, codes, false, Option, Some, None, Result, Ok, Err, Vec, string_bytes, if◌then◌else◌}
+use Rattle.std.specs.List.{flat_map}
+use Rattle.std.specs.declared.alloc.Global.{Global}
+use Rattle.std.specs.Io.KnownBytes.{Keeps}
+use Rattle.exercise_model.specs.declared.form.Form.{Form}
+use Rattle.exercise_model.specs.Setting.{is_open}
+use Rattle.exercise_recording.specs.declared.join_fault.JoinFault.{JoinFault}
+use Rattle.exercise_recording.specs.declared.join_fault.JoinFault.TheVariants as joins
+use Rattle.exercise_recording.specs.declared.joined.FormWord.{FormWord}
+use Rattle.exercise_recording.specs.declared.joined.FormWord.TheVariants.{Unsaid, Open, Closed}
+use Rattle.exercise_recording.specs.declared.joined.Joined.{Joined}
+use Rattle.exercise_recording.specs.FaultText.{join_fault_text}
+use Rattle.exercise_recording.specs.Joining.{JoiningData, Recorded, Takes, Ends}
+use Rattle.exercise_recording.specs.Reading.{recording_at}
+use Rattle.siman_command_line.specs.declared.commands.JoinForm.{JoinForm}
+use Rattle.siman_command_line.specs.declared.commands.JoinForm.TheVariants as asked
+use Rattle.siman_print.specs.Line.{Line, Number, Word, Keyed, named_line}
+use Rattle.siman_print.specs.Spelled.{line_text}
+use Rattle.siman_outside.specs.declared.fault.Fault.{Fault}
+use Rattle.siman_outside.specs.declared.fault.Fault.TheVariants.{Output, Memory}
+use Rattle.siman_file_commands.specs.declared.join.JoinedFile.{JoinedFile}
+use Rattle.siman_file_commands.specs.declared.join.OpenPiece.{OpenPiece}
+use Rattle.siman_outside.specs.declared.limits.TheConstants.{LARGEST_RECORDING}
+use Rattle.siman_outside.specs.Ending.{fault_text}
+use Rattle.siman_outside.specs.Making.{Answered, MakesFile, PutsBoth}
+use Rattle.siman_outside.specs.Opening.{OpensApart, Spares, looks_into}
+use Rattle.siman_outside.specs.Outside.{Has, Stream, Deed, Opens, Compares, Reads}
+
+-- the form that the words ask for, if they do
+abbrev pub word_of : Option JoinForm → FormWord
+word_of None = Unsaid
+word_of (Some asked.Open) = Open
+word_of (Some asked.Closed) = Closed
+
+-- ---- lines and faults
+
+-- the name of a form of the second format
+abbrev pub form_word : Form → List ℕ
+form_word form = if is_open form then codes "open" else codes "closed"
+
+-- the line `joined pieces=N stations=N records=N form=FORM`
+abbrev pub joined_line : Joined → Line
+joined_line told =
+    named_line (codes "joined") (Keyed (codes "pieces") (Number told.pieces) ∷ Keyed (codes "stations") (Number told.stations)
+    ∷ Keyed (codes "records") (Number told.entries) ∷ Keyed (codes "form") (Word (form_word told.form)) ∷ [])
+
+abbrev pub joined_text : Joined → List ℕ
+joined_text told = line_text (joined_line told)
+
+-- THE FAULT for pieces that are not joined; that of a single piece has its name as it was given
+abbrev pub IsToldOf : JoinFault → (name : List ℕ) → Fault → Type 0
+IsToldOf (joins.Recording why) name fault = fault_text fault ≡ codes "recording: " ++ join_fault_text (joins.Recording why) ++ codes " in " ++ name
+IsToldOf joins.Exercise name fault = fault_text fault ≡ codes "join: exercise in " ++ name
+IsToldOf (joins.Station a) name fault = fault_text fault ≡ codes "join: " ++ join_fault_text (joins.Station a) ++ codes " in " ++ name
+IsToldOf joins.Stations name fault = fault_text fault ≡ codes "join: stations"
+IsToldOf joins.Records name fault = fault_text fault ≡ codes "join: records"
+IsToldOf joins.Size name fault = fault_text fault ≡ codes "join: size"
+IsToldOf joins.Write name fault = fault ≡ Output
+IsToldOf joins.Memory name fault = fault ≡ Memory
+
+-- ---- opening
+
+-- an opened piece: its name, and its bytes if they are known
+pub record Seen : Type 0 where
+  pub name : List ℕ
+  pub bytes : Option (List ℕ)
+
+-- an opened piece, as contracts see it
+abbrev pub seen_by : {F : Type 0} → (F → Option (List ℕ)) → OpenPiece F → Seen
+seen_by bytes piece = record { name = piece.name.now; bytes = bytes piece.file }
+
+-- the opened pieces, or the fault of one that was not opened
+abbrev pub Opening : Type 0
+Opening = Result (List Seen) Fault
+
+abbrev pub opened_by : {F : Type 0} → (F → Option (List ℕ)) → Result (Vec (OpenPiece F) Global) Fault → Opening
+opened_by bytes (Ok pieces) = Ok (map (seen_by bytes) pieces.items)
+opened_by bytes (Err fault) = Err fault
+
+-- the calls for one piece, which is not the file to be made
+abbrev pub opening_deeds : (made : List ℕ) → Seen → List Deed
+opening_deeds made piece = Opens piece.name (Ok piece.bytes) ∷ Compares made false ∷ []
+
+-- No further piece is opened: memory ran out, or a piece could not be opened or is the file to be made.
+abbrev pub StopsAt : (left : List (List ℕ)) → (made : List ℕ) → List Deed → Fault → Type 0
+StopsAt left made deeds fault =
+    ((deeds ≡ []) × (fault ≡ Memory))
+    ⊎ ((name : List ℕ) × (more : List (List ℕ)) × (left ≡ name ∷ more) × OpensApart name made deeds (Err fault))
+
+-- PIECES ARE OPENED in the order of the words, none of which is the file to be made; or some are, up to a fault
+abbrev pub OpensPieces : (names : List (List ℕ)) → (made : List ℕ) → List Deed → Opening → Type 0
+OpensPieces names made deeds (Ok pieces) = (names ≡ map (λ (piece : Seen). piece.name) pieces) × (deeds ≡ flat_map (opening_deeds made) pieces)
+OpensPieces names made deeds (Err fault) =
+    (pieces : List Seen) × (left : List (List ℕ)) × (last : List Deed) × (names ≡ map (λ (piece : Seen). piece.name) pieces ++ left)
+    × (deeds ≡ flat_map (opening_deeds made) pieces ++ last) × StopsAt left made last fault
+
+-- PIECES ARE OPENED, and the name of the file to be made has no file to replace, or `force` is set
+abbrev pub OpensPiecesSpared : (names : List (List ℕ)) → (force : Bool) → (made : List ℕ) → List Deed → Opening → Type 0
+OpensPiecesSpared names force made deeds (Ok pieces) =
+    (names ≡ map (λ (piece : Seen). piece.name) pieces) × (deeds ≡ flat_map (opening_deeds made) pieces ++ looks_into force made)
+OpensPiecesSpared names force made deeds (Err fault) =
+    OpensPieces names made deeds (Err fault)
+    ⊎ ((pieces : List Seen) × (last : List Deed) × (names ≡ map (λ (piece : Seen). piece.name) pieces) × (deeds ≡ flat_map (opening_deeds made) pieces ++ last)
+    × Spares force made last (Err fault))
+
+-- ---- reading
+
+-- A piece that was read is appended to the others, or its fault is returned.
+abbrev pub TellsTaken : Recorded → (name : List ℕ) → (old : JoiningData) → Result (Unit {0}) Fault → (new : JoiningData) → Type 0
+TellsTaken recorded name old (Ok u) new = Takes recorded (Ok u) old new
+TellsTaken recorded name old (Err fault) new = (why : JoinFault) × Takes recorded (Err why) old new × IsToldOf why name fault
+
+-- HOW A PIECE IS READ and appended
+abbrev pub TakesPiece : Seen → (old : JoiningData) → List Deed → Result (Unit {0}) Fault → (new : JoiningData) → Type 0
+TakesPiece piece old deeds result new =
+    (bytes : List ℕ) × Has piece.bytes bytes × (deeds ≡ Reads piece.bytes ∷ []) × TellsTaken (recording_at LARGEST_RECORDING bytes) piece.name old result new
+
+-- More pieces behind those appended: each is read and appended, up to the first fault, after which no other is read.
+abbrev pub ReadsBehind : JoiningData → List Seen → List Deed → Result JoiningData Fault → Type 0
+ReadsBehind j [] deeds result = (deeds ≡ []) × (result ≡ Ok j)
+ReadsBehind j (piece ∷ pieces) deeds result =
+    ((first rest : List Deed) × (next : JoiningData) × TakesPiece piece j first (Ok tt) next × (deeds ≡ first ++ rest) × ReadsBehind next pieces rest result)
+    ⊎ ((fault : Fault) × (next : JoiningData) × TakesPiece piece j deeds (Err fault) next × (result ≡ Err fault))
+
+-- PIECES ARE READ in the order of the words
+abbrev pub ReadsPieces : FormWord → List Seen → List Deed → Result JoiningData Fault → Type 0
+ReadsPieces word pieces deeds result = ReadsBehind (record { word = word; pieces = [] }) pieces deeds result
+
+-- ---- the made file
+
+-- THE JOINED FILE OF PIECES, with its line, or the fault
+abbrev pub Gives : JoiningData → Result JoinedFile Fault → Type 0
+Gives j (Ok file) = Ends LARGEST_RECORDING j (Ok file.joint) × (string_bytes file.line ≡ joined_text file.joint.told)
+Gives j (Err fault) = (why : JoinFault) × Ends LARGEST_RECORDING j (Err why) × IsToldOf why [] fault
+
+abbrev pub ReadsAndGives : FormWord → List Seen → List Deed → Result JoinedFile Fault → Type 0
+ReadsAndGives word pieces deeds result =
+    ((fault : Fault) × ReadsPieces word pieces deeds (Err fault) × (result ≡ Err fault))
+    ⊎ ((j : JoiningData) × ReadsPieces word pieces deeds (Ok j) × Gives j result)
+
+-- WHAT `join` DOES: all pieces are opened before any is read, and the file is made after all are read: its text, whole, and then the line, with status 0
+abbrev pub JoinsPieces : (names : List (List ℕ)) → (force : Bool) → (made : List ℕ) → FormWord → List Deed → Answered → Stream → Type 0
+JoinsPieces names force made word deeds answered out =
+    ((fault : Fault) × OpensPiecesSpared names force made deeds (Err fault) × (answered ≡ Err fault) × Keeps out.old out.new)
+    ⊎ ((pieces : List Seen) × (opened read : List Deed) × (fault : Fault) × OpensPiecesSpared names force made opened (Ok pieces) × ReadsAndGives word pieces read (Err fault)
+    × (deeds ≡ opened ++ read) × (answered ≡ Err fault) × Keeps out.old out.new)
+    ⊎ ((pieces : List Seen) × (opened read rest : List Deed) × (file : JoinedFile) × OpensPiecesSpared names force made opened (Ok pieces) × ReadsAndGives word pieces read (Ok file)
+    × (deeds ≡ opened ++ read ++ rest) × MakesFile (PutsBoth file.joint.text (string_bytes file.line)) force made rest answered out)

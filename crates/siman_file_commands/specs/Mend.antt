@@ -1,0 +1,55 @@
+-- What `mend` makes of a recording, and its ending.
+use Rattle.std.specs.Prelude.{◌≡◌, ◌⊎◌, ℕ, Bool, List, [], ◌∷◌, codes, Option, Some, None, Result, Ok, Err, string_bytes}
+use Rattle.exercise_recording.specs.declared.format_fault.FormatFault.{FormatFault}
+use Rattle.exercise_recording.specs.declared.format_fault.RecordingFault.TheVariants as recordings
+use Rattle.exercise_recording.specs.declared.mending.Mended.{Mended}
+use Rattle.exercise_recording.specs.FaultText.{format_fault_text}
+use Rattle.exercise_recording.specs.Mending.{Whole, mended_at, told_of}
+use Rattle.exercise_recording.specs.Text.{recording_text}
+use Rattle.siman_print.specs.Line.{Line, Number, Phrase, Keyed, Bare, named_line}
+use Rattle.siman_print.specs.Spelled.{line_text}
+use Rattle.siman_outside.specs.declared.fault.Fault.{Fault}
+use Rattle.siman_outside.specs.declared.fault.Fault.TheVariants.{Recording, Memory}
+use Rattle.siman_file_commands.specs.declared.mend.MendedFile.{MendedFile}
+use Rattle.siman_file_commands.specs.declared.mend.TheConstants.{LARGEST_TORN_RECORDING}
+use Rattle.siman_print.specs.CountLine.{counted}
+use Rattle.siman_outside.specs.Making.{MakesFile, PutsBoth}
+use Rattle.siman_outside.specs.Outside.{Has, Stream, Deed}
+
+-- the line `mended records=N kept=N FAULT`
+abbrev pub torn_line : Mended → FormatFault → Line
+torn_line told fault =
+    named_line (codes "mended") (Keyed (codes "records") (Number told.entries) ∷ Keyed (codes "kept") (Number told.kept)
+    ∷ Bare (codes "fault") (Phrase (format_fault_text fault)) ∷ [])
+
+-- the line of the answer: that line, or for a whole recording `whole records=N`
+abbrev pub told_line : Mended → Option FormatFault → Line
+told_line told None = counted (codes "whole") (codes "records") told.entries
+told_line told (Some fault) = torn_line told fault
+
+abbrev pub mended_text : Mended → List ℕ
+mended_text told = line_text (told_line told told.fault)
+
+-- NOTHING IS MENDED: the file has a fault that an interrupted recorder does not leave, a read failed, or memory ran out
+abbrev pub IsUnmended : Result Whole FormatFault → Fault → Type 0
+IsUnmended given fault =
+    ((bad : FormatFault) × (given ≡ Err bad) × (fault ≡ Recording (recordings.Format bad)))
+    ⊎ (fault ≡ Recording recordings.Read)
+    ⊎ (fault ≡ Memory)
+
+-- the texts of a mended recording: its whole part, and the line
+pub record MendsTexts (whole : Whole) (text line : List ℕ) : Type 0 where
+  pub text_is : text ≡ recording_text whole.recording
+  pub line_is : line ≡ mended_text (told_of whole)
+
+-- the mended recording with its texts, or the fault
+abbrev pub Mends : Result Whole FormatFault → Result MendedFile Fault → Type 0
+Mends given (Ok mended) = (whole : Whole) × (given ≡ Ok whole) × MendsTexts whole mended.mending.text (string_bytes mended.line)
+Mends given (Err fault) = IsUnmended given fault
+
+-- THE RESULT OF A FILE for `mend` with these bytes, if they are known, and the file made of it: the text of the whole part, and then the line, with status 0
+abbrev pub MendsFile : (known : Option (List ℕ)) → Result MendedFile Fault → Type 0
+MendsFile known mended = (bytes : List ℕ) × Has known bytes × Mends (mended_at LARGEST_TORN_RECORDING bytes) mended
+
+abbrev pub MakesMended : MendedFile → (force : Bool) → (name : List ℕ) → List Deed → Result ℕ Fault → (out : Stream) → Type 0
+MakesMended mended force name = MakesFile (PutsBoth mended.mending.text (string_bytes mended.line)) force name

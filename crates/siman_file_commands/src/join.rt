@@ -1,0 +1,224 @@
+//! The command `join`: puts pieces of a recording together.
+
+ghost use Rattle.std.specs.Prelude.{◌≡◌, ℕ, List, Option, IfOk, map, string_bytes};
+ghost use Rattle.std.specs.List.{All};
+ghost use Rattle.siman_outside.specs.Outside.{Deed, Found, Adds, WasHeld, Stream};
+ghost use Rattle.siman_file_commands.specs.Join.{word_of, opened_by, seen_by, form_word, joined_text, IsToldOf, OpensPieces, OpensPiecesSpared, TakesPiece, ReadsPieces, Gives, ReadsAndGives, JoinsPieces};
+
+use exercise_model::Form;
+use exercise_recording::{FormWord, JoinFault, Joined, Joining, Joint};
+use siman_command_line::JoinForm;
+use siman_outside::{
+    Fault, JoinLimit, LARGEST_RECORDING, Making, Outside, make_file, open_apart, settle_and_say,
+    spare,
+};
+use siman_print::{Field, Value, named_line};
+use std::alloc::{AllocError, Global};
+use std::convert::AsStr;
+use std::io::{Read, Write};
+
+/// An opened piece.
+#[derive(Drop)]
+pub(crate) struct OpenPiece<'a, F> {
+    /// Name of the piece, as it was given.
+    pub name: &'a str,
+    pub file: F,
+}
+
+/// The joined pieces, to be written, and the line of the answer.
+#[derive(Drop)]
+pub(crate) struct JoinedFile {
+    pub joint: Joint,
+    pub line: String,
+}
+
+/// The form that the words ask for, if they do.
+pub fn word_of(form: Option<JoinForm>) -> FormWord
+    ensures { result ≡ word_of form }
+{
+    match form {
+        None => FormWord::Unsaid,
+        Some(JoinForm::Open) => FormWord::Open,
+        Some(JoinForm::Closed) => FormWord::Closed,
+    }
+}
+
+/// The fault for pieces that are not joined; the fault of a single piece has its name.
+fn told_of(fault: JoinFault, name: &str) -> Fault<'_>
+    ensures { IsToldOf fault name.now result }
+{
+    match fault {
+        JoinFault::Recording(fault) => Fault::Piece(fault, name),
+        JoinFault::Exercise => Fault::OtherExercise(name),
+        JoinFault::Station(address) => {
+            Fault::StationTwice(address.site(), address.application(), name)
+        }
+        JoinFault::Stations => Fault::Joined(JoinLimit::Stations),
+        JoinFault::Records => Fault::Joined(JoinLimit::Records),
+        JoinFault::Size => Fault::Joined(JoinLimit::Size),
+        JoinFault::Write => Fault::Output,
+        JoinFault::Memory => Fault::Memory,
+    }
+}
+
+/// Name of a form of the second format.
+fn form_word(form: Form) -> &'static str
+    ensures { result.now ≡ form_word form }
+{
+    match form {
+        Form::Open => "open",
+        Form::First | Form::Closed => "closed",
+    }
+}
+
+/// The line of the answer: numbers of pieces, stations and records, and the form.
+fn joined_line(alloc: Global, told: Joined) -> Result<String, AllocError>
+    ensures { IfOk result (λ line. string_bytes line ≡ joined_text told) }
+{
+    let fields = [
+        Field::Keyed("pieces", Value::Number(told.pieces as u64)),
+        Field::Keyed("stations", Value::Number(u64::from(told.stations))),
+        Field::Keyed("records", Value::Number(u64::from(told.entries))),
+        Field::Keyed("form", Value::Word(form_word(told.form))),
+    ];
+    named_line(alloc, "joined", &fields)
+}
+
+/// Opens pieces in the order of their names. `SameAs` if one is the file to be made.
+fn open_pieces<'a, S: AsStr, O: Outside>(
+    alloc: Global,
+    names: &'a [S],
+    new: &'a str,
+    outside: &mut O,
+) -> Result<Vec<OpenPiece<'a, O::Opened>>, Fault<'a>>
+    ensures { (deeds : List Deed) × Adds (O.deeds outside.old) (O.deeds outside.new) deeds × All (WasHeld (O.holds outside.old)) deeds × OpensPieces (map S.text names.now) new.now deeds (opened_by O.bytes result) }
+{
+    let mut pieces = Vec::new(alloc);
+    for name in names {
+        let name = name.as_str();
+        let file = open_apart((name, new), outside)?;
+        match pieces.push(OpenPiece { name, file }) {
+            Ok(()) => {}
+            Err(_) => return Err(Fault::Memory),
+        }
+    }
+    Ok(pieces)
+}
+
+/// Opens pieces as [`open_pieces`] does; `Exists` if the name of the file to be made has a file to
+/// replace, unless `force` is set.
+fn open_spared<'a, S: AsStr, O: Outside>(
+    alloc: Global,
+    names: &'a [S],
+    new: &'a str,
+    force: bool,
+    outside: &mut O,
+) -> Result<Vec<OpenPiece<'a, O::Opened>>, Fault<'a>>
+    ensures { (deeds : List Deed) × Adds (O.deeds outside.old) (O.deeds outside.new) deeds × All (WasHeld (O.holds outside.old)) deeds × OpensPiecesSpared (map S.text names.now) force new.now deeds (opened_by O.bytes result) }
+{
+    let pieces = open_pieces(alloc, names, new, outside)?;
+    spare(new, force, outside)?;
+    Ok(pieces)
+}
+
+/// Reads an opened piece and appends it to the others.
+fn take_piece<'a, O: Outside>(
+    alloc: Global,
+    joining: &mut Joining,
+    piece: OpenPiece<'a, O::Opened>,
+    outside: &mut O,
+) -> Result<(), Fault<'a>>
+    ensures { (deeds : List Deed) × Adds (O.deeds outside.old) (O.deeds outside.new) deeds × ((holds : List ℕ → Option Found) → All (WasHeld holds) deeds) × TakesPiece (seen_by O.bytes piece.entry) joining.old deeds result joining.new }
+{
+    let file = outside.read(piece.file);
+    match joining.add(alloc, file, LARGEST_RECORDING) {
+        Ok(()) => Ok(()),
+        Err(fault) => Err(told_of(fault, piece.name)),
+    }
+}
+
+/// Reads opened pieces one after the other and joins them.
+fn read_pieces<'a, O: Outside>(
+    alloc: Global,
+    word: FormWord,
+    pieces: Vec<OpenPiece<'a, O::Opened>>,
+    outside: &mut O,
+) -> Result<Joining, Fault<'a>>
+    ensures { (deeds : List Deed) × Adds (O.deeds outside.old) (O.deeds outside.new) deeds × ((holds : List ℕ → Option Found) → All (WasHeld holds) deeds) × ReadsPieces word (map (seen_by O.bytes) pieces.entry.items) deeds result }
+{
+    let mut pieces = pieces;
+    let mut joining = Joining::start(alloc, word);
+    while !pieces.is_empty() {
+        let piece = pieces.remove(0);
+        take_piece(alloc, &mut joining, piece, outside)?;
+    }
+    Ok(joining)
+}
+
+/// The joined file of all pieces, with the line of the answer.
+fn give(alloc: Global, joining: Joining) -> Result<JoinedFile, Fault<'static>>
+    ensures { Gives joining result }
+{
+    let joint = match joining.end(alloc, LARGEST_RECORDING) {
+        Ok(joint) => joint,
+        Err(fault) => return Err(told_of(fault, "")),
+    };
+    let line = joined_line(alloc, joint.told())?;
+    Ok(JoinedFile { joint, line })
+}
+
+/// The file of the joined pieces.
+impl Making for JoinedFile {
+    ghost use Rattle.std.specs.Prelude.{string_bytes};
+    ghost use Rattle.siman_outside.specs.Making.{PutsBoth};
+
+    ghost puts = { λ joined. PutsBoth joined.joint.text (string_bytes joined.line) };
+
+    fn put<F: Write, W: Write>(
+        &self,
+        _alloc: Global,
+        file: &mut F,
+        out: &mut W,
+    ) -> Result<u8, Fault<'static>> {
+        if self.joint.write(file).is_err() {
+            return Err(Fault::Output);
+        }
+        match settle_and_say(file, &self.line, out) {
+            Ok(()) => Ok(0),
+            Err(fault) => Err(fault),
+        }
+    }
+}
+
+/// Reads the opened pieces and joins them.
+fn read_and_give<'a, O: Outside>(
+    alloc: Global,
+    word: FormWord,
+    pieces: Vec<OpenPiece<'a, O::Opened>>,
+    outside: &mut O,
+) -> Result<JoinedFile, Fault<'a>>
+    ensures { (deeds : List Deed) × Adds (O.deeds outside.old) (O.deeds outside.new) deeds × ((holds : List ℕ → Option Found) → All (WasHeld holds) deeds) × ReadsAndGives word (map (seen_by O.bytes) pieces.entry.items) deeds result }
+{
+    let joining = read_pieces(alloc, word, pieces, outside)?;
+    give(alloc, joining)
+}
+
+/// Opens pieces in the order of their names, reads them one after the other, and makes a file of
+/// all of them, in the form that the word asks for; the file replaces an existing one (`force`) or
+/// not.
+pub fn join_pieces<'a, S: AsStr, O: Outside, W: Write>(
+    alloc: Global,
+    names: &'a [S],
+    new: &'a str,
+    force: bool,
+    word: FormWord,
+    outside: &mut O,
+    out: &mut W,
+) -> Result<u8, Fault<'a>>
+    ensures { let out : Stream = record { old = W.contents out.old; new = W.contents out.new } in
+        (deeds : List Deed) × Adds (O.deeds outside.old) (O.deeds outside.new) deeds × All (WasHeld (O.holds outside.old)) deeds × JoinsPieces (map S.text names.now) force new.now word deeds result out }
+{
+    let pieces = open_spared(alloc, names, new, force, outside)?;
+    let joined = read_and_give(alloc, word, pieces, outside)?;
+    make_file(alloc, &joined, new, force, outside, out)
+}

@@ -1,6 +1,0 @@
-mod Readings
-mod Tellings
-mod Shown
-mod Verdicts
-mod Conversions
-mod JoinedPieces

@@ -1,5 +1,0 @@
--- The command ends as what it told says.
-use Rattle.siman_files.proofs.pdu.pdu_command.Goals as goal
-
-pub returns-clause-ends : goal.returns-clause-ends
-returns-clause-ends g c = (c.tell_word.result, c.tell_word.ensures, (c.end.result.written, c.end.ensures))

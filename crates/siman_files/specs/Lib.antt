@@ -1,8 +1,0 @@
-pub mod HexText
-pub mod Answer
-pub mod Pdus
-pub mod Show
-pub mod Check
-pub mod Convert
-pub mod Mend
-pub mod Join

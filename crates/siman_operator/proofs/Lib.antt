@@ -1,0 +1,17 @@
+pub mod NotedLemmas
+pub mod Lines
+pub mod Prints
+pub mod OneTurn
+pub mod Going
+pub mod Taking
+pub mod Leaving
+pub mod Single
+pub mod Explaining
+pub mod Offered
+pub mod LineReadings
+pub mod SessionLines
+pub mod Reasons
+pub mod Alone
+pub mod Played
+pub mod Ended
+pub mod Leavings

@@ -1,0 +1,43 @@
+-- The end of a session (profile).
+use Rattle.std.specs.Prelude.{◌≡◌, ◌⊎◌, ℕ, true, List, [], ◌∷◌, codes, Option, Some, None, Result, Ok, Err}
+use Rattle.std.specs.Io.KnownBytes.{Appends, Keeps}
+use Rattle.byte_files.specs.Writing.{WritesPart}
+use Rattle.exercise_recording.specs.Text.{end_text}
+use Rattle.exercise_recording.specs.Writer.{WriterState, Finishes, Tears, finish_refusal}
+use Rattle.siman_print.specs.Line.{Number, Keyed, Line, named_line}
+use Rattle.siman_print.specs.Spelled.{line_text}
+use Rattle.siman_operator.specs.declared.post.Post.{Post}
+use Rattle.siman_operator.specs.declared.printing.PrintFault.{PrintFault}
+use Rattle.siman_operator.specs.declared.printing.PrintFault.TheVariants as prints
+
+-- station records=N dropped=N strangers=N
+abbrev pub session_line : (records dropped strangers : ℕ) → Line
+session_line records dropped strangers =
+    named_line (codes "station") (Keyed (codes "records") (Number records) ∷ Keyed (codes "dropped") (Number dropped)
+    ∷ Keyed (codes "strangers") (Number strangers) ∷ [])
+
+abbrev pub session_text : (records dropped strangers : ℕ) → List ℕ
+session_text records dropped strangers = line_text (session_line records dropped strangers)
+
+-- THE ROW OF COUNTS is printed: whole; a prefix, or all of it, if a write or a flush failed; nothing, if memory ran
+-- out
+abbrev pub PrintsCounts : List ℕ → (old new : Option (List ℕ)) → Result (Unit {0}) PrintFault → Type 0
+PrintsCounts text old new (Ok x) = Appends old new text
+PrintsCounts text old new (Err prints.Write) = WritesPart old new text
+PrintsCounts text old new (Err prints.Memory) = Keeps old new
+
+-- the row of counts; nothing, if an entry was not printed before
+abbrev pub PrintsEnd : Option PrintFault → List ℕ → (old new : Option (List ℕ)) → Result (Unit {0}) PrintFault → Type 0
+PrintsEnd None text old new closed = PrintsCounts text old new closed
+PrintsEnd (Some fault) text old new closed = (closed ≡ Ok tt) × (new ≡ old)
+
+-- the recording has no end: it was spent before, or a prefix of the end was written
+abbrev pub IsUnended : (old new : WriterState) → Type 0
+IsUnended old new = ((old.spent ≡ true) × (new ≡ old)) ⊎ ((finish_refusal old ≡ None) × Tears old new (end_text old.entries))
+
+-- THE RECORDING IS ENDED and its counts are printed; or the end failed, and nothing is printed
+abbrev pub Closes : {L : Type 0} → (strangers : L → ℕ) → Post L → (w v : WriterState) → (old new : Option (List ℕ)) → Result (Unit {0}) PrintFault → Type 0
+Closes strangers post w v old new closed =
+    (IsUnended w v × (closed ≡ Err prints.Write) × (new ≡ old))
+    ⊎ ((finish_refusal w ≡ None) × Finishes w v
+    × PrintsEnd post.printer.fault (session_text v.entries post.station.dropped (strangers post.station.line.line)) old new closed)

@@ -1,0 +1,79 @@
+-- THE STATION OF A POST: its link logs what goes through it, and the rows of its entries are printed as they are
+-- recorded (profile).
+use Rattle.std.specs.Prelude.{◌≡◌, ℕ, ◌+◌, ◌-◌, ◌^◌, min, ◌==◌, List, length, Option, Some, Result, Ok, Err, ◌++◌}
+use Rattle.std.specs.Bool.{MatchBool}
+use Rattle.exercise_model.specs.Entry.{Entry, Sent, Received}
+use Rattle.exercise_recording.specs.Writer.{WriterState}
+use Rattle.siman_stations.specs.declared.turn.Node.{Node}
+use Rattle.siman_lines.specs.declared.fault.ServeFault.{ServeFault}
+use Rattle.siman_lines.specs.declared.served.Served.{Served}
+use Rattle.siman_lines.specs.declared.station_at_line.StationAtLine.{StationAtLine}
+use Rattle.siman_lines.specs.AtLines.{Telling, state_at}
+use Rattle.siman_lines.specs.KeptAtLine.{IsWritten, IsKept}
+use Rattle.siman_lines.specs.LineDatagrams.{Datagrams}
+use Rattle.siman_lines.specs.Serving.{ServeEnds}
+use Rattle.siman_operator.specs.declared.noting.NotingLine.{NotingLine}
+use Rattle.siman_operator.specs.Noted.{last_of}
+use Rattle.siman_operator.specs.Noting.{sent_through, received_through}
+use Rattle.siman_operator.specs.Printing.{Printing, line_of, IsPrinted, PrintsLine, PrintsNothing, FallsSilent}
+
+-- Printing.
+
+-- the printing of a sent datagram, if one was recorded since the recording had so many entries and the link had
+-- sent so many datagrams
+abbrev pub PrintsSent : {L : Type 0} → StationAtLine (NotingLine L) → (exercise recorded now entries sent : ℕ) → (old new : Printing) → Type 0
+PrintsSent p x recorded now entries sent old new =
+    MatchBool (recorded == entries) (PrintsNothing old new)
+    (MatchBool (length (sent_through p.line) == sent) (FallsSilent old new)
+    (PrintsLine (line_of x entries (Sent p.index now (last_of (sent_through p.line)))) old new))
+
+-- the printing of a turn, since the link had also returned so many datagrams
+abbrev pub PrintsTurn : {L : Type 0} → StationAtLine (NotingLine L) → (exercise recorded now entries received sent : ℕ) → (old new : Printing) → Type 0
+PrintsTurn p x recorded now entries received sent old new =
+    MatchBool (recorded == entries) (PrintsNothing old new)
+    (MatchBool (length (received_through p.line) - received == 1)
+    ((mid : Printing) × PrintsLine (line_of x entries (Received p.index now (last_of (received_through p.line)))) old mid
+    × PrintsSent p x recorded now (entries + 1) sent mid new)
+    (FallsSilent old new))
+
+-- The invariant.
+
+-- the number of dropped datagrams after a service
+abbrev pub dropped_after : ℕ → Result Served ServeFault → ℕ
+dropped_after n (Ok served) = min (n + served.dropped) (2 ^ 64 - 1)
+dropped_after n (Err fault) = n
+
+-- THE STATION IS SERVED FOR ONE RECEIVE
+pub record ServesOnce {L : Type 0} (told : Telling L) (now : ℕ) (p : StationAtLine L) (w : WriterState) (q : StationAtLine L) (v : WriterState)
+    (result : Result Served ServeFault) : Type 0 where
+  pub ends : ServeEnds p.index now 1 (state_at told p w) (state_at told q v) result
+  pub index : q.index ≡ p.index
+  pub dropped : q.dropped ≡ dropped_after p.dropped result
+  pub busy : q.busy ≡ p.busy
+
+-- the station of a post, with its recorder, its exercise and its printing
+pub record PostState (L : Type 0) : Type 0 where
+  pub station : StationAtLine (NotingLine L)
+  pub recorder : WriterState
+  pub exercise : ℕ
+  pub printing : Printing
+
+-- if some entries are written whole and the invariant of a station holds, more entries are, and it holds of them
+abbrev pub KeepsAll : ℕ → (n : Node) → (w : WriterState) → (handed : Datagrams) → (m : Node) → (v : WriterState) → (handed_after : Datagrams) → Type 0
+KeepsAll s n w handed m v handed_after =
+    (before : Option (List ℕ)) (es : List Entry) → IsWritten before w es → IsKept s n w es (Some handed)
+    → (more : List Entry) × (v.setting ≡ w.setting) × IsWritten before v (es ++ more) × IsKept s m v (es ++ more) (Some handed_after)
+
+-- if some entries are written whole and their rows are printed, more entries are, and the rows of all of them
+abbrev pub PrintsAll : (exercise : ℕ) → (w v : WriterState) → (old new : Printing) → Type 0
+PrintsAll x w v old new =
+    (before start : Option (List ℕ)) (es : List Entry) → IsWritten before w es → IsPrinted start x es old
+    → (more : List Entry) × IsWritten before v (es ++ more) × IsPrinted start x (es ++ more) new
+
+-- A POST GOES ON, with faults too: the station and the exercise do not change, the invariant is preserved, and the
+-- printed rows are those of its entries
+pub record GoesOn {L : Type 0} (old new : PostState L) : Type 0 where
+  pub index : new.station.index ≡ old.station.index
+  pub exercise : new.exercise ≡ old.exercise
+  pub keeps : KeepsAll old.station.index old.station.node old.recorder (sent_through old.station.line) new.station.node new.recorder (sent_through new.station.line)
+  pub prints : PrintsAll old.exercise old.recorder new.recorder old.printing new.printing

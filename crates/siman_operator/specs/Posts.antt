@@ -1,0 +1,69 @@
+-- A POST takes lines of text (profile).
+use Rattle.std.specs.Bool.{MatchBool}
+use Rattle.std.specs.Prelude.{◌≡◌, ℕ, Bool, true, false, ◌||◌, List, [], Option, None, Result, Ok, Err, if◌then◌else◌}
+use Rattle.dis_records.specs.Address.{Pair}
+use Rattle.exercise_recording.specs.Writer.{WriterState}
+use Rattle.siman_stations.specs.declared.turn.Node.{Node}
+use Rattle.siman_lines.specs.declared.station_at_line.StationAtLine.{StationAtLine}
+use Rattle.siman_lines.specs.AtLines.{Telling}
+use Rattle.siman_scripts.specs.declared.command.Command.{Command}
+use Rattle.siman_operator.specs.declared.noting.NotingLine.{NotingLine}
+use Rattle.siman_operator.specs.declared.obeying.Undone.{Undone}
+use Rattle.siman_operator.specs.declared.obeying.Undone.TheVariants as undone
+use Rattle.siman_operator.specs.declared.post.LineCame.{LineCame}
+use Rattle.siman_operator.specs.declared.post.Post.{Post}
+use Rattle.siman_operator.specs.declared.turns.Trouble.{Trouble}
+use Rattle.siman_operator.specs.Noting.{sent_through, received_through}
+use Rattle.siman_operator.specs.Obeying.{Obeys}
+use Rattle.siman_operator.specs.Turns.{TakesTurns}
+
+-- A POST IN ITS INITIAL STATE: station 0 with this node, whose link was passed nothing and returned nothing, and
+-- whose clock shows 0; printing has not failed
+pub record IsBegun {L : Type 0} (exercise : ℕ) (address : Pair) (node : Node) (post : Post L) : Type 0 where
+  pub index : post.station.index ≡ 0
+  pub node_is : post.station.node ≡ node
+  pub sent : sent_through post.station.line ≡ []
+  pub received : received_through post.station.line ≡ []
+  pub dropped : post.station.dropped ≡ 0
+  pub exercise_is : post.printer.exercise ≡ exercise
+  pub fault : post.printer.fault ≡ None
+  pub address_is : post.address ≡ address
+  pub clock : post.clock ≡ 0
+
+-- Results of lines.
+
+abbrev pub is_unrecorded : Result (Unit {0}) Undone → Bool
+is_unrecorded (Err undone.Record) = true
+is_unrecorded other = false
+
+abbrev pub is_unremembered : Result (Unit {0}) Undone → Bool
+is_unremembered (Err undone.Memory) = true
+is_unremembered other = false
+
+abbrev pub is_undone : Result (Unit {0}) Undone → Bool
+is_undone (Ok x) = false
+is_undone (Err why) = true
+
+-- an entry was not recorded
+abbrev pub is_over : LineCame → Bool
+is_over came = is_unrecorded came.done || came.trouble.recorder
+
+-- the exit status of a line
+abbrev pub worst : LineCame → ℕ
+worst came =
+    if is_unremembered came.done || came.trouble.memory then 3
+    else if is_undone came.done || (came.trouble.line || came.trouble.recorder) then 2
+    else 0
+
+abbrev pub no_trouble : Trouble
+no_trouble = record { line = false; memory = false; recorder = false }
+
+-- THE EFFECT OF A LINE at a post: it does what the line asks for, and is then served, unless an entry was not
+-- recorded
+pub record TakesLine {L : Type 0} (told : Telling (NotingLine L)) (said : Option Command) (old : Post L) (w : WriterState) (new : Post L) (v : WriterState)
+    (came : LineCame) : Type 0 where
+  pub mid : StationAtLine (NotingLine L)
+  pub recorder : WriterState
+  pub obeys : Obeys told old.address said old.clock new.clock old.station w mid recorder came.done
+  pub address : new.address ≡ old.address
+  pub serves : MatchBool (is_unrecorded came.done) ((came.trouble ≡ no_trouble) × (new.station ≡ mid) × (v ≡ recorder)) (TakesTurns told new.clock mid recorder new.station v came.trouble)

@@ -1,0 +1,151 @@
+-- A SESSION: one post, played by the lines of a text (profile).
+use Rattle.std.specs.Prelude.{◌≡◌, ℕ, ◌+◌, max, true, false, List, [], ◌∷◌, ◌++◌, map, Option, Some, None}
+use Rattle.std.specs.List.{AllByRecursion}
+use Rattle.byte_files.specs.Writing.{Writes}
+use Rattle.dis_records.specs.Address.{Pair}
+use Rattle.exercise_recording.specs.Writer.{WriterState}
+use Rattle.siman_lines.specs.AtLines.{Telling}
+use Rattle.siman_operator.specs.declared.noting.NotingLine.{NotingLine}
+use Rattle.siman_operator.specs.declared.post.Post.{Post}
+use Rattle.siman_operator.specs.declared.printing.PrintFault.{PrintFault}
+use Rattle.siman_operator.specs.Deeds.{PostState, GoesOn}
+use Rattle.siman_operator.specs.Noting.{telling}
+use Rattle.siman_operator.specs.Posts.{TakesLine, is_over}
+use Rattle.siman_operator.specs.declared.came.Came.{Came}
+use Rattle.siman_operator.specs.declared.playing.Played.{Played}
+use Rattle.siman_operator.specs.declared.playing.Stop.{Stop}
+use Rattle.siman_operator.specs.declared.playing.Stop.TheVariants as stops
+use Rattle.siman_operator.specs.declared.told.Told.{Told}
+use Rattle.siman_operator.specs.Came.{status_of, told_of}
+use Rattle.siman_operator.specs.Closing.{Closes}
+use Rattle.siman_operator.specs.Reading.{said_by, AreLines, AreFirstLines}
+use Rattle.siman_operator.specs.Reason.{Reasons}
+use Rattle.siman_operator.specs.Receiver.{WarnsOf}
+use Rattle.siman_operator.specs.Told.{TellsMore, closed_status, closed_text, unread_text}
+use Rattle.std.specs.Prelude.{Result}
+
+-- Lines.
+
+-- why printing stopped at this line; none, if it goes on or had stopped before
+abbrev pub silenced_by : (before after : Option PrintFault) → Option PrintFault
+silenced_by None after = after
+silenced_by (Some fault) after = None
+
+-- a post with its recorder
+pub record AtRecorder (L : Type 0) : Type 0 where
+  pub post : Post L
+  pub recorder : WriterState
+
+-- a line and its result
+pub record Taken : Type 0 where
+  pub line : List ℕ
+  pub came : Came
+
+-- A LINE IS TAKEN as the command that it says; a bad line has its reason in the result, and an order that no
+-- station of the script receives has its receiver there
+pub record TakesOne {L : Type 0} (stations : List Pair) (told : Telling (NotingLine L)) (t : Taken) (old new : AtRecorder L) : Type 0 where
+  pub takes : TakesLine told (said_by t.line) old.post old.recorder new.post new.recorder t.came.line
+  pub silenced : t.came.silenced ≡ silenced_by old.post.printer.fault new.post.printer.fault
+  pub site : t.came.site ≡ old.post.address.site
+  pub application : t.came.application ≡ old.post.address.application
+  pub reason : Reasons t.line t.came.line.done t.came.reason
+  pub nobody : WarnsOf stations (said_by t.line) t.came.line.done t.came.nobody
+
+-- LINES ARE TAKEN, one after the other
+abbrev pub TakesAll : {L : Type 0} → (stations : List Pair) → Telling (NotingLine L) → List Taken → (old new : AtRecorder L) → Type 0
+TakesAll stations told [] old new = new ≡ old
+TakesAll {L} stations told (t ∷ ts) old new = (mid : AtRecorder L) × TakesOne stations told t old mid × TakesAll stations told ts mid new
+
+abbrev pub lines_in : List Taken → List (List ℕ)
+lines_in ts = map (λ t. t.line) ts
+
+-- THE REPORT OF LINES, given the number of the first
+abbrev pub told_from : (number : ℕ) → List Taken → List ℕ
+told_from n [] = []
+told_from n (t ∷ ts) = told_of n t.came ++ told_from (n + 1) ts
+
+-- the worst exit status of lines
+abbrev pub worst_of : List Taken → ℕ
+worst_of [] = 0
+worst_of (t ∷ ts) = max (status_of t.came) (worst_of ts)
+
+-- The stop.
+
+-- after each of these lines a further line may be taken
+abbrev pub MayGoOn : List Taken → Type 0
+MayGoOn ts = AllByRecursion (λ t. is_over t.came.line ≡ false) ts
+
+-- an entry was not recorded at the last of these lines, and at no other
+abbrev pub IsOver : List Taken → Type 0
+IsOver ts = (front : List Taken) × (last : Taken) × (ts ≡ front ++ last ∷ []) × MayGoOn front × (is_over last.came.line ≡ true)
+
+-- WHY NO FURTHER LINE IS TAKEN: all lines of the text were taken; or only the first ones, since a read failed or an
+-- entry was not recorded at the last one
+abbrev pub Stops : (known : Option (List ℕ)) → Stop → List Taken → Type 0
+Stops known stops.End ts = MayGoOn ts × AreLines known (lines_in ts)
+Stops known stops.Unread ts = MayGoOn ts × AreFirstLines known (lines_in ts)
+Stops known stops.Unrecorded ts = IsOver ts × AreFirstLines known (lines_in ts)
+
+-- THE LINES OF A TEXT ARE PLAYED: taken up to the stop, and reported, with their worst status
+pub record PlaysLines {L : Type 0} (stations : List Pair) (told : Telling (NotingLine L)) (known : Option (List ℕ)) (old new : AtRecorder L)
+    (errors errors_after : Option (List ℕ)) (played : Played) : Type 0 where
+  pub taken : List Taken
+  pub takes : TakesAll stations told taken old new
+  pub stops : Stops known played.stop taken
+  pub status : played.told.status ≡ worst_of taken
+  pub tells : Writes played.told.written errors errors_after (told_from 1 taken)
+
+-- The whole session.
+
+-- a post with its recorder, and the output of its entries
+pub record AtPost (L : Type 0) : Type 0 where
+  pub post : Post L
+  pub recorder : WriterState
+  pub out : Option (List ℕ)
+
+-- the state of the post in it
+abbrev pub going : {L : Type 0} → AtPost L → PostState L
+going a = record {
+  station = a.post.station;
+  recorder = a.recorder;
+  exercise = a.post.printer.exercise;
+  printing = record { out = a.out; fault = a.post.printer.fault };
+}
+
+-- the recording is ended and its counts are printed, and a failure of either is reported
+pub record ClosesAt {L : Type 0} (strangers : L → ℕ) (post : Post L) (w v : WriterState) (out out_after : Option (List ℕ)) (before after : Told)
+    (errors errors_after : Option (List ℕ)) : Type 0 where
+  pub closed : Result (Unit {0}) PrintFault
+  pub closes : Closes strangers post w v out out_after closed
+  pub status : after.status ≡ max before.status (closed_status closed)
+  pub tells : TellsMore before.written after.written errors errors_after (closed_text closed)
+
+-- a failed read is reported
+pub record TellsUnread (before after : Told) (errors errors_after : Option (List ℕ)) : Type 0 where
+  pub status : after.status ≡ max before.status 2
+  pub tells : TellsMore before.written after.written errors errors_after unread_text
+
+-- THE END OF A SESSION, by why its lines stopped: at the end of the text, or after a failed read, the recording is
+-- ended; if an entry was not recorded, nothing more is done
+abbrev pub EndsSession : {L : Type 0} → (strangers : L → ℕ) → Post L → Stop → (w v : WriterState) → (out out_after : Option (List ℕ)) → (before after : Told)
+    → (errors errors_after : Option (List ℕ)) → Type 0
+EndsSession strangers post stops.End w v out out_after before after errors errors_after =
+    ClosesAt strangers post w v out out_after before after errors errors_after
+EndsSession strangers post stops.Unread w v out out_after before after errors errors_after =
+    (told : Told) × (mid : Option (List ℕ)) × TellsUnread before told errors mid × ClosesAt strangers post w v out out_after told after mid errors_after
+EndsSession strangers post stops.Unrecorded w v out out_after before after errors errors_after =
+    (v ≡ w) × (out_after ≡ out) × (after ≡ before) × (errors_after ≡ errors)
+
+-- A POST IS PLAYED by the lines of a text, to the end, with these stations in its script
+pub record Plays {L : Type 0} (stations : List Pair) (strangers : L → ℕ) (known : Option (List ℕ)) (old new : AtPost L) (errors errors_after : Option (List ℕ)) (told : Told) : Type 0 where
+  -- the post after the lines is the post at the end; intermediate values are its recorder, the output and the
+  -- reports
+  pub recorder : WriterState
+  pub out : Option (List ℕ)
+  pub told_so_far : Option (List ℕ)
+  pub played : Played
+  pub lines : let before : AtRecorder L = record { post = old.post; recorder = old.recorder } in
+      let after : AtRecorder L = record { post = new.post; recorder = recorder } in
+      PlaysLines stations (telling strangers) known before after errors told_so_far played
+  pub goes : let after : AtPost L = record { post = new.post; recorder = recorder; out = out } in GoesOn (going old) (going after)
+  pub ends : EndsSession strangers new.post played.stop recorder new.recorder out new.out played.told told told_so_far errors_after

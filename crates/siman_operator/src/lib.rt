@@ -1,0 +1,51 @@
+//! One station, commanded by lines of text, from the start of its recording to the end: a [`Post`]
+//! is the station at its link, and [`play`] is its session.
+//!
+//! A post takes one line of text after the other ([`Post::take_line`]), in the forms of the moves
+//! of a script: the station does what the line asks for, and is then served until no datagram is
+//! waiting. Each entry is recorded before its datagram is sent, and its row is printed, as `show`
+//! has it. [`play`] reads a text line by line, passes each line to a post, reports every line that
+//! failed with its number, and at the end of the text ends the recording and prints the counts. The
+//! crate opens no file and no socket and reads no clock: the caller passes in the link, the
+//! recorder, the text and both writers.
+//!
+//! The contract for the layer above: the effect of a line is `TakesLine` (`specs/Posts.antt`,
+//! `Obeying.antt`, `Turns.antt`), of a text `Plays` (`specs/Sessions.antt`, `Came.antt`,
+//! `Explanation.antt`, `Reason.antt`, `Receiver.antt`, `Reading.antt`); the laws say what every
+//! list of lines leaves ([`posts_keep_their_recordings`]), and that the recording of one station is
+//! explained ([`own_recordings_are_explained`]).
+#![tactic(auto)]
+
+mod came;
+mod closing;
+mod deeds;
+mod explanation;
+mod laws;
+mod noting;
+mod obeying;
+mod playing;
+mod post;
+mod printing;
+mod reading;
+mod reason;
+mod receiver;
+mod recorded;
+mod scripted;
+mod session;
+mod told;
+mod turns;
+
+pub use came::Came;
+pub use laws::{own_recordings_are_explained, posts_keep_their_recordings};
+pub use noting::NotingLine;
+pub use obeying::Undone;
+pub use playing::Stop;
+pub use post::{LineCame, Post};
+pub use printing::PrintFault;
+pub use reading::{LONGEST_LINE, read_line};
+pub use reason::BadReason;
+pub use recorded::{Ready, Recorded, record_session, stand};
+pub use scripted::{SetUp, SetUpFault, set_up};
+pub use session::play;
+pub use told::Told;
+pub use turns::Trouble;

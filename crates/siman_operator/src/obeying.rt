@@ -1,0 +1,139 @@
+//! The effect of a line of text at a post.
+
+ghost use Rattle.std.specs.Prelude.{◌≡◌};
+ghost use Rattle.siman_scripts.specs.Command.{command_of};
+ghost use Rattle.siman_operator.specs.Noting.{telling};
+ghost use Rattle.siman_operator.specs.Deeds.{PostState, GoesOn};
+ghost use Rattle.siman_operator.specs.Obeying.{undone_by, told_as, DoesTask, DoesAsked, Obeys};
+
+use crate::deeds::{order_at_post, repeat_at_post, tell_at_post};
+use crate::noting::NotingLine;
+use crate::printing::EntryPrinter;
+use dis_records::Address;
+use exercise_recording::RecordingWriter;
+use siman_lines::{AtLineFault, Line, StationAtLine};
+use siman_scripts::{Command, Task, read_command};
+use siman_stations::StationFault;
+use std::alloc::Global;
+use std::io::Write;
+
+/// Why a post did not do what a line asks for.
+#[derive(Clone, Copy, Debug, PartialEq, Eq)]
+pub enum Undone {
+    /// The line has no valid form.
+    BadLine,
+    /// It names another station.
+    UnknownStation,
+    /// The station refuses it, and is unchanged.
+    Station(StationFault),
+    /// A call of the link failed.
+    Line,
+    /// An entry was not recorded, and no further one will be.
+    Record,
+    /// Memory ran out.
+    Memory,
+}
+
+/// Reason of a fault at a station.
+fn undone_by(fault: AtLineFault) -> Undone
+    ensures { result ≡ undone_by fault }
+{
+    match fault {
+        AtLineFault::Station(fault) => Undone::Station(fault),
+        AtLineFault::Line => Undone::Line,
+        AtLineFault::Record(_) => Undone::Record,
+        AtLineFault::Memory => Undone::Memory,
+    }
+}
+
+/// Result of a call at a station, with the reason of its fault.
+fn told_as(done: Result<(), AtLineFault>) -> Result<(), Undone>
+    ensures { result ≡ told_as done }
+{
+    match done {
+        Ok(()) => Ok(()),
+        Err(fault) => Err(undone_by(fault)),
+    }
+}
+
+/// Makes the station do a task, and prints the row of what it recorded.
+fn do_task<L: Line + Drop, W: Write, O: Write>(
+    alloc: Global,
+    station: &mut StationAtLine<NotingLine<L>>,
+    printer: &mut EntryPrinter,
+    recorder: &mut RecordingWriter<'_, W>,
+    out: &mut O,
+    now: u64,
+    task: Task,
+) -> Result<(), AtLineFault>
+    ensures ends { DoesTask (telling L.strangers) now task station.old recorder.old station.new recorder.new result }
+    ensures goes { let old : PostState L = record { station = station.old; recorder = recorder.old; exercise = printer.old.exercise; printing = record { out = O.contents out.old; fault = printer.old.fault } } in
+        let new : PostState L = record { station = station.new; recorder = recorder.new; exercise = printer.new.exercise; printing = record { out = O.contents out.new; fault = printer.new.fault } } in
+        GoesOn old new }
+{
+    match task {
+        Task::Order(order) => order_at_post(alloc, station, printer, recorder, out, now, order),
+        Task::Repeat => repeat_at_post(alloc, station, printer, recorder, out, now),
+        Task::Tell(entity) => tell_at_post(station, printer, recorder, out, entity),
+    }
+}
+
+/// Makes the station do a task, if the line names its address.
+fn do_asked<L: Line + Drop, W: Write, O: Write>(
+    alloc: Global,
+    station: &mut StationAtLine<NotingLine<L>>,
+    printer: &mut EntryPrinter,
+    recorder: &mut RecordingWriter<'_, W>,
+    out: &mut O,
+    own: Address,
+    now: u64,
+    named: Address,
+    task: Task,
+) -> Result<(), Undone>
+    ensures ends { DoesAsked (telling L.strangers) own now named task station.old recorder.old station.new recorder.new result }
+    ensures goes { let old : PostState L = record { station = station.old; recorder = recorder.old; exercise = printer.old.exercise; printing = record { out = O.contents out.old; fault = printer.old.fault } } in
+        let new : PostState L = record { station = station.new; recorder = recorder.new; exercise = printer.new.exercise; printing = record { out = O.contents out.new; fault = printer.new.fault } } in
+        GoesOn old new }
+{
+    if named != own {
+        return Err(Undone::UnknownStation);
+    }
+    told_as(do_task(alloc, station, printer, recorder, out, now, task))
+}
+
+/// Does what a line asks for, given without its line feed: a task of the station at this address, a
+/// new time of its clock, or nothing.
+pub(crate) fn obey<L: Line + Drop, W: Write, O: Write>(
+    alloc: Global,
+    station: &mut StationAtLine<NotingLine<L>>,
+    printer: &mut EntryPrinter,
+    recorder: &mut RecordingWriter<'_, W>,
+    out: &mut O,
+    own: Address,
+    clock: &mut u64,
+    line: &[u8],
+) -> Result<(), Undone>
+    ensures ends { Obeys (telling L.strangers) own (command_of line.now) clock.old clock.new station.old recorder.old station.new recorder.new result }
+    ensures goes { let old : PostState L = record { station = station.old; recorder = recorder.old; exercise = printer.old.exercise; printing = record { out = O.contents out.old; fault = printer.old.fault } } in
+        let new : PostState L = record { station = station.new; recorder = recorder.new; exercise = printer.new.exercise; printing = record { out = O.contents out.new; fault = printer.new.fault } } in
+        GoesOn old new }
+{
+    let command = match read_command(alloc, line) {
+        Ok(Some(command)) => command,
+        Ok(None) => return Err(Undone::BadLine),
+        Err(_) => return Err(Undone::Memory),
+    };
+    match command {
+        Command::Nothing => Ok(()),
+        Command::At(now) => {
+            *clock = now;
+            Ok(())
+        }
+        Command::Asks { address, task } => {
+            let now = *clock;
+            do_asked(
+                alloc, station, printer, recorder, out, own, now, address, task,
+            )
+        }
+    }
+}

@@ -1,0 +1,135 @@
+//! The lines of a text, taken by a post one after the other.
+
+ghost use Rattle.std.specs.Prelude.{◌≡◌, ◌+◌, length};
+ghost use Rattle.siman_operator.specs.Deeds.{PostState, GoesOn};
+ghost use Rattle.siman_operator.specs.Noting.{telling};
+ghost use Rattle.siman_operator.specs.Posts.{TakesLine};
+ghost use Rattle.siman_operator.specs.declared.reading.TheConstants.{LONGEST_LINE};
+ghost use Rattle.siman_operator.specs.Reading.{said_by};
+ghost use Rattle.siman_operator.specs.Reason.{Reasons};
+ghost use Rattle.siman_operator.specs.Receiver.{WarnsOf};
+ghost use Rattle.siman_operator.specs.Sessions.{silenced_by, AtRecorder, PlaysLines};
+
+use crate::came::Came;
+use crate::reading::{LONGEST_LINE, handed, read_line};
+use crate::reason::reason_of;
+use crate::receiver::warned_of;
+use crate::told::Told;
+use crate::{Post, PrintFault};
+use dis_records::Address;
+use exercise_recording::RecordingWriter;
+use siman_lines::Line;
+use std::alloc::Global;
+use std::io::{Read, Write};
+
+/// Why no further line of a text is taken.
+#[derive(Clone, Copy, Debug)]
+pub enum Stop {
+    /// The text has ended.
+    End,
+    /// A read failed.
+    Unread,
+    /// An entry was not recorded.
+    Unrecorded,
+}
+
+/// Result of the lines of a text.
+#[derive(Clone, Copy)]
+pub(crate) struct Played {
+    pub(crate) told: Told,
+    pub(crate) stop: Stop,
+}
+
+/// Why printing stopped at this line; `None` if it goes on or had stopped before.
+fn silenced_by(before: Option<PrintFault>, after: Option<PrintFault>) -> Option<PrintFault>
+    ensures { result ≡ silenced_by before after }
+{
+    if before.is_some() { None } else { after }
+}
+
+/// Takes a line in a session of a script with these stations. `held` is the line, or its beginning
+/// if it is longer than the buffer.
+fn take_held<L: Line + Drop, W: Write, O: Write>(
+    alloc: Global,
+    stations: &[Address],
+    post: &mut Post<L>,
+    recorder: &mut RecordingWriter<'_, W>,
+    out: &mut O,
+    held: &[u8],
+) -> Came
+    ensures takes { TakesLine (telling L.strangers) (said_by held.now) post.old recorder.old post.new recorder.new result.line }
+    ensures silenced { result.silenced ≡ silenced_by post.old.printer.fault post.new.printer.fault }
+    ensures site { result.site ≡ post.old.address.site }
+    ensures application { result.application ≡ post.old.address.application }
+    ensures reason { Reasons held.now result.line.done result.reason }
+    ensures nobody { WarnsOf stations.now (said_by held.now) result.line.done result.nobody }
+    ensures goes { let old : PostState L = record { station = post.old.station; recorder = recorder.old; exercise = post.old.printer.exercise; printing = record { out = O.contents out.old; fault = post.old.printer.fault } } in
+        let new : PostState L = record { station = post.new.station; recorder = recorder.new; exercise = post.new.printer.exercise; printing = record { out = O.contents out.new; fault = post.new.printer.fault } } in
+        GoesOn old new }
+{
+    let before = post.print_fault();
+    let own = post.address();
+    let line = post.take_line(alloc, recorder, out, handed(held));
+    Came {
+        line,
+        silenced: silenced_by(before, post.print_fault()),
+        site: own.site(),
+        application: own.application(),
+        reason: reason_of(alloc, held, line.done),
+        trouble: post.line_trouble(),
+        nobody: warned_of(alloc, stations, held, line.done),
+    }
+}
+
+/// Takes the rest of the lines of a reader, each through the buffer, and reports for each what was
+/// not done, and a warning if no station of the script receives its order. Stops at the line at
+/// which an entry was not recorded.
+pub(crate) fn play_lines<L: Line + Drop, R: Read, W: Write, O: Write, E: Write>(
+    alloc: Global,
+    stations: &[Address],
+    post: &mut Post<L>,
+    recorder: &mut RecordingWriter<'_, W>,
+    reader: &mut R,
+    buffer: &mut [u8],
+    out: &mut O,
+    errors: &mut E,
+) -> Played
+    requires { length buffer.old ≡ LONGEST_LINE + 1 }
+    ensures plays { let old : AtRecorder L = record { post = post.old; recorder = recorder.old } in
+        let new : AtRecorder L = record { post = post.new; recorder = recorder.new } in
+        PlaysLines stations.now (telling L.strangers) (R.remaining reader.old) old new (E.contents errors.old) (E.contents errors.new) result }
+    ensures goes { let old : PostState L = record { station = post.old.station; recorder = recorder.old; exercise = post.old.printer.exercise; printing = record { out = O.contents out.old; fault = post.old.printer.fault } } in
+        let new : PostState L = record { station = post.new.station; recorder = recorder.new; exercise = post.new.printer.exercise; printing = record { out = O.contents out.new; fault = post.new.printer.fault } } in
+        GoesOn old new }
+{
+    let mut told = Told::nothing();
+    for number in 1..u64::MAX {
+        let held = match read_line(reader, buffer) {
+            Ok(Some(held)) => held,
+            Ok(None) => {
+                return Played {
+                    told,
+                    stop: Stop::End,
+                };
+            }
+            Err(_) => {
+                return Played {
+                    told,
+                    stop: Stop::Unread,
+                };
+            }
+        };
+        let came = take_held(alloc, stations, post, recorder, out, &buffer[..held]);
+        told = told.and_came(errors, number, came);
+        if came.line.is_over() {
+            return Played {
+                told,
+                stop: Stop::Unrecorded,
+            };
+        }
+    }
+    Played {
+        told,
+        stop: Stop::Unread,
+    }
+}

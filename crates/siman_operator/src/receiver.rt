@@ -1,0 +1,102 @@
+//! Receiver of an order for which the script may have no station.
+
+ghost use Rattle.std.specs.Prelude.{◌≡◌, ◌++◌, codes, decimal};
+ghost use Rattle.byte_files.specs.Writing.{Writes};
+ghost use Rattle.siman_print.specs.Records.{line_end};
+ghost use Rattle.siman_operator.specs.Reading.{said_by};
+ghost use Rattle.siman_operator.specs.Receiver.{gets, is_got, missing, nobody_of, WarnsOf, nobody_text};
+
+use crate::Undone;
+use crate::explanation::put_behind;
+use crate::reading::handed;
+use byte_files::{WriteFailed, put};
+use dis_records::Address;
+use siman_scripts::{Command, Task, read_command};
+use std::alloc::Global;
+use std::io::Write;
+
+/// The site number that means every site, and the application number that means every application.
+const EVERY: u16 = 0xFFFF;
+
+/// Whether the station with this address receives what is sent to this site and application.
+fn gets(address: Address, site: u16, application: u16) -> bool
+    ensures { result ≡ gets site application address }
+{
+    address.site() == site && (application == EVERY || address.application() == application)
+}
+
+/// Whether one of these stations receives what is sent to this site and application.
+fn is_got(stations: &[Address], site: u16, application: u16) -> bool
+    ensures { result ≡ is_got stations.now site application }
+{
+    stations
+        .iter()
+        .any(|address| gets(*address, site, application))
+}
+
+/// Site and application of an order, if none of these stations receives it.
+fn missing(stations: &[Address], site: u16, application: u16) -> Option<(u16, u16)>
+    ensures { result ≡ missing stations.now site application }
+{
+    if site == EVERY || is_got(stations, site, application) {
+        return None;
+    }
+    Some((site, application))
+}
+
+/// Receiver of a line's order, if none of these stations receives it.
+fn nobody_of(stations: &[Address], said: &Option<Command>) -> Option<(u16, u16)>
+    ensures { result ≡ nobody_of stations.now said.now }
+{
+    match said {
+        Some(
+            Command::Asks {
+                task: Task::Order(order),
+                ..
+            },
+        ) => missing(stations, order.target.site, order.target.application),
+        _ => None,
+    }
+}
+
+/// Receiver of a line's order, if the line was done and none of these stations receives it. `None`
+/// if memory ran out.
+pub(crate) fn warned_of(
+    alloc: Global,
+    stations: &[Address],
+    held: &[u8],
+    done: Result<(), Undone>,
+) -> Option<(u16, u16)>
+    ensures { WarnsOf stations.now (said_by held.now) done result }
+{
+    if done.is_err() {
+        return None;
+    }
+    match read_command(alloc, handed(held)) {
+        Ok(said) => nobody_of(stations, &said),
+        Err(_) => None,
+    }
+}
+
+/// Writes the application of the receiver, and what to do.
+fn put_nobody_there<E: Write>(errors: &mut E, application: u16) -> Result<(), WriteFailed>
+    ensures { Writes result (E.contents errors.old) (E.contents errors.new) ((codes ":" ++ decimal application) ++ (codes ": add it there, or see whether the address is right" ++ line_end)) }
+{
+    put_behind(errors, ":", application)?;
+    put(
+        errors,
+        b": add it there, or see whether the address is right\n",
+    )
+}
+
+/// Writes the address of a station that the script lacks, and what to do.
+pub(crate) fn put_nobody<E: Write>(
+    errors: &mut E,
+    site: u16,
+    application: u16,
+) -> Result<(), WriteFailed>
+    ensures { Writes result (E.contents errors.old) (E.contents errors.new) (nobody_text site application) }
+{
+    put_behind(errors, ": the script has no station ", site)?;
+    put_nobody_there(errors, application)
+}

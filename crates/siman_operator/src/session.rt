@@ -1,0 +1,89 @@
+//! A session: one post, played by the lines of a text until its end.
+
+ghost use Rattle.std.specs.Prelude.{◌≡◌, ◌+◌, length};
+ghost use Rattle.siman_operator.specs.Noting.{telling};
+ghost use Rattle.siman_operator.specs.declared.reading.TheConstants.{LONGEST_LINE};
+ghost use Rattle.siman_operator.specs.Sessions.{AtPost, ClosesAt, EndsSession, Plays};
+
+use crate::Post;
+use crate::closing::close;
+use crate::playing::{Played, Stop, play_lines};
+use crate::reading::LONGEST_LINE;
+use crate::told::Told;
+use dis_records::Address;
+use exercise_recording::RecordingWriter;
+use siman_lines::Line;
+use std::alloc::Global;
+use std::io::{Read, Write};
+
+/// Ends the recording, prints its counts, and reports a failure of either.
+fn close_session<L: Line + Drop, W: Write, O: Write, E: Write>(
+    alloc: Global,
+    post: &Post<L>,
+    recorder: &mut RecordingWriter<'_, W>,
+    told: Told,
+    out: &mut O,
+    errors: &mut E,
+) -> Told
+    ensures { ClosesAt L.strangers post.now recorder.old recorder.new (O.contents out.old) (O.contents out.new) told result (E.contents errors.old) (E.contents errors.new) }
+{
+    let closed = close(alloc, post, recorder, out);
+    told.and_closed(errors, closed)
+}
+
+/// Ends a session whose lines stopped for this reason. Ends the recording, unless an entry was not
+/// recorded.
+fn end_session<L: Line + Drop, W: Write, O: Write, E: Write>(
+    alloc: Global,
+    post: &Post<L>,
+    recorder: &mut RecordingWriter<'_, W>,
+    played: Played,
+    out: &mut O,
+    errors: &mut E,
+) -> Told
+    ensures { EndsSession L.strangers post.now played.stop recorder.old recorder.new (O.contents out.old) (O.contents out.new) played.told result (E.contents errors.old) (E.contents errors.new) }
+{
+    let told = played.told;
+    match played.stop {
+        Stop::End => close_session(alloc, post, recorder, told, out, errors),
+        Stop::Unread => {
+            let told = told.and_unread(errors);
+            close_session(alloc, post, recorder, told, out, errors)
+        }
+        Stop::Unrecorded => told,
+    }
+}
+
+/// Plays a post by the lines of a reader, to the end. Each line is read into the buffer of 65,537
+/// bytes and taken ([`Post::take_line`]); a line of more than 65,536 bytes is refused.
+///
+/// Reports, with the number of the line, from 1: a line that was not done, and a failed send or
+/// receive, each with a second line that explains it. Reports that memory ran out, and that an
+/// entry was not printed. Then warns of an order that none of `stations`, the stations of the
+/// script, receives. After all of these the session goes on. It ends at once when an entry was not
+/// recorded: this is reported, and no further line is read.
+///
+/// At the end of the text the recording is ended, and its counts are printed:
+/// `station records=N dropped=N strangers=N`. A failed read is reported (`file: -`) and also ends the
+/// text.
+///
+/// Returns the worst status: 3 if memory ran out, else 2 if anything failed or was not done, else
+/// 0.
+pub fn play<L: Line + Drop, R: Read, W: Write, O: Write, E: Write>(
+    alloc: Global,
+    stations: &[Address],
+    post: &mut Post<L>,
+    recorder: &mut RecordingWriter<'_, W>,
+    reader: &mut R,
+    buffer: &mut [u8],
+    out: &mut O,
+    errors: &mut E,
+) -> Told
+    requires { length buffer.old ≡ LONGEST_LINE + 1 }
+    ensures { let old : AtPost L = record { post = post.old; recorder = recorder.old; out = O.contents out.old } in
+        let new : AtPost L = record { post = post.new; recorder = recorder.new; out = O.contents out.new } in
+        Plays stations.now L.strangers (R.remaining reader.old) old new (E.contents errors.old) (E.contents errors.new) result }
+{
+    let played = play_lines(alloc, stations, post, recorder, reader, buffer, out, errors);
+    end_session(alloc, post, recorder, played, out, errors)
+}

@@ -1,0 +1,22 @@
+-- The faults of a trial.
+use Rattle.siman_scripts.specs.declared.script_fault.ScriptFault.{ScriptFault}
+use Rattle.siman_scripts.specs.declared.script_fault.ScriptFault.TheVariants as scripts
+use Rattle.siman_stations.specs.declared.world_fault.WorldFault.{WorldFault}
+use Rattle.siman_stations.specs.declared.world_fault.WorldFault.TheVariants as worlds
+use Rattle.siman_outside.specs.declared.input.InputFault.{InputFault}
+use Rattle.siman_outside.specs.declared.input.InputFault.TheVariants as inputs
+use Rattle.siman_outside.specs.declared.trial_fault.TrialFault.{TrialFault}
+use Rattle.siman_outside.specs.declared.trial_fault.TrialFault.TheVariants.{Read, Script, World, Memory}
+
+-- the trial's fault for a text that was not read whole, for the fault of a script, and for that of a world
+abbrev pub unread : InputFault → TrialFault
+unread (inputs.Unread failed) = Read failed
+unread inputs.Memory = Memory
+
+abbrev pub script_refused : ScriptFault → TrialFault
+script_refused scripts.Memory = Memory
+script_refused fault = Script fault
+
+abbrev pub world_refused : WorldFault → TrialFault
+world_refused worlds.Memory = Memory
+world_refused fault = World fault

@@ -1,0 +1,117 @@
+//! Making a file: writing it, reporting on it, and saving it.
+
+ghost use Rattle.std.specs.Prelude.{◌≡◌, ◌∷◌, [], ℕ, List, Option, Result};
+ghost use Rattle.std.specs.IoError.{error_kind};
+ghost use Rattle.std.specs.List.{All};
+ghost use Rattle.siman_outside.specs.declared.fault.Fault.{Fault};
+ghost use Rattle.siman_outside.specs.Outside.{Deed, Found, Adds, WasHeld, Stream};
+ghost use Rattle.siman_outside.specs.Making.{SaysSettled, PutsBlocked, unsaved, IsSaved, MakesFile};
+
+use crate::fault::{Fault, of_error};
+use crate::outside::Outside;
+use byte_files::put;
+use std::alloc::Global;
+use std::io;
+use std::io::{ErrorKind, Write};
+
+/// A value from which a command makes a file.
+pub trait Making {
+    /// The relation of the value to the status or fault, the made file and the output.
+    ghost puts: { Self → Result ℕ Fault → (file out : Stream) → Type 0 };
+
+    /// Writes the whole file, flushes it so that it survives a power loss, and then writes the
+    /// command's report. Returns the status.
+    fn put<F: Write, W: Write>(
+        &self,
+        alloc: Global,
+        file: &mut F,
+        out: &mut W,
+    ) -> Result<u8, Fault<'static>>
+        ensures { let file : Stream = record { old = F.contents file.old; new = F.contents file.new } in
+            let out : Stream = record { old = W.contents out.old; new = W.contents out.new } in
+            puts self.now result file out };
+}
+
+/// Flushes a file, so that it survives a power loss, and then writes a line.
+pub fn settle_and_say<F: Write, W: Write>(
+    file: &mut F,
+    line: &str,
+    out: &mut W,
+) -> Result<(), Fault<'static>>
+    ensures { let file : Stream = record { old = F.contents file.old; new = F.contents file.new } in
+        let out : Stream = record { old = W.contents out.old; new = W.contents out.new } in
+        SaysSettled line.now result file out }
+{
+    if file.flush().is_err() {
+        return Err(Fault::Output);
+    }
+    match put(out, line.as_bytes()) {
+        Ok(()) => Ok(()),
+        Err(_) => Err(Fault::Output),
+    }
+}
+
+/// Writes the answer where there is nothing to make, a blocked list, and returns status 1.
+pub fn put_stuck<W: Write>(list: &str, out: &mut W) -> Result<u8, Fault<'static>>
+    ensures { let out : Stream = record { old = W.contents out.old; new = W.contents out.new } in
+        PutsBlocked list.now result out }
+{
+    match put(out, list.as_bytes()) {
+        Ok(()) => Ok(1),
+        Err(_) => Err(Fault::Output),
+    }
+}
+
+/// The fault of a file that was not saved: `Exists` if its name was taken meanwhile, else `Output`.
+fn unsaved(error: &io::Error) -> Fault<'static>
+    ensures { result ≡ unsaved (error_kind error.now) }
+{
+    match error.kind() {
+        ErrorKind::AlreadyExists => Fault::Exists,
+        _ => Fault::Output,
+    }
+}
+
+/// Saves a written file, or discards it after a fault.
+fn save_or_discard<O: Outside>(
+    put: Result<u8, Fault<'static>>,
+    file: O::Made,
+    outside: &mut O,
+) -> Result<u8, Fault<'static>>
+    ensures { (deed : Deed) × Adds (O.deeds outside.old) (O.deeds outside.new) (deed ∷ []) × IsSaved (O.Made.contents file) put.entry deed result }
+{
+    let status = match put {
+        Ok(status) => status,
+        Err(fault) => {
+            outside.discard(file);
+            return Err(fault);
+        }
+    };
+    match outside.save(file) {
+        Ok(()) => Ok(status),
+        Err(error) => Err(of_error(&error, unsaved(&error))),
+    }
+}
+
+/// Makes the file of a name, which replaces an existing one (`force`) or not, writes it whole, and
+/// then writes the command's report. After that the file is saved, or discarded after a fault.
+pub fn make_file<M: Making, O: Outside, W: Write>(
+    alloc: Global,
+    made: &M,
+    name: &str,
+    force: bool,
+    outside: &mut O,
+    out: &mut W,
+) -> Result<u8, Fault<'static>>
+    ensures { let out : Stream = record { old = W.contents out.old; new = W.contents out.new } in
+        (deeds : List Deed) × Adds (O.deeds outside.old) (O.deeds outside.new) deeds × ((holds : List ℕ → Option Found) → All (WasHeld holds) deeds) × MakesFile (M.puts made.now) force name.now deeds result out }
+{
+    match outside.make(name, force) {
+        Ok(file) => {
+            let mut file = file;
+            let put = made.put(alloc, &mut file, out);
+            save_or_discard(put, file, outside)
+        }
+        Err(error) => Err(of_error(&error, Fault::Output)),
+    }
+}

@@ -1,0 +1,113 @@
+//! Warnings that a command notes besides its answer.
+
+ghost use Rattle.std.specs.Prelude.{◌≡◌};
+ghost use Rattle.exercise_model.specs.Held.{shown};
+ghost use Rattle.siman_outside.specs.Notes.{datagram_count, entry_count, nothing_in, nothing_meant};
+
+use exercise_model::{EntryView, ExerciseLog, meaning_view};
+
+/// A warning, which changes neither the answer nor the status.
+#[derive(Clone, Copy)]
+pub enum Warning {
+    /// A recording has datagrams, this many, and none of them means anything in its exercise, whose
+    /// number this is.
+    NothingMeant {
+        datagrams: u64,
+        exercise: u8,
+    },
+    /// The order in this line of a script, from 1, is for a station of this site and application
+    /// that the script does not have.
+    NoSuchStation {
+        line: usize,
+        site: u16,
+        application: u16,
+    },
+}
+
+/// Notes of a command besides its answer.
+#[derive(Clone, Copy)]
+pub struct Notes {
+    /// The first warning that was noted.
+    pub warning: Option<Warning>,
+}
+
+impl Notes {
+    ghost use Rattle.std.specs.Prelude.{◌≡◌, None};
+    ghost use Rattle.std.specs.Option.{option_or};
+    ghost use Rattle.siman_outside.specs.Notes.{nothing_meant};
+
+    /// No notes.
+    pub fn nothing() -> Notes
+        ensures { result.warning ≡ None }
+    {
+        Notes { warning: None }
+    }
+
+    /// Notes a warning, unless one was noted before.
+    pub fn note(&mut self, warning: Option<Warning>)
+        ensures { self.new.warning ≡ option_or self.old.warning warning }
+    {
+        if self.warning.is_none() {
+            self.warning = warning;
+        }
+    }
+
+    /// Notes the warning that a recording has datagrams and none means anything in its exercise, if
+    /// that is so.
+    pub fn note_recording<L: ExerciseLog>(&mut self, log: &L)
+        ensures { self.new.warning ≡ option_or self.old.warning (nothing_meant (L.recording log.now)) }
+    {
+        self.note(nothing_meant(log));
+    }
+}
+
+/// `Some(1)` for a datagram that means nothing in an exercise, `None` for one that means something.
+fn datagram_count(exercise: u8, datagram: &[u8]) -> Option<usize>
+    ensures { result ≡ datagram_count exercise datagram.now }
+{
+    if meaning_view(exercise, datagram).is_some() {
+        return None;
+    }
+    Some(1)
+}
+
+/// Number of datagrams of an entry that mean nothing in an exercise, 0 or 1; `None` if its datagram
+/// means something.
+fn entry_count(exercise: u8, entry: EntryView<'_>) -> Option<usize>
+    ensures { result ≡ entry_count exercise (shown entry.entry) }
+{
+    match entry {
+        EntryView::Sent { bytes, .. } | EntryView::Received { bytes, .. } => {
+            datagram_count(exercise, bytes)
+        }
+        EntryView::Told { .. } => Some(0),
+    }
+}
+
+/// Number of datagrams of a recording, if none of them means anything in its exercise; else `None`.
+fn nothing_in<L: ExerciseLog>(log: &L) -> Option<usize>
+    ensures { let r = L.recording log.now in result ≡ nothing_in r.setting.exercise r.entries }
+{
+    let exercise = log.exercise();
+    let mut datagrams = 0;
+    for index in 0..log.entry_count() {
+        match entry_count(exercise, log.entry(index)) {
+            Some(count) => datagrams += count,
+            None => return None,
+        }
+    }
+    Some(datagrams)
+}
+
+/// The warning of a recording that has datagrams, none of which means anything in its exercise.
+fn nothing_meant<L: ExerciseLog>(log: &L) -> Option<Warning>
+    ensures { result ≡ nothing_meant (L.recording log.now) }
+{
+    match nothing_in(log) {
+        None | Some(0) => None,
+        Some(datagrams) => Some(Warning::NothingMeant {
+            datagrams: datagrams as u64,
+            exercise: log.exercise(),
+        }),
+    }
+}

@@ -1,3 +1,0 @@
-mod Behind
-mod Below
-mod Stations

@@ -1,8 +1,0 @@
--- The names above the blocks so far.
-use Rattle.std.proofs.Common.{◌≡◌, ◌++◌, string_bytes}
-use Rattle.siman_reports.specs.Report.{texts_below}
-use Rattle.siman_pictures.specs.Columns.{names_above}
-use Rattle.siman_pictures.proofs.columns.put_names.Given as goal
-
-abbrev pub invariant-loop-block : goal.invariant-loop-block
-invariant-loop-block g l = string_bytes l.text ≡ string_bytes l.initial.text ++ texts_below (names_above l.frame (g.L.ExerciseLog.recording l.log)) l.block

@@ -1,6 +1,0 @@
-use Rattle.siman_pictures.specs.Heading.{legend_text}
-use Rattle.siman_pictures.proofs.heading.put_legend.Goals as goal
-
-pub returns : goal.returns
-unfolding legend_text
-returns c = c.in_ok-push_str.ensures.bytes

@@ -1,6 +1,0 @@
-use Rattle.siman_pictures.specs.Heading.{signs_text}
-use Rattle.siman_pictures.proofs.heading.put_signs.Goals as goal
-
-pub returns : goal.returns
-unfolding signs_text
-returns c = c.in_ok-push_str.ensures.bytes

@@ -1,7 +1,0 @@
--- The rule ends before the words.
-use Rattle.siman_pictures.specs.Rows.{rule_text}
-use Rattle.siman_pictures.proofs.rows.put_rule.Goals as goal
-
-pub returns : goal.returns
-unfolding rule_text
-returns c = rw c.words_x.ensures.x at c.in_ok-put_element.ensures

@@ -1,5 +1,0 @@
-use Rattle.siman_posts.proofs.Going.{goes_none}
-use Rattle.siman_posts.proofs.obeying.do_asked.Goals as goal
-
-pub returns-then-ne-clause-goes : goal.returns-then-ne-clause-goes
-returns-then-ne-clause-goes g c = goes_none _

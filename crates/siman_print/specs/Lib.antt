@@ -1,0 +1,12 @@
+pub mod Line
+pub mod Keys
+pub mod Spelled
+pub mod InPlace
+pub mod Lent
+pub mod CountLine
+pub mod EntryLines
+pub mod Head
+pub mod Reason
+pub mod Records
+pub mod Values
+pub mod Below

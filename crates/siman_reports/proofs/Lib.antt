@@ -1,3 +1,0 @@
-mod Keyed
-pub mod Reasons
-pub mod Texts

@@ -1,7 +1,0 @@
--- The lines so far are those of the places so far.
-use Rattle.std.proofs.Common.{◌≡◌, ◌++◌, string_bytes}
-use Rattle.siman_reports.specs.Report.{texts_below, answer_at}
-use Rattle.siman_reports.proofs.report.put_answers.Given as goal
-
-abbrev pub invariant-loop-entry : goal.invariant-loop-entry
-invariant-loop-entry g l = string_bytes l.text ≡ string_bytes l.initial.text ++ texts_below (answer_at (g.L.ExerciseLog.recording l.log)) l.entry

@@ -1,0 +1,80 @@
+//! What a reader can conclude from the laws of siman: short functions, each of which applies one
+//! law or more and is proved by it. It never does any work for siman: nothing else is built on this
+//! crate. A reader may use each contract, and the laws in the way shown here: a law is a function
+//! without effect, whose contract is a theorem over the definitions in `specs/`, and a function
+//! that calls it may conclude what that contract says.
+//!
+//! Each file is named for one noun of the field, each function for the conclusion.
+
+mod able;
+mod address;
+mod answer;
+mod archive;
+mod archived;
+mod auditor;
+mod certificate;
+mod change;
+mod contradiction;
+mod copies;
+mod datagram;
+mod entity;
+mod file;
+mod gap;
+mod line;
+mod log;
+mod manager;
+mod order;
+mod part;
+mod picture;
+mod pieces;
+mod post;
+mod reason;
+mod report;
+mod script;
+mod search;
+mod station;
+mod stranger;
+mod torn;
+mod version;
+mod wait;
+mod writer;
+
+pub use able::may_be_relied_on;
+pub use address::comes_before;
+pub use answer::has_one_request;
+pub use archive::{may_be_converted, need_one_byte_more};
+pub use archived::{need_no_second_check, need_no_second_search};
+pub use auditor::{found_what_others_find, reviewed_the_archive};
+pub use certificate::says_one_order;
+pub use change::made_the_state;
+pub use contradiction::{
+    is_against_its_own_log, is_beyond_mending, is_set_right, is_shown_by_two_entries,
+};
+pub use copies::change_no_answer;
+pub use datagram::{end_of_one_pdu, length_that_is_read};
+pub use entity::changes_by_an_able_alone;
+pub use file::says_one_thing;
+pub use gap::must_be_filled;
+pub use line::{explain_what_they_wrote, leave_a_recording};
+pub use log::{grows_by_no_filter, is_read_by_programs, names_each_datum_once};
+pub use manager::sends_nothing_too_often;
+pub use order::{change_carried_out, fate_told, is_known_to_its_maker};
+pub use part::may_be_blamed_alone;
+pub use picture::{has_a_row_for_each_step, points_no_arrow_upwards, shows_each_state};
+pub use pieces::{are_blamed_one_by_one, come_in_any_order, lose_no_entry, may_be_one};
+pub use post::{is_judged_alone, leaves_what_can_be_mended};
+pub use reason::{
+    is_always_given, is_given_for_each_line, is_given_for_each_typed_line, is_none_of_a_script,
+    is_told_of_every_other, points_at_its_word,
+};
+pub use report::{
+    names_each_field_once, says_in_json_what_the_text_says, says_the_same_of_the_archive,
+};
+pub use script::explain_themselves;
+pub use search::no_luck_is_needed;
+pub use station::answers_rightly;
+pub use stranger::may_be_heard;
+pub use torn::{are_mended_once, lose_nothing_that_was_written};
+pub use version::has_status;
+pub use wait::{block_in_a_ring, lead_to_an_end};
+pub use writer::record_one_datagram;

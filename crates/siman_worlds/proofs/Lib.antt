@@ -1,9 +1,0 @@
-pub mod Writings
-pub mod Steps
-pub mod Made
-pub mod Stations
-pub mod Closure
-pub mod CoursesActs
-pub mod Courses
-pub mod Begins
-pub mod NumberedMoves

@@ -1,5 +1,0 @@
-use Rattle.siman_worlds.proofs.Closure.{state_is_told, entries_are_run}
-use Rattle.siman_worlds.proofs.laws.worlds_are_runs.Goals as goal
-
-pub returns : goal.returns
-returns c = record { run = entries_are_run; states = state_is_told }

@@ -1,8 +1,0 @@
-use Rattle.std.proofs.Common.{[], map, reverse}
-use Rattle.siman_worlds.specs.World.{WorldData}
-use Rattle.siman_worlds.specs.Holds.{IsAfter}
-use Rattle.siman_worlds.proofs.world.World.run.Given as goal
-
--- the world is after the moves so far
-abbrev pub invariant-loop-number : goal.invariant-loop-number
-invariant-loop-number l = (w : WorldData) → IsAfter w [] l.fn.self → IsAfter w (reverse (map (λ p. p.1) l.yielded)) l.self

@@ -26,7 +26,7 @@ def rows_of_program():
     """Each command of the program as usage has it: its name and its words."""
     rows = TABLE.read_text(encoding="utf-8").partition("const ROWS")[2].partition("\n];")[0]
     found = []
-    for row in re.split(r"^    Row \{$", rows, flags=re.M)[1:]:
+    for row in re.split(r"^    CommandRow \{$", rows, flags=re.M)[1:]:
         name = re.search(r'name: "([^"]+)"', row)[1]
         takes, of_two = re.search(r"takes: Takes::(\w+)(?:\(TwoWords::(\w+)\))?", row).groups()
         words = re.findall(r'name: "([A-Z]+)",\s*often: Often::(\w+)', row.partition("words:")[2])

@@ -267,10 +267,14 @@ class Promises:
     def add(self, crate, files, crates):
         """Adds what a crate offers."""
         names, whole = {"main"}, set()
-        for it in (it for file in files if file.path.endswith("/src/lib.rt") for it in file.passed):
+        # lib.rt, and each module that it, or such a module, offers whole
+        roots = [file for file in files if file.path.endswith("/src/lib.rt")]
+        for it in (it for file in roots for it in file.passed):
             at = re.match(r"use (?:(?:crate|self)::)?(\w+)(?:::[\w:]*?)?(?:::)?(?:\{(.*)\}|(\w+))$", it)
             if it.startswith("mod "):
-                whole.add(it.removeprefix("mod "))
+                module = it.removeprefix("mod ")
+                whole.add(module)
+                roots += [file for file in files if file.path.endswith(f"/src/{module}.rt") and file not in roots]
             elif at:
                 given = {each.split()[-1].split("::")[-1] for each in (at[2] or at[3]).split(",") if each.split()}
                 names |= given if at[1] not in crates else set()

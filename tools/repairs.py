@@ -135,7 +135,7 @@ class Program:
         return self.run("why", self.path)
 
     def audit(self, recording):
-        """Whether the search finds an order, which the checker then takes."""
+        """Whether the search finds a sequence, which the checker then takes."""
         self.path.write_bytes(recording_text(recording))
         explained = self.run("audit", self.path, self.made, "--force").startswith("explained ")
         if explained and not self.run("check", self.path, self.made).startswith("yes "):

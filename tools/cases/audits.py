@@ -1,4 +1,4 @@
-"""Recordings that are searched for an order, and the files of the certificates that are made."""
+"""Recordings that are searched for a sequence, and the files of the certificates that are made."""
 import random
 
 import pages

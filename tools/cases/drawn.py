@@ -214,7 +214,7 @@ def usage_fault(told):
 
 
 HELP = """\
-Draws an exercise in the order of its certificate, and writes the picture
+Draws an exercise in the sequence of its certificate, and writes the picture
 
 Usage: siman chart <REC> <CERT> <SVG> [from=STEP] [to=STEP] [--force]
 
@@ -225,7 +225,7 @@ Arguments:
   [STEP]...  Which steps of the certificate are shown, counted from 0: from=STEP says the first, to=STEP the last; each may stand once
 
 Options:
-      --force  Replaces the file that stands under the name of the one that is made
+      --force  Replaces a file that has the name of the one that is made
   -h, --help   Print help
 
 Example:

@@ -240,7 +240,7 @@ Arguments:
   <NEW>       The file of the joined recording; it must not be there yet, or be empty. Behind it form=open or form=closed may stand: the form that it is to have. Of one piece a recording is made in such a form alone
 
 Options:
-      --force  Replaces the file that stands under the name of the one that is made
+      --force  Replaces a file that has the name of the one that is made
   -h, --help   Print help
 
 Example:

@@ -10,7 +10,7 @@ A recording: the log of each station, with what it sent and received, and which
 states it told.
 .TP
 .B .dsct
-A certificate: an order of the entries of a recording.
+A certificate: a sequence of the entries of a recording.
 .TP
 .B .script
 A script: a text that describes an exercise.

@@ -87,7 +87,7 @@ def choices_of(usage, words):
 def program():
     """The program, as its table of commands says."""
     text = commands.TABLE.read_text(encoding="utf-8")
-    rows = re.split(r"^    Row \{$", text.partition("const ROWS")[2].partition("\n];")[0], flags=re.M)[1:]
+    rows = re.split(r"^    CommandRow \{$", text.partition("const ROWS")[2].partition("\n];")[0], flags=re.M)[1:]
     usages = [usage.replace(r"\|", "|") for usage in commands.rows_of_program()]
     answer, found = answers(), []
     for row, usage in zip(rows, usages, strict=True):

@@ -4,4 +4,6 @@ mod Fields
 mod Repeats
 mod Writes
 mod Lost
+mod Texts
+pub mod LineReadings
 pub mod Offered

@@ -44,36 +44,36 @@ bind_same (Err e) = refl
 
 module _ {F : Type 0} (names : Names F) where
   -- What is wrong with the field at the front, by its row, is what a reading tells.
-  pub record TellsWrong {X : Type 0} (read : Input → Result X F) (row : Row F) : Type 0 where
+  pub record ReportsFault {X : Type 0} (read : Input → Result X F) (row : Row F) : Type 0 where
     pub tells : (i : Input) → i.at ≤ i.limit → failure (read i) ≡ fault_at names i.limit row i.at i.bytes
 
-  wrong_as : {X : Type 0} {f g : Input → Result X F} {row : Row F} → ((i : Input) → f i ≡ g i) → TellsWrong f row → TellsWrong g row
+  wrong_as : {X : Type 0} {f g : Input → Result X F} {row : Row F} → ((i : Input) → f i ≡ g i) → ReportsFault f row → ReportsFault g row
   wrong_as same t = record { tells = λ i within. ap failure (sym (same i)) ∙ t.tells i within }
 
   pub field_wrong : {X : Type 0} (row : Row F) (judge : Input → List ℕ × Input → Result X F)
-      → ((i j : Input) → failure (judge i (take row.width i.bytes, j)) ≡ row.fault i.at i.bytes) → TellsWrong (λ i. field_at names row.width i >>= judge i) row
+      → ((i j : Input) → failure (judge i (take row.width i.bytes, j)) ≡ row.fault i.at i.bytes) → ReportsFault (λ i. field_at names row.width i >>= judge i) row
   unfolding field_at
   field_wrong row judge e = record {
     tells = λ i within.
         shut (ltb i.limit (i.at + row.width)) (ltb (length i.bytes) row.width) _ _ _ (judge i) (row.fault i.at i.bytes) (e i _);
   }
 
-  pub bytes_wrong : (n : ℕ) → TellsWrong (field_at names n) (any n)
+  pub bytes_wrong : (n : ℕ) → ReportsFault (field_at names n) (any n)
   bytes_wrong n = wrong_as (λ i. bind_same (field_at names n i)) (field_wrong (any n) (λ i b. Ok b) (λ i j. refl))
 
-  pub any_wrong : (w : Width) → TellsWrong (number_at names w) (any (byte_len w))
+  pub any_wrong : (w : Width) → ReportsFault (number_at names w) (any (byte_len w))
   unfolding number_at
   any_wrong w = field_wrong (any (byte_len w)) (λ i b. Ok (from_be_bytes w b.0, b.1)) (λ i j. refl)
 
   -- a number that is tested
   pub number_wrong : {X : Type 0} (w : Width) (fault : ℕ → ℕ → Option F) (judge : Input → ℕ × Input → Result X F)
-      → ((i : Input) (n : ℕ) (j : Input) → failure (judge i (n, j)) ≡ fault i.at n) → TellsWrong (λ i. number_at names w i >>= judge i) (number w fault)
+      → ((i : Input) (n : ℕ) (j : Input) → failure (judge i (n, j)) ≡ fault i.at n) → ReportsFault (λ i. number_at names w i >>= judge i) (number w fault)
   unfolding number_at
   number_wrong w fault judge e =
       wrong_as (λ i. sym (bind_twice (field_at names (byte_len w) i) (λ b. Ok (from_be_bytes w b.0, b.1)) (judge i)))
       (field_wrong (number w fault) (λ i b. judge i (from_be_bytes w b.0, b.1)) (λ i j. e i _ j))
 
-  pub where_wrong : (w : Width) (test : ℕ → Bool) (fault : ℕ → F) → TellsWrong (number_where names w test fault) (number_in w test fault)
+  pub where_wrong : (w : Width) (test : ℕ → Bool) (fault : ℕ → F) → ReportsFault (number_where names w test fault) (number_in w test fault)
   unfolding number_where
   where_wrong w test fault =
       number_wrong w (λ at n. unless (test n) (fault at)) (λ i n. tested (test n.0) (fault i.at) n) (λ i n j. tested_wrong (test n) (fault i.at) (n, j))
@@ -81,13 +81,13 @@ module _ {F : Type 0} (names : Names F) where
   -- the same, with what is tested behind it
   pub where_then_wrong : {X : Type 0} (w : Width) (test : ℕ → Bool) (fault : ℕ → F) (wrong : ℕ → ℕ → Option F) (judge : Input → ℕ × Input → Result X F)
       → ((i : Input) (n : ℕ) (j : Input) → failure (tested (test n) (fault i.at) (n, j) >>= judge i) ≡ wrong i.at n)
-      → TellsWrong (λ i. number_where names w test fault i >>= judge i) (number w wrong)
+      → ReportsFault (λ i. number_where names w test fault i >>= judge i) (number w wrong)
   unfolding number_where
   where_then_wrong w test fault wrong judge e =
       wrong_as (λ i. sym (bind_twice (number_at names w i) (λ n. tested (test n.0) (fault i.at) n) (judge i)))
       (number_wrong w wrong (λ i n. tested (test n.0) (fault i.at) n >>= judge i) e)
 
-  pub end_wrong : {X : Type 0} (fault : ℕ → F) (x : X) → TellsWrong (ended fault x) (record { width = 0; fault = λ at left. unless (eqb (length left) 0) (fault at) })
+  pub end_wrong : {X : Type 0} (fault : ℕ → F) (x : X) → ReportsFault (ended fault x) (record { width = 0; fault = λ at left. unless (eqb (length left) 0) (fault at) })
   end_wrong fault x = record {
     tells = λ i within.
         let over : ltb i.limit (i.at + 0) ≡ false = le-ltb _ _ (omega arith) in

@@ -3,3 +3,5 @@ pub mod Repeats
 pub mod Rows
 pub mod Writing
 pub mod Fetching
+pub mod Text
+pub mod Lines

@@ -12,11 +12,15 @@
 mod fetching;
 mod file_fault;
 mod filling;
+mod lines;
 mod output;
 mod source;
+mod text;
 
 pub use fetching::{FetchFault, fetch};
 pub use file_fault::FileFault;
 pub use filling::{ReadFailed, fill};
+pub use lines::read_line;
 pub use output::{WriteFailed, put, put_both, put_shown};
 pub use source::{Source, are_bytes};
+pub use text::{first_line, is_ascii, number_16, number_32, number_to, split_once, words};

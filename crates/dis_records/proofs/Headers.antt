@@ -12,7 +12,7 @@ use Rattle.dis_records.specs.declared.header.Version.{Version}
 use Rattle.dis_records.specs.declared.header.VersionRow.{VersionRow}
 use Rattle.dis_records.specs.declared.header.Version.TheVariants as versions
 use Rattle.dis_records.specs.Kind.{kind_code, kind_from, is_kind_code}
-use Rattle.dis_records.specs.Layout.{ByteIf, StandsAt, spelled_number}
+use Rattle.dis_records.specs.Layout.{ByteIf, IsPlacedAt, spelled_number}
 use Rattle.dis_records.specs.Header.{IsHeader, row_where, has_number, version_code, is_version, version_from, has_status, carried_status, header_at, header_refusal}
 
 pub kind_from-kind_code : (kind : Kind) → kind_from (kind_code kind) ≡ kind
@@ -91,7 +91,7 @@ status_known versions.V7 = refl
 
 -- ---- a byte that is there by the version
 
-pub status_stands : (there : Bool) (at : ℕ) (b : List ℕ) → StandsAt (ByteIf there (if there then spelled_number w8 at b else 0)) at b
+pub status_stands : (there : Bool) (at : ℕ) (b : List ℕ) → IsPlacedAt (ByteIf there (if there then spelled_number w8 at b else 0)) at b
 status_stands true at b = refl
 status_stands false at b = tt
 
@@ -99,7 +99,7 @@ pub status_again : (there : Bool) (n : ℕ) → (if there then n else 0) ≡ (if
 status_again true n = refl
 status_again false n = refl
 
-status_read : (there : Bool) (n at : ℕ) (b : List ℕ) → StandsAt (ByteIf there n) at b → n ≡ (if there then n else 0)
+status_read : (there : Bool) (n at : ℕ) (b : List ℕ) → IsPlacedAt (ByteIf there n) at b → n ≡ (if there then n else 0)
     → n ≡ (if there then spelled_number w8 at b else 0)
 status_read true n at b stands is = stands
 status_read false n at b stands is = is

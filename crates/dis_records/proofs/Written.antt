@@ -4,7 +4,7 @@ use Rattle.std.specs.Prelude.{true, false}
 use Rattle.std.specs.Int.{Width, w8, w16, w32, byte_len, from_be_bytes, to_be_bytes}
 use Rattle.std.proofs.lemmas.Nat.{from_be_bytes-to_be_bytes_2, from_be_bytes-to_be_bytes_4}
 use Rattle.std.proofs.lemmas.List.{append-nil, take_at, drop_at, take-append-le, drop-append-le, length-append, length-drop, length-replicate}
-use Rattle.dis_records.specs.Layout.{Field, Byte, ByteIf, Number, Padding, Value, FieldFits, Fit, field_size, field_text, StandsAt, StandAt, size, text, Spell, spelled_number, value_at, bytes_for, cleared}
+use Rattle.dis_records.specs.Layout.{Field, Byte, ByteIf, Number, Padding, Value, FieldFits, Fit, field_size, field_text, IsPlacedAt, ArePlacedAt, size, text, Spell, spelled_number, value_at, bytes_for, cleared}
 
 length-field_text : (f : Field) → FieldFits f → length (field_text f) ≡ field_size f
 length-field_text (Byte n) fits = refl
@@ -17,7 +17,7 @@ length-field_text (Value bits bytes) fits = fits.0
 behind : (front piece back : List ℕ) (n : ℕ) → length piece ≡ n → take n (drop (length front) (front ++ (piece ++ back))) ≡ piece
 behind front piece back n len = rw (drop_at front (piece ++ back) (length front) refl) (take_at piece back n len)
 
-field_stands : (f : Field) (front back : List ℕ) → FieldFits f → StandsAt f (length front) (front ++ (field_text f ++ back))
+field_stands : (f : Field) (front back : List ℕ) → FieldFits f → IsPlacedAt f (length front) (front ++ (field_text f ++ back))
 unfolding spelled_number value_at
 field_stands (Byte n) front back fits = sym (ap (λ (bs : List ℕ). from_be_bytes w8 bs) (behind front (n ∷ []) back 1 refl))
 field_stands (ByteIf true n) front back fits = sym (ap (λ (bs : List ℕ). from_be_bytes w8 bs) (behind front (n ∷ []) back 1 refl))
@@ -28,16 +28,16 @@ field_stands (Padding n) front back fits = tt
 field_stands (Value bits bytes) front back fits =
     sym (ap (λ (bs : List ℕ). cleared bits bs) (behind front bytes back (bytes_for bits) fits.0) ∙ fits.1)
 
-pub text_stands : (fs : List Field) (front back : List ℕ) → Fit fs → StandAt fs (length front) (front ++ (text fs ++ back))
+pub text_stands : (fs : List Field) (front back : List ℕ) → Fit fs → ArePlacedAt fs (length front) (front ++ (text fs ++ back))
 text_stands [] front back fits = tt
 text_stands (f ∷ fs) front back fits =
     let here : front ++ (field_text f ++ (text fs ++ back)) ≡ front ++ ((field_text f ++ text fs) ++ back) = simp append_assoc in
     let there : (front ++ field_text f) ++ (text fs ++ back) ≡ front ++ ((field_text f ++ text fs) ++ back) = simp append_assoc in
     let place : length (front ++ field_text f) ≡ length front + field_size f = omega (arith, length-append front (field_text f), length-field_text f fits.0) in
     let others = text_stands fs (front ++ field_text f) back fits.1 in (
-      subst (λ (b : List ℕ). StandsAt f (length front) b) here (field_stands f front (text fs ++ back) fits.0),
-      subst (λ (k : ℕ). StandAt fs k (front ++ ((field_text f ++ text fs) ++ back))) place
-          (subst (λ (b : List ℕ). StandAt fs (length (front ++ field_text f)) b) there others),
+      subst (λ (b : List ℕ). IsPlacedAt f (length front) b) here (field_stands f front (text fs ++ back) fits.0),
+      subst (λ (k : ℕ). ArePlacedAt fs k (front ++ ((field_text f ++ text fs) ++ back))) place
+          (subst (λ (b : List ℕ). ArePlacedAt fs (length (front ++ field_text f)) b) there others),
     )
 
 pub length-text : (fs : List Field) → Fit fs → length (text fs) ≡ size fs
@@ -48,7 +48,7 @@ length-text (f ∷ fs) fits = omega (arith, length-append (field_text f) (text f
 pub text_spells : (fs : List Field) → Fit fs → Spell fs (text fs)
 text_spells fs fits =
     record {
-      stand = let e : text fs ++ [] ≡ text fs = append-nil (text fs) in subst (λ (b : List ℕ). StandAt fs 0 b) e
+      stand = let e : text fs ++ [] ≡ text fs = append-nil (text fs) in subst (λ (b : List ℕ). ArePlacedAt fs 0 b) e
           (text_stands fs [] [] fits);
       whole = length-text fs fits;
     }

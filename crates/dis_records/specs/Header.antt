@@ -9,7 +9,7 @@ use Rattle.dis_records.specs.declared.header.HeaderFault.{HeaderFault}
 use Rattle.dis_records.specs.declared.header.HeaderFault.TheVariants as faults
 use Rattle.dis_records.specs.declared.header.TheConstants.{LARGEST_DATAGRAM, VERSIONS}
 use Rattle.dis_records.specs.Kind.{kind_code, kind_from, is_kind_code}
-use Rattle.dis_records.specs.Layout.{Field, Byte, ByteIf, Number, Padding, StandAt, spelled_number}
+use Rattle.dis_records.specs.Layout.{Field, Byte, ByteIf, Number, Padding, ArePlacedAt, spelled_number}
 
 -- The table of the supported protocol versions is VERSIONS: the number, and whether byte 10 is the PDU status or
 -- padding. It has version 6 (IEEE 1278.1A-1998), without a status, and version 7 (IEEE 1278.1-2012), with one.
@@ -72,7 +72,7 @@ header_at b = record {
 
 -- b begins with the header, which has the length of b, at most 8192, and status 0 if its version has none (profile).
 pub record IsHeader (h : Header) (b : List ℕ) : Type 0 where
-  pub stands : StandAt (header_layout h) 0 b
+  pub stands : ArePlacedAt (header_layout h) 0 b
   pub length_is : h.length ≡ length b
   pub status_is : h.status ≡ carried_status h.version h.status
   pub room : 12 ≤ length b

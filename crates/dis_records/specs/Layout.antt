@@ -44,18 +44,18 @@ field_size (Padding n) = n
 field_size (Value bits bytes) = bytes_for bits
 
 -- The field is in b at the offset.
-abbrev pub StandsAt : Field → ℕ → List ℕ → Type 0
-StandsAt (Byte n) at b = n ≡ spelled_number w8 at b
-StandsAt (ByteIf true n) at b = n ≡ spelled_number w8 at b
-StandsAt (ByteIf false n) at b = Unit {0}
-StandsAt (Number w n) at b = n ≡ spelled_number w at b
-StandsAt (Padding n) at b = Unit {0}
-StandsAt (Value bits bytes) at b = bytes ≡ value_at bits at b
+abbrev pub IsPlacedAt : Field → ℕ → List ℕ → Type 0
+IsPlacedAt (Byte n) at b = n ≡ spelled_number w8 at b
+IsPlacedAt (ByteIf true n) at b = n ≡ spelled_number w8 at b
+IsPlacedAt (ByteIf false n) at b = Unit {0}
+IsPlacedAt (Number w n) at b = n ≡ spelled_number w at b
+IsPlacedAt (Padding n) at b = Unit {0}
+IsPlacedAt (Value bits bytes) at b = bytes ≡ value_at bits at b
 
 -- The fields are in b one after the other, from the offset on.
-abbrev pub StandAt : List Field → ℕ → List ℕ → Type 0
-StandAt [] at b = Unit {0}
-StandAt (f ∷ fs) at b = StandsAt f at b × StandAt fs (at + field_size f) b
+abbrev pub ArePlacedAt : List Field → ℕ → List ℕ → Type 0
+ArePlacedAt [] at b = Unit {0}
+ArePlacedAt (f ∷ fs) at b = IsPlacedAt f at b × ArePlacedAt fs (at + field_size f) b
 
 -- the sum of sizes
 abbrev pub total : List ℕ → ℕ
@@ -69,7 +69,7 @@ size (f ∷ fs) = field_size f + size fs
 
 -- b consists of the fields, one after the other, and nothing else.
 pub record Spell (fs : List Field) (b : List ℕ) : Type 0 where
-  pub stand : StandAt fs 0 b
+  pub stand : ArePlacedAt fs 0 b
   pub whole : length b ≡ size fs
 
 -- the spelling of a field with zero padding

@@ -12,7 +12,7 @@ use Rattle.exercise_model.specs.Conversion.{converted}
 use Rattle.exercise_model.proofs.Offered.{same_when_closed, stuck_alike, explained_alike}
 use Rattle.exercise_check.specs.declared.certificate.Step.{Step}
 use Rattle.exercise_check.specs.Goodness.{IsGood}
-use Rattle.exercise_check.specs.Order.{order_of}
+use Rattle.exercise_check.specs.Sequence.{sequence_of}
 use Rattle.exercise_check.proofs.Offered.{good_alike, good_explains}
 use Rattle.exercise_audit.specs.declared.blocks.Block.{Block}
 use Rattle.exercise_audit.specs.declared.blocks.Audit.{Audit}
@@ -66,7 +66,7 @@ answered_alike r (Explained certificate) first = good_alike r certificate.steps.
 answered_alike r (Blocked blocks) first = blocked_alike r blocks.items first
 
 unexplained : (r : PlainRecording) (blocks : List Block) (steps : List Step) → IsRecording r → IsBlocked r blocks → IsGood r steps → ⊥
-unexplained r blocks steps limits blocked good = blocked.unexplained (order_of r steps) (good_explains r limits steps good)
+unexplained r blocks steps limits blocked good = blocked.unexplained (sequence_of r steps) (good_explains r limits steps good)
 
 pub one_explained : (r : PlainRecording) (blocks : List Block) (steps : List Step) → IsRecording r → r.setting.form ≡ First → IsBlocked (converted r) blocks
     → IsGood r steps → ⊥

@@ -12,11 +12,11 @@ use Rattle.exercise_audit.specs.Search.{AreFromLast, WaitsFor, Stays}
 use Rattle.exercise_audit.proofs.Held.{next_of, barred_block}
 
 -- something stands in its way
-pub held_up : (old new : CourseData) (s i : ℕ) (cause : Cause) (waited waits : Waiting) → i < length old.recording.entries
+pub blocks_at_end : (old new : CourseData) (s i : ℕ) (cause : Cause) (waited waits : Waiting) → i < length old.recording.entries
     → IfSome (slice_get old.recording.entries i) (λ e. station_of (event_of e) ≡ s) → IsNext old i
     → IfSome (slice_get old.recording.entries i) (GoesOn old new i (Barred cause)) → WaitsFor old.recording i s cause waited waits
     → Stays old s waited waits
-held_up old new s i cause waited waits within own next goes waiting = inr (record {
+blocks_at_end old new s i cause waited waits within own next goes waiting = inr (record {
   block = record { station = s; entry = i; cause = cause };
   stands = barred_block old new s i cause (next_of old s i within own next) goes;
   waiting = waiting;

@@ -22,12 +22,12 @@ use Rattle.exercise_findings.specs.Source.{sends_here, first_send, source_of_pdu
 use Rattle.exercise_findings.specs.Tables.{own_cause}
 use Rattle.exercise_findings.proofs.Offered.{cause_here, entry_within}
 use Rattle.exercise_check.specs.declared.certificate.Step.{Step}
-use Rattle.exercise_check.specs.Order.{order_of}
+use Rattle.exercise_check.specs.Sequence.{sequence_of}
 use Rattle.exercise_check.specs.Goodness.{IsGood}
 use Rattle.exercise_check.proofs.Offered.{unsent, received_else, good_explains}
 use Rattle.exercise_audit.specs.declared.blocks.Block.{Block}
 use Rattle.exercise_audit.specs.Audit.{IsBlocked, IsExplained}
-use Rattle.exercise_audit.specs.Written.{written_below, RunsAsWritten, is_sent_before}
+use Rattle.exercise_audit.specs.Written.{written_below, IsRunAsWritten, is_sent_before}
 
 -- ---- one entry more
 
@@ -116,44 +116,44 @@ sent_allowed r n j (Told s m y) at own source before = absurd (cc (sym (ap (opti
 
 -- ---- a run goes on
 
-goes_on : (r : PlainRecording) (n : ℕ) (e : Entry) → slice_get r.entries n ≡ Some e → RunsAsWritten r n → IsAllowed r.setting (written_below r n) (event_of e)
-    → RunsAsWritten r (n + 1)
+goes_on : (r : PlainRecording) (n : ℕ) (e : Entry) → slice_get r.entries n ≡ Some e → IsRunAsWritten r n → IsAllowed r.setting (written_below r n) (event_of e)
+    → IsRunAsWritten r (n + 1)
 goes_on r n e at run allowed = subst (IsRun r.setting) (sym (more r n e at)) (run, allowed)
 
-pub alone_follows : (r : PlainRecording) (n : ℕ) → n < length r.entries → RunsAsWritten r n → own_cause r n ≡ None → RunsAsWritten r (n + 1)
+pub alone_follows : (r : PlainRecording) (n : ℕ) → n < length r.entries → IsRunAsWritten r n → own_cause r n ≡ None → IsRunAsWritten r (n + 1)
 alone_follows r n within run own =
     let e = entry_within r.entries n within in
     goes_on r n e.0 e.1 run (own_allowed r n e.0 e.1 own)
 
-pub sent_follows : (r : PlainRecording) (n : ℕ) → n < length r.entries → RunsAsWritten r n → own_cause r n ≡ Some NeverSent → is_sent_before r n ≡ true
-    → RunsAsWritten r (n + 1)
+pub sent_follows : (r : PlainRecording) (n : ℕ) → n < length r.entries → IsRunAsWritten r n → own_cause r n ≡ Some NeverSent → is_sent_before r n ≡ true
+    → IsRunAsWritten r (n + 1)
 sent_follows r n within run own = from (source_of r n) refl
   where
-    from : (o : Option ℕ) → source_of r n ≡ o → option_map_or (λ j. nat_lt j n) o false ≡ true → RunsAsWritten r (n + 1)
+    from : (o : Option ℕ) → source_of r n ≡ o → option_map_or (λ j. nat_lt j n) o false ≡ true → IsRunAsWritten r (n + 1)
     from None is before = absurd (cc)
     from (Some j) is before =
         let e = entry_within r.entries n within in
         goes_on r n e.0 e.1 run (sent_allowed r n j e.0 e.1 own is (ltb-true j n before))
 
-pub none_written : (r : PlainRecording) → RunsAsWritten r 0
+pub none_written : (r : PlainRecording) → IsRunAsWritten r 0
 unfolding past
 none_written r = tt
 
 -- ALL ENTRIES AS THEY ARE WRITTEN explain the recording, where they are a run
-pub written_explains : (r : PlainRecording) → RunsAsWritten r (length r.entries) → Explains r (past r.entries)
+pub written_explains : (r : PlainRecording) → IsRunAsWritten r (length r.entries) → Explains r (past r.entries)
 unfolding log_of
 written_explains r run = record {
   run = subst (λ es. IsRun r.setting (past es)) (take_all (length r.entries) r.entries (omega arith)) run;
   logs = λ s. refl;
 }
 
-pub written_explained : (r : PlainRecording) → RunsAsWritten r (length r.entries) → IsExplained r true
+pub written_explained : (r : PlainRecording) → IsRunAsWritten r (length r.entries) → IsExplained r true
 written_explained r run = (past r.entries, written_explains r run)
 
 -- ---- what a search says
 
 pub good_explained : (r : PlainRecording) → IsRecording r → (steps : List Step) → IsGood r steps → IsExplained r true
-good_explained r limits steps good = (order_of r steps, good_explains r limits steps good)
+good_explained r limits steps good = (sequence_of r steps, good_explains r limits steps good)
 
 pub blocked_unexplained : (r : PlainRecording) (blocks : List Block) → IsBlocked r blocks → IsExplained r false
 blocked_unexplained r blocks blocked = blocked.unexplained

@@ -33,7 +33,7 @@ pub record WaitsFor (r : PlainRecording) (i station : ℕ) (cause : Cause) (old 
   pub other : cause ≢ NeverSent → new ≡ old
 
 -- A STATION GOES ON: it takes one of its entries, and the stations that waited for this entry are ready
-pub record GoesOnBy (old new : CourseData) (station : ℕ) (waited waits : Waiting) (was ready : List ℕ) : Type 0 where
+pub record TakesEntry (old new : CourseData) (station : ℕ) (waited waits : Waiting) (was ready : List ℕ) : Type 0 where
   pub place : ℕ
   pub link : ℕ
   pub own : IfSome (slice_get old.recording.entries place) (λ e. station_of (event_of e) ≡ station)

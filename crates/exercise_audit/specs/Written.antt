@@ -11,8 +11,8 @@ abbrev pub written_below : PlainRecording → ℕ → History
 written_below r n = past (take n r.entries)
 
 -- THE ENTRIES BELOW n ARE A RUN in the sequence of the recording
-abbrev pub RunsAsWritten : PlainRecording → ℕ → Type 0
-RunsAsWritten r n = IsRun r.setting (written_below r n)
+abbrev pub IsRunAsWritten : PlainRecording → ℕ → Type 0
+IsRunAsWritten r n = IsRun r.setting (written_below r n)
 
 -- entry n received its datagram from a recorded station, and an earlier entry of the recording sent it
 abbrev pub is_sent_before : PlainRecording → ℕ → Bool

@@ -3,7 +3,7 @@
 
 ghost use Rattle.std.specs.Prelude.{◌≡◌, ◌<◌, ◌+◌, true, length, IfOk};
 ghost use Rattle.exercise_audit.specs.Audit.{IsAuditOf, IsExplained};
-ghost use Rattle.exercise_audit.specs.Written.{RunsAsWritten, is_sent_before};
+ghost use Rattle.exercise_audit.specs.Written.{IsRunAsWritten, is_sent_before};
 
 use crate::blocks::Audit;
 use crate::sweeps::{Searched, audit_found};
@@ -27,9 +27,9 @@ fn is_sent_before<L: ExerciseLog>(findings: &mut Findings<'_, L>, entry: usize) 
 #[tactic(auto, using(crate::proofs::Written::alone_follows, crate::proofs::Written::sent_follows))]
 fn follows<L: ExerciseLog>(findings: &mut Findings<'_, L>, entry: usize) -> bool
     requires within { entry < length findings.old.entries }
-    requires run { RunsAsWritten findings.old entry }
+    requires run { IsRunAsWritten findings.old entry }
     ensures findings { findings.new ≡ findings.old }
-    ensures run { result ≡ true → RunsAsWritten findings.old (entry + 1) }
+    ensures run { result ≡ true → IsRunAsWritten findings.old (entry + 1) }
 {
     match findings.cause(entry) {
         None => true,
@@ -39,9 +39,9 @@ fn follows<L: ExerciseLog>(findings: &mut Findings<'_, L>, entry: usize) -> bool
 }
 
 /// Whether the entries, in the sequence of the recording, are found to be a run.
-fn runs_as_written<L: ExerciseLog>(findings: &mut Findings<'_, L>) -> bool
+fn is_run_as_written<L: ExerciseLog>(findings: &mut Findings<'_, L>) -> bool
     ensures findings { findings.new ≡ findings.old }
-    ensures run { result ≡ true → RunsAsWritten findings.old (length findings.old.entries) }
+    ensures run { result ≡ true → IsRunAsWritten findings.old (length findings.old.entries) }
 {
     for entry in 0..findings.log().entry_count() {
         if !follows(findings, entry) {
@@ -62,7 +62,7 @@ pub struct Explanation<'a, L: ExerciseLog> {
 
 /// Whether the result of a search shows that some run explains the recording.
 #[tactic(auto, using(crate::proofs::Written::good_explained, crate::proofs::Written::blocked_unexplained))]
-fn tells_run<L: ExerciseLog>(log: &L, audit: Audit) -> bool
+fn has_run<L: ExerciseLog>(log: &L, audit: Audit) -> bool
     requires { IsAuditOf (L.recording log.now) audit }
     ensures { IsExplained (L.recording log.now) result }
 {
@@ -85,7 +85,7 @@ pub fn explanation_of<'a, L: ExerciseLog>(
     ensures findings { IfOk result (λ x. x.findings ≡ findings.entry) }
 {
     let mut findings = findings;
-    if runs_as_written(&mut findings) {
+    if is_run_as_written(&mut findings) {
         return Ok(Explanation {
             is_explained: true,
             findings,
@@ -93,7 +93,7 @@ pub fn explanation_of<'a, L: ExerciseLog>(
     }
     let Searched { audit, findings } = audit_found(alloc, findings)?;
     Ok(Explanation {
-        is_explained: tells_run(findings.log(), audit),
+        is_explained: has_run(findings.log(), audit),
         findings,
     })
 }

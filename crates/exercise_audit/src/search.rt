@@ -2,7 +2,7 @@
 //! that sends the datagram of its next receipt, if that entry was not taken so far.
 
 ghost use Rattle.std.specs.Prelude.{◌≡◌, ◌<◌, length, OnOk, IfOk, true, false};
-ghost use Rattle.exercise_audit.specs.Search.{AreFromLast, IsWoken, WaitsFor, GoesOnBy, Stays};
+ghost use Rattle.exercise_audit.specs.Search.{AreFromLast, IsWoken, WaitsFor, TakesEntry, Stays};
 
 use crate::waiting::{Waiting, no_waiting, wait, wake};
 use exercise_check::{Course, Progress};
@@ -57,7 +57,7 @@ fn go_on<L: ExerciseLog>(
     station: usize,
 ) -> Result<bool, AllocError>
     ensures recording { course.new.recording ≡ course.old.recording }
-    ensures goes { IfOk result (λ more. more ≡ true → GoesOnBy course.old course.new station waiting.old waiting.new ready.old.items ready.new.items) }
+    ensures goes { IfOk result (λ more. more ≡ true → TakesEntry course.old course.new station waiting.old waiting.new ready.old.items ready.new.items) }
     ensures stays { IfOk result (λ more. more ≡ false → Stays course.old station waiting.old waiting.new) }
     ensures same { IfOk result (λ more. more ≡ false → (course.new ≡ course.old) × (ready.new ≡ ready.old)) }
 {

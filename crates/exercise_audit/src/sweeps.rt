@@ -122,7 +122,7 @@ fn blocks<L: ExerciseLog>(
 
 /// Lets the stations go on until none of them can; returns the blocks, or `None` if every entry was
 /// taken.
-fn held_up<L: ExerciseLog>(
+fn blocks_at_end<L: ExerciseLog>(
     alloc: Global,
     log: &L,
     course: &mut Course<'_, L>,
@@ -159,7 +159,7 @@ pub fn audit_found<'a, L: ExerciseLog>(
 {
     let log = findings.log();
     let mut course = Course::over(alloc, findings)?;
-    let held = held_up(alloc, log, &mut course)?;
+    let held = blocks_at_end(alloc, log, &mut course)?;
     let (findings, certificate) = course.apart();
     let audit = match held {
         Some(blocks) => Audit::Blocked(blocks),

@@ -19,21 +19,21 @@ use Rattle.exercise_model.specs.Place.{event_at, own_event, log_before}
 use Rattle.exercise_model.specs.Run.{IsBeginning}
 use Rattle.exercise_model.proofs.Offered.{beginning_length, log_before-all, log_before-beginning, log_before-more, log_before-none, same_beginnings}
 use Rattle.exercise_check.specs.declared.certificate.Step.{Step}
-use Rattle.exercise_check.specs.Order.{order_of}
+use Rattle.exercise_check.specs.Sequence.{sequence_of}
 use Rattle.exercise_check.specs.Goodness.{no_step, step_cause, GoodBelow, IsGood}
 use Rattle.exercise_check.proofs.Offered.{good_logs, good_step, length-steps-more}
 use Rattle.exercise_review.specs.declared.life.Stretch.{Stretch}
 use Rattle.exercise_review.specs.declared.span.Span.{Span}
 use Rattle.exercise_review.specs.Life.{state_before, lives_of, is_after, is_no_later, covers, states_at, if_there}
-use Rattle.exercise_check.specs.Links.{step_at, NameOnce}
-use Rattle.exercise_review.specs.Span.{entity_at, span_of, entity_spans, spans_behind, spans_of}
+use Rattle.exercise_check.specs.Links.{step_at, IsNamedOnce}
+use Rattle.exercise_review.specs.Span.{entity_at, span_of, entity_spans, spans_of_next, spans_of}
 use Rattle.exercise_chart.specs.declared.bar.Bar.{Bar}
-use Rattle.exercise_chart.specs.declared.bar.Slots.{Slots}
+use Rattle.exercise_chart.specs.declared.bar.BarSlots.{BarSlots}
 use Rattle.exercise_chart.specs.declared.bar.TheConstants.{MOST_ENTITIES}
 use Rattle.exercise_chart.specs.declared.point.Rows.{Rows}
 use Rattle.exercise_chart.specs.Point.{step_of}
 use Rattle.exercise_chart.specs.Scene.{SceneData, point_in}
-use Rattle.exercise_chart.specs.Bar.{is_shown, no_slots, slots_with, bar_of, bars_in, bars_from, station_bars, bars_of}
+use Rattle.exercise_chart.specs.Bar.{is_shown, no_slots, next_slots, bar_of, bars_in, bars_from, station_bars, bars_of}
 use Rattle.exercise_chart.specs.Marks.{scene_of}
 use Rattle.exercise_chart.specs.Picture.{is_done, is_ahead, bar_covers, state_at_step, HasState}
 use Rattle.exercise_chart.proofs.Downwards.{AreNamedOnce, step_is, all_below}
@@ -48,7 +48,7 @@ abbrev rank : PlainRecording → ℕ → ℕ → ℕ
 rank r s i = length (log_before r s i)
 
 abbrev taken : PlainRecording → ℕ → List Step → ℕ → ℕ
-taken r s steps n = length (log_at s (order_of r (take n steps)))
+taken r s steps n = length (log_at s (sequence_of r (take n steps)))
 
 -- ---- an entry of a station
 
@@ -98,7 +98,7 @@ own_taken r s steps i good named own =
     let same : Some here.0 ≡ Some entry.0 = sym here.1.at ∙ ap (slice_get r.entries) once.names ∙ entry.1 in
     let mine : station_of (event_of here.0) ≡ s = ap (λ o. option_map_or (λ e. station_of (event_of e)) o s) same ∙ entry.2 in
     let next : taken r s steps k ≡ rank r s i =
-    subst (λ t. length (log_at t (order_of r (take k steps))) ≡ length (log_before r t (step_at steps k).place)) mine here.1.next
+    subst (λ t. length (log_at t (sequence_of r (take k steps))) ≡ length (log_before r t (step_at steps k).place)) mine here.1.next
     ∙ ap (rank r s) once.names in
     let more : taken r s steps (k + 1) ≡ taken r s steps k + 1 =
     length-steps-more r s steps k once.within
@@ -168,9 +168,9 @@ good_part r steps n within good k below =
 
 -- after a step the log of a station is what stands before that place
 log_there : (r : PlainRecording) (s : ℕ) (steps : List Step) (n : ℕ) → n ≤ length steps → GoodBelow r steps (length steps)
-    → (p : ℕ) × IsPlace r s (taken r s steps n) p × (log_before r s p ≡ log_at s (order_of r (take n steps)))
+    → (p : ℕ) × IsPlace r s (taken r s steps n) p × (log_before r s p ≡ log_at s (sequence_of r (take n steps)))
 log_there r s steps n within good =
-    let cover : IsBeginning (log_at s (order_of r (take n steps))) (log_of r s) = good_logs r (take n steps) (good_part r steps n within good) s in
+    let cover : IsBeginning (log_at s (sequence_of r (take n steps))) (log_of r s) = good_logs r (take n steps) (good_part r steps n within good) s in
     let le : taken r s steps n ≤ rank r s (length r.entries) = omega (arith, beginning_length _ _ cover, ap length (log_before-all r s)) in
     let found = first_place r s (taken r s steps n) (length r.entries) (omega arith) le in
     (found.0, found.2, same_beginnings _ _ (log_of r s) (log_before-beginning r s found.0) cover found.2.stands)
@@ -291,21 +291,21 @@ bar_said r steps w s slot x said = record {
       said k within (sym (done_is (scene_of r steps w) x.from k) ∙ parts.0) (sym (ahead_is (scene_of r steps w) x.to k) ∙ parts.1);
 }
 
-bars_said : (r : PlainRecording) (steps : List Step) (w : Rows) (s : ℕ) (l : Slots) (xs : List Span) → All (SpanSaid r steps s) xs
+bars_said : (r : PlainRecording) (steps : List Step) (w : Rows) (s : ℕ) (l : BarSlots) (xs : List Span) → All (SpanSaid r steps s) xs
     → All (HasState r steps) (bars_from (scene_of r steps w) s l xs)
 unfolding bars_from
 bars_said r steps w s l [] said = All-nil (HasState r steps)
 bars_said r steps w s l (x ∷ xs) said =
-    elim (is_shown c x) as (λ b. All (HasState r steps) (if b then bars_in c s (slots_with l x.entity.entity) x ++ bars_from c s (slots_with l x.entity.entity) xs else bars_from c s l xs)) [
+    elim (is_shown c x) as (λ b. All (HasState r steps) (if b then bars_in c s (next_slots l x.entity.entity) x ++ bars_from c s (next_slots l x.entity.entity) xs else bars_from c s l xs)) [
       | false ↦ bars_said r steps w s l xs (All-tail (SpanSaid r steps s) x xs said)
-      | true ↦ All-append (HasState r steps) (bars_in c s (slots_with l x.entity.entity) x) (bars_from c s (slots_with l x.entity.entity) xs)
-          (one (slots_with l x.entity.entity)) (bars_said r steps w s (slots_with l x.entity.entity) xs (All-tail (SpanSaid r steps s) x xs said))
+      | true ↦ All-append (HasState r steps) (bars_in c s (next_slots l x.entity.entity) x) (bars_from c s (next_slots l x.entity.entity) xs)
+          (one (next_slots l x.entity.entity)) (bars_said r steps w s (next_slots l x.entity.entity) xs (All-tail (SpanSaid r steps s) x xs said))
     ]
   where
     c : SceneData
     c = scene_of r steps w
 
-    one : (m : Slots) → All (HasState r steps) (bars_in c s m x)
+    one : (m : BarSlots) → All (HasState r steps) (bars_in c s m x)
     one m =
         elim (nat_le m.used MOST_ENTITIES) as (λ b. All (HasState r steps) (if b then bar_of c s (m.used - 1) x ∷ [] else [])) [
           | true ↦ All-cons (HasState r steps) (bar_of c s (m.used - 1) x) [] (bar_said r steps w s (m.used - 1) x (All-head (SpanSaid r steps s) x xs said)) (All-nil (HasState r steps))
@@ -315,7 +315,7 @@ bars_said r steps w s l (x ∷ xs) said =
 spans_said : (r : PlainRecording) (steps : List Step) (s : ℕ) → IsGood r steps → AreNamedOnce r steps → AreStatesOf r → All (SpanSaid r steps s) (spans_of r s)
 unfolding spans_of
 spans_said r steps s good named states =
-    all_below (SpanSaid r steps s) (spans_behind r s) LARGEST_ENTITY (λ n _.
+    all_below (SpanSaid r steps s) (spans_of_next r s) LARGEST_ENTITY (λ n _.
     let id : EntityId = entity_at (station_at r s).address (n + 1) in
     All-map (SpanSaid r steps s) (span_of r id) (lives_of r s (n + 1)) (stretches_said r steps s (n + 1) good named states))
 

@@ -18,11 +18,11 @@ use Rattle.exercise_model.specs.Account.{pair_of_entry, pair_of, sender_of}
 use Rattle.exercise_model.proofs.Offered.{IsFirst, first_found, first_is}
 use Rattle.exercise_findings.specs.Source.{sends_here, first_send, source_of_pdu, source_of_entry, source_of}
 use Rattle.exercise_check.specs.declared.certificate.Step.{Step}
-use Rattle.exercise_check.specs.Order.{first_sender, sender_link, link_of, link_number}
+use Rattle.exercise_check.specs.Sequence.{first_sender, sender_link, link_of, link_number}
 use Rattle.exercise_check.specs.Goodness.{no_step, IsGoodStep, GoodBelow, IsGood}
 use Rattle.exercise_check.proofs.Offered.{entry_within, good_step}
 use Rattle.exercise_findings.proofs.Offered.{source_here}
-use Rattle.exercise_check.specs.Links.{log_link, step_at, NameOnce}
+use Rattle.exercise_check.specs.Links.{log_link, step_at, IsNamedOnce}
 use Rattle.exercise_review.specs.Room.{lists_below}
 use Rattle.exercise_chart.specs.declared.point.Rows.{Rows}
 use Rattle.exercise_chart.specs.declared.arrow.Arrow.{Arrow}
@@ -64,7 +64,7 @@ step_up_to r steps i k within below takes_it =
     (omega (arith, found.2, is), ap (takes steps i) is ∙ (first_found (takes steps i) (length steps) found.0 found.1).passes)
 
 -- the step of an entry that steps name once
-pub step_is : (r : PlainRecording) (steps : List Step) (i : ℕ) → i < length r.entries → (once : NameOnce steps i) → step_of r steps i ≡ once.at
+pub step_is : (r : PlainRecording) (steps : List Step) (i : ℕ) → i < length r.entries → (once : IsNamedOnce steps i) → step_of r steps i ≡ once.at
 step_is r steps i within once =
     let up = step_up_to r steps i once.at within once.within once.names in
     once.only (step_of r steps i) (omega (arith, up.0, once.within)) (eqb-true _ _ up.1)
@@ -116,7 +116,7 @@ linked_sender r before i s j b =
 
 -- of a receipt the step of its source comes before
 received_down : (r : PlainRecording) (steps : List Step) (i j s stamp : ℕ) (b : List ℕ) → IsRecording r → IsGood r steps → i < length r.entries
-    → (once : NameOnce steps i) → (step_at steps once.at).link ≡ link_number (log_link r (step_at steps once.at).place)
+    → (once : IsNamedOnce steps i) → (step_at steps once.at).link ≡ link_number (log_link r (step_at steps once.at).place)
     → slice_get r.entries i ≡ Some (Received s stamp b) → source_of_entry r (Received s stamp b) ≡ Some j
     → (j < length r.entries) × (step_of r steps j < step_of r steps i)
 unfolding pair_of
@@ -143,7 +143,7 @@ received_down r steps i j s stamp b limits good within once said at source =
 
 -- THE SOURCE OF A RECEIPT STANDS BEFORE IT
 source_before : (r : PlainRecording) (steps : List Step) (i j : ℕ) → IsRecording r → IsGood r steps → i < length r.entries
-    → (once : NameOnce steps i) → (step_at steps once.at).link ≡ link_number (log_link r (step_at steps once.at).place)
+    → (once : IsNamedOnce steps i) → (step_at steps once.at).link ≡ link_number (log_link r (step_at steps once.at).place)
     → source_of r i ≡ Some j → (j < length r.entries) × (step_of r steps j < step_of r steps i)
 source_before r steps i j limits good within once said source =
     let entry = entry_within r.entries i within in
@@ -158,7 +158,7 @@ source_before r steps i j limits good within once said source =
 
 -- each entry is named once, and each link is what the logs say
 abbrev pub AreNamedOnce : PlainRecording → List Step → Type 0
-AreNamedOnce r steps = (i : ℕ) → i < length r.entries → NameOnce steps i
+AreNamedOnce r steps = (i : ℕ) → i < length r.entries → IsNamedOnce steps i
 
 abbrev pub AreLinked : PlainRecording → List Step → Type 0
 AreLinked r steps = (k : ℕ) → k < length steps → (step_at steps k).link ≡ link_number (log_link r (step_at steps k).place)

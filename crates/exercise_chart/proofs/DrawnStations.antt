@@ -19,7 +19,7 @@ use Rattle.exercise_chart.specs.Deeds.{first_sent}
 use Rattle.exercise_chart.specs.Row.{row_of, row_taking, row_at, row_count, row_shown, rows_of}
 use Rattle.exercise_chart.specs.Loss.{is_lost_at, loss_of, loss_of_first, loss_entry, loss_taken, loss_at, losses_to, losses_at, losses_shown, losses_of}
 use Rattle.exercise_chart.specs.Marks.{scene_of, marks_of}
-use Rattle.exercise_chart.specs.Saying.{saying_of}
+use Rattle.exercise_chart.specs.Saying.{pdu_summary}
 use Rattle.exercise_chart.specs.Scene.{SceneData, point_in}
 use Rattle.exercise_chart.specs.Drawing.{AreOfStations}
 
@@ -72,7 +72,7 @@ loss_meant c i s b t n p within =
     ]
   where
     lost_here : Loss
-    lost_here = record { from = point_in c i; at = t; said = saying_of p }
+    lost_here = record { from = point_in c i; at = t; said = pdu_summary p }
 
 loss_first : (c : SceneData) (i s : ℕ) (b : List ℕ) (t n : ℕ) → t < n → All (IsLossOf n) (option_to_list (loss_of_first c i s b t))
 loss_first c i s b t n within =

@@ -11,14 +11,14 @@ use Rattle.dis_records.specs.declared.entity_state.EntityState.{EntityState}
 use Rattle.exercise_model.specs.Entry.{Sent, Received, Told}
 use Rattle.exercise_model.specs.Recording.{PlainRecording}
 use Rattle.exercise_model.specs.Place.{first_below}
-use Rattle.exercise_review.specs.Entries.{bytes_sent_by, bytes_sent, bytes_got_by, bytes_got}
-use Rattle.exercise_chart.specs.declared.deeds.Deed.{Deed}
+use Rattle.exercise_review.specs.Entries.{bytes_sent_by, bytes_sent, bytes_received_by, bytes_received}
+use Rattle.exercise_chart.specs.declared.deeds.StationDatagram.{StationDatagram}
 use Rattle.exercise_chart.specs.Deeds.{has_bytes, same_deed, first_kept, Firsts, AreFirsts}
 
 bytes_sym : (a b : List ℕ) → bytes_eq a b ≡ bytes_eq b a
 bytes_sym a b = same_from_decides (bytes_eq a b) (bytes_eq b a) (bytes_decides a b) (Decides-like (bytes_eq b a) (λ e. sym e) (λ e. sym e) (bytes_decides b a))
 
-pub firsts_none : (by : ℕ → ℕ → Option (List ℕ)) (firsts : Firsts) → ((k : Deed) → get same_deed firsts k ≡ None) → AreFirsts by 0 firsts
+pub firsts_none : (by : ℕ → ℕ → Option (List ℕ)) (firsts : Firsts) → ((k : StationDatagram) → get same_deed firsts k ≡ None) → AreFirsts by 0 firsts
 unfolding first_below
 firsts_none by firsts none k = none k
 
@@ -45,9 +45,9 @@ kept_first n None = refl
 kept_first n (Some x) = refl
 
 -- an entry with them
-firsts_more : (by : ℕ → ℕ → Option (List ℕ)) (n : ℕ) (x : Deed) (old new : Firsts)
-    → ((k : Deed) → has_bytes by k.station k.bytes.now n ≡ same_deed x k)
-    → ((k : Deed) → get same_deed new k ≡ (if same_deed x k then Some (first_kept n (get same_deed old x)) else get same_deed old k))
+firsts_more : (by : ℕ → ℕ → Option (List ℕ)) (n : ℕ) (x : StationDatagram) (old new : Firsts)
+    → ((k : StationDatagram) → has_bytes by k.station k.bytes.now n ≡ same_deed x k)
+    → ((k : StationDatagram) → get same_deed new k ≡ (if same_deed x k then Some (first_kept n (get same_deed old x)) else get same_deed old k))
     → AreFirsts by n old → AreFirsts by (n + 1) new
 firsts_more by n x old new here written so_far k =
     elim (same_deed x k) as (λ b. same_deed x k ≡ b → get same_deed new k ≡ first_below (has_bytes by k.station k.bytes.now) (n + 1)) [
@@ -65,7 +65,7 @@ firsts_more by n x old new here written so_far k =
           (written k ∙ ap (λ (b : Bool). if b then Some (first_kept n (get same_deed old x)) else get same_deed old k) other ∙ so_far k)
     ] refl
 
-same_here : (x k : Deed) → option_map_or (bytes_eq k.bytes.now) (if x.station == k.station then Some x.bytes.now else None) false ≡ same_deed x k
+same_here : (x k : StationDatagram) → option_map_or (bytes_eq k.bytes.now) (if x.station == k.station then Some x.bytes.now else None) false ≡ same_deed x k
 same_here x k =
     elim (x.station == k.station) as (λ c. option_map_or (bytes_eq k.bytes.now) (if c then Some x.bytes.now else None) false ≡ (c && bytes_eq x.bytes.now k.bytes.now)) [
       | true ↦ bytes_sym k.bytes.now x.bytes.now
@@ -74,8 +74,8 @@ same_here x k =
 
 -- ---- what is sent
 
-pub sent_more : (r : PlainRecording) (n stamp : ℕ) (x : Deed) (old new : Firsts) → slice_get r.entries n ≡ Some (Sent x.station stamp x.bytes.now)
-    → ((k : Deed) → get same_deed new k ≡ (if same_deed x k then Some (first_kept n (get same_deed old x)) else get same_deed old k))
+pub sent_more : (r : PlainRecording) (n stamp : ℕ) (x : StationDatagram) (old new : Firsts) → slice_get r.entries n ≡ Some (Sent x.station stamp x.bytes.now)
+    → ((k : StationDatagram) → get same_deed new k ≡ (if same_deed x k then Some (first_kept n (get same_deed old x)) else get same_deed old k))
     → AreFirsts (bytes_sent r) n old → AreFirsts (bytes_sent r) (n + 1) new
 unfolding has_bytes bytes_sent
 sent_more r n stamp x old new at written so_far =
@@ -92,18 +92,18 @@ told_sends_nothing r n t e y at s = ap (option_and_then (bytes_sent_by s)) at
 
 -- ---- what is received
 
-pub got_more : (r : PlainRecording) (n stamp : ℕ) (x : Deed) (old new : Firsts) → slice_get r.entries n ≡ Some (Received x.station stamp x.bytes.now)
-    → ((k : Deed) → get same_deed new k ≡ (if same_deed x k then Some (first_kept n (get same_deed old x)) else get same_deed old k))
-    → AreFirsts (bytes_got r) n old → AreFirsts (bytes_got r) (n + 1) new
-unfolding has_bytes bytes_got
+pub got_more : (r : PlainRecording) (n stamp : ℕ) (x : StationDatagram) (old new : Firsts) → slice_get r.entries n ≡ Some (Received x.station stamp x.bytes.now)
+    → ((k : StationDatagram) → get same_deed new k ≡ (if same_deed x k then Some (first_kept n (get same_deed old x)) else get same_deed old k))
+    → AreFirsts (bytes_received r) n old → AreFirsts (bytes_received r) (n + 1) new
+unfolding has_bytes bytes_received
 got_more r n stamp x old new at written so_far =
-    firsts_more (bytes_got r) n x old new
-    (λ k. ap (λ o. option_map_or (bytes_eq k.bytes.now) (option_and_then (bytes_got_by k.station) o) false) at ∙ same_here x k) written so_far
+    firsts_more (bytes_received r) n x old new
+    (λ k. ap (λ o. option_map_or (bytes_eq k.bytes.now) (option_and_then (bytes_received_by k.station) o) false) at ∙ same_here x k) written so_far
 
-pub sent_gets_nothing : (r : PlainRecording) (n t stamp : ℕ) (b : List ℕ) → slice_get r.entries n ≡ Some (Sent t stamp b) → (s : ℕ) → bytes_got r s n ≡ None
-unfolding bytes_got
-sent_gets_nothing r n t stamp b at s = ap (option_and_then (bytes_got_by s)) at
+pub sent_gets_nothing : (r : PlainRecording) (n t stamp : ℕ) (b : List ℕ) → slice_get r.entries n ≡ Some (Sent t stamp b) → (s : ℕ) → bytes_received r s n ≡ None
+unfolding bytes_received
+sent_gets_nothing r n t stamp b at s = ap (option_and_then (bytes_received_by s)) at
 
-pub told_gets_nothing : (r : PlainRecording) (n t e : ℕ) (y : EntityState) → slice_get r.entries n ≡ Some (Told t e y) → (s : ℕ) → bytes_got r s n ≡ None
-unfolding bytes_got
-told_gets_nothing r n t e y at s = ap (option_and_then (bytes_got_by s)) at
+pub told_gets_nothing : (r : PlainRecording) (n t e : ℕ) (y : EntityState) → slice_get r.entries n ≡ Some (Told t e y) → (s : ℕ) → bytes_received r s n ≡ None
+unfolding bytes_received
+told_gets_nothing r n t e y at s = ap (option_and_then (bytes_received_by s)) at

@@ -13,7 +13,7 @@ use Rattle.exercise_model.specs.Cause.{same_state}
 use Rattle.exercise_model.specs.Place.{own_event, log_before}
 use Rattle.exercise_model.proofs.Offered.{log_before-more}
 use Rattle.exercise_review.specs.declared.life.Stretch.{Stretch}
-use Rattle.exercise_review.specs.Life.{LifeSoFar, state_before, stretch_of, lived_on, life_before, lives_of}
+use Rattle.exercise_review.specs.Life.{LifeSoFar, state_before, stretch_of, life_after, life_before, lives_of}
 
 -- an entry is one of station s
 abbrev pub IsOwn : PlainRecording → ℕ → ℕ → Type 0
@@ -75,7 +75,7 @@ life_own r s e (suc n) = on (life_before r s e n) (life_own r s e n)
     y : EntityState
     y = state_before r s e (suc n)
 
-    on : (l : LifeSoFar) → IsOwnLife r s (state_before r s e n) l → IsOwnLife r s y (lived_on l n y)
+    on : (l : LifeSoFar) → IsOwnLife r s (state_before r s e n) l → IsOwnLife r s y (life_after l n y)
     on l own =
         elim (same_state y l.state) as (λ b. same_state y l.state ≡ b
         → IsOwnLife r s y (if b then l else record { ended = l.ended ++ stretch_of l (Some n); state = y; since = Some n })) [

@@ -3,17 +3,17 @@ use Rattle.std.specs.Prelude.{ℕ, List, length, ◌||◌, Option, Some, None, o
 use Rattle.std.specs.Option.{option_to_list}
 use Rattle.siman_pdus.specs.declared.pdu.Pdu.{Pdu}
 use Rattle.exercise_findings.specs.Source.{source_of}
-use Rattle.exercise_review.specs.Entries.{meant_at}
+use Rattle.exercise_review.specs.Entries.{pdu_at}
 use Rattle.exercise_review.specs.Room.{lists_below}
 use Rattle.exercise_chart.specs.declared.arrow.Arrow.{Arrow}
 use Rattle.exercise_chart.specs.Window.{is_row}
 use Rattle.exercise_chart.specs.Point.{step_of}
-use Rattle.exercise_chart.specs.Saying.{saying_of}
+use Rattle.exercise_chart.specs.Saying.{pdu_summary}
 use Rattle.exercise_chart.specs.Scene.{SceneData, point_in}
 
 -- the arrow from entry j to entry i
 abbrev pub arrow_between : SceneData → (j i : ℕ) → Arrow
-arrow_between c j i = record { from = point_in c j; to = point_in c i; said = option_map saying_of (meant_at c.recording i) }
+arrow_between c j i = record { from = point_in c j; to = point_in c i; said = option_map pdu_summary (pdu_at c.recording i) }
 
 -- the arrow to entry i from entry j, if one of the two is in a row
 abbrev pub arrow_from : SceneData → (i j : ℕ) → Option Arrow

@@ -8,7 +8,7 @@ use Rattle.exercise_review.specs.declared.span.Span.{Span}
 use Rattle.exercise_review.specs.Span.{spans_of}
 use Rattle.exercise_review.specs.Room.{lists_below}
 use Rattle.exercise_chart.specs.declared.bar.Bar.{Bar}
-use Rattle.exercise_chart.specs.declared.bar.Slots.{Slots}
+use Rattle.exercise_chart.specs.declared.bar.BarSlots.{BarSlots}
 use Rattle.exercise_chart.specs.declared.bar.TheConstants.{MOST_ENTITIES, MOST_STRETCHES}
 use Rattle.exercise_chart.specs.declared.fault.ChartFault.{ChartFault}
 use Rattle.exercise_chart.specs.declared.fault.ChartFault.TheVariants.{OverLimit, Memory}
@@ -28,12 +28,12 @@ abbrev pub is_shown : SceneData → Span → Bool
 is_shown c x = began c x && reaches c x
 
 -- no entity has a slot yet
-abbrev pub no_slots : Slots
+abbrev pub no_slots : BarSlots
 no_slots = record { used = 0; last = None }
 
 -- the slots after entity e: unchanged if it has the last slot, else with one more
-abbrev pub slots_with : Slots → ℕ → Slots
-slots_with l e = if same_id l.last (Some e) then l else record { used = l.used + 1; last = Some e }
+abbrev pub next_slots : BarSlots → ℕ → BarSlots
+next_slots l e = if same_id l.last (Some e) then l else record { used = l.used + 1; last = Some e }
 
 -- the bar of a span of station s, in a slot
 abbrev pub bar_of : SceneData → (s slot : ℕ) → Span → Bar
@@ -47,14 +47,14 @@ bar_of c s slot x = record {
 }
 
 -- the bar of a span, if its entity is among the first MOST_ENTITIES
-abbrev pub bars_in : SceneData → (s : ℕ) → Slots → Span → List Bar
+abbrev pub bars_in : SceneData → (s : ℕ) → BarSlots → Span → List Bar
 bars_in c s l x = if nat_le l.used MOST_ENTITIES then bar_of c s (l.used - 1) x ∷ [] else []
 
 -- the bars of spans that are sorted by entity, given the slots used so far
-unfoldable pub bars_from : SceneData → (s : ℕ) → Slots → List Span → List Bar
+unfoldable pub bars_from : SceneData → (s : ℕ) → BarSlots → List Span → List Bar
 bars_from c s l [] = []
 bars_from c s l (x ∷ xs) =
-    if is_shown c x then bars_in c s (slots_with l x.entity.entity) x ++ bars_from c s (slots_with l x.entity.entity) xs else bars_from c s l xs
+    if is_shown c x then bars_in c s (next_slots l x.entity.entity) x ++ bars_from c s (next_slots l x.entity.entity) xs else bars_from c s l xs
 
 -- THE BARS OF STATION s: the shown spans of the 8 least entities that have one
 unfoldable pub station_bars : SceneData → ℕ → List Bar

@@ -10,8 +10,8 @@ use Rattle.std.specs.declared.hash.DefaultHasher.{DefaultHasher}
 use Rattle.indexmap.specs.IndexMap.{IndexMap, get}
 use Rattle.exercise_model.specs.Recording.{PlainRecording}
 use Rattle.exercise_model.specs.Place.{first_below}
-use Rattle.exercise_review.specs.Entries.{bytes_sent, bytes_got}
-use Rattle.exercise_chart.specs.declared.deeds.Deed.{Deed}
+use Rattle.exercise_review.specs.Entries.{bytes_sent, bytes_received}
+use Rattle.exercise_chart.specs.declared.deeds.StationDatagram.{StationDatagram}
 
 -- entry i has these bytes at station s, where `by` maps a station and an entry to bytes sent, or
 -- received
@@ -23,21 +23,21 @@ abbrev pub first_sent : PlainRecording → ℕ → List ℕ → Option ℕ
 first_sent r s b = first_below (has_bytes (bytes_sent r) s b) (length r.entries)
 
 -- THE FIRST ENTRY AT WHICH STATION s RECEIVES THESE BYTES
-abbrev pub first_got : PlainRecording → ℕ → List ℕ → Option ℕ
-first_got r s b = first_below (has_bytes (bytes_got r) s b) (length r.entries)
+abbrev pub first_received : PlainRecording → ℕ → List ℕ → Option ℕ
+first_received r s b = first_below (has_bytes (bytes_received r) s b) (length r.entries)
 
 -- ---- the index of first entries
 
 -- equality of keys: equal station, and equal bytes
-abbrev pub same_deed : Deed → Deed → Bool
+abbrev pub same_deed : StationDatagram → StationDatagram → Bool
 same_deed x y = (x.station == y.station) && bytes_eq x.bytes.now y.bytes.now
 
 -- the input of the hasher
-abbrev pub deed_fed : Deed → HashWrites
+abbrev pub deed_fed : StationDatagram → HashWrites
 deed_fed x = x.bytes.now ∷ u16 x.station
 
 -- equal keys give the hasher equal input
-pub deeds_alike : (x y : Deed) → same_deed x y ≡ true → deed_fed x ≡ deed_fed y
+pub deeds_alike : (x y : StationDatagram) → same_deed x y ≡ true → deed_fed x ≡ deed_fed y
 deeds_alike x y same =
     let parts = and_parts (x.station == y.station) _ same in
     ap (λ (b : List ℕ). b ∷ u16 x.station) ((bytes_decides x.bytes.now y.bytes.now).0 parts.1)
@@ -48,9 +48,9 @@ abbrev pub first_kept : ℕ → Option ℕ → ℕ
 first_kept entry kept = option_map_or (λ (first : ℕ). first) kept entry
 
 abbrev pub Firsts : Type 0
-Firsts = IndexMap Deed ℕ (BuildHasherDefault DefaultHasher)
+Firsts = IndexMap StationDatagram ℕ (BuildHasherDefault DefaultHasher)
 
 -- THE INVARIANT: each key maps to the first of the entries below n that has these bytes at this
 -- station
 abbrev pub AreFirsts : (ℕ → ℕ → Option (List ℕ)) → ℕ → Firsts → Type 0
-AreFirsts by n firsts = (k : Deed) → get same_deed firsts k ≡ first_below (has_bytes by k.station k.bytes.now) n
+AreFirsts by n firsts = (k : StationDatagram) → get same_deed firsts k ≡ first_below (has_bytes by k.station k.bytes.now) n

@@ -18,7 +18,7 @@ use Rattle.exercise_chart.specs.Rows.{rows_text}
 use Rattle.exercise_chart.specs.Columns.{columns_text, names_text}
 use Rattle.exercise_chart.specs.Bars.{bars_text}
 use Rattle.exercise_chart.specs.Lines.{arrows_text, outsiders_text, losses_text}
-use Rattle.exercise_chart.specs.Signs.{deeds_text, all_unanswered_text}
+use Rattle.exercise_chart.specs.Signs.{activity_signs_text, all_unanswered_text}
 
 -- the rows and the losses name only stations below n
 pub record AreOfStations (n : ℕ) (m : MarksData) : Type 0 where
@@ -36,7 +36,7 @@ under_text f r m = heading_text f r ++ rows_text f r m.rows ++ columns_text f ++
 -- the lines, the signs, the names of the stations and the end
 unfoldable pub over_text : Frame → PlainRecording → MarksData → List ℕ
 over_text f r m =
-    arrows_text f m.arrows ++ outsiders_text f m.outside ++ losses_text f r m.losses ++ deeds_text f m.rows
+    arrows_text f m.arrows ++ outsiders_text f m.outside ++ losses_text f r m.losses ++ activity_signs_text f m.rows
     ++ all_unanswered_text f m.unanswered ++ names_text f r ++ codes "</svg>\n"
 
 abbrev pub picture_in : Frame → PlainRecording → MarksData → List ℕ

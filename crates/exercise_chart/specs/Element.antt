@@ -44,7 +44,7 @@ shown_text (shown.Word word) = word.now
 shown_text (shown.Entity id) = entity_text id
 shown_text (shown.State state) = state_text state
 shown_text (shown.Address address) = address_text address
-shown_text (shown.Outsider outsider) = address_text (pair_at outsider)
+shown_text (shown.SiteApplication outsider) = address_text (pair_at outsider)
 shown_text shown.Missing = codes "-"
 
 -- the key and the text of an attribute

@@ -5,7 +5,7 @@ use Rattle.exercise_model.specs.Recording.{PlainRecording}
 use Rattle.exercise_model.specs.History.{station_at}
 use Rattle.exercise_review.specs.Party.{pair_at}
 use Rattle.exercise_chart.specs.declared.arrow.Arrow.{Arrow}
-use Rattle.exercise_chart.specs.declared.outside.FromOutside.{FromOutside}
+use Rattle.exercise_chart.specs.declared.outside.OutsideReceipt.{OutsideReceipt}
 use Rattle.exercise_chart.specs.declared.loss.Loss.{Loss}
 use Rattle.siman_print.specs.Spelled.{address_text}
 use Rattle.exercise_chart.specs.declared.frame.Frame.{Frame}
@@ -23,7 +23,7 @@ arrow_text f a =
     ∷ number (codes "data-from") a.from.entry ∷ number (codes "data-to") a.to.entry ∷ [])
 
 -- A RECEIPT FROM OUTSIDE: a short horizontal arrow
-abbrev pub outside_text : Frame → FromOutside → List ℕ
+abbrev pub outside_text : Frame → OutsideReceipt → List ℕ
 outside_text f o =
     element_text (codes "line")
     (number (codes "x1") (column_x f o.to.station - 24) ∷ number (codes "y1") (step_y f o.to.step)
@@ -50,7 +50,7 @@ loss_text f r l =
 unfoldable pub arrows_text : Frame → List Arrow → List ℕ
 arrows_text f arrows = codes "<g stroke-width=\"2\">\n" ++ flat_map (arrow_text f) arrows ++ codes "</g>\n"
 
-unfoldable pub outsiders_text : Frame → List FromOutside → List ℕ
+unfoldable pub outsiders_text : Frame → List OutsideReceipt → List ℕ
 outsiders_text f outside = codes "<g stroke-width=\"2\">\n" ++ flat_map (outside_text f) outside ++ codes "</g>\n"
 
 unfoldable pub losses_text : Frame → PlainRecording → List Loss → List ℕ

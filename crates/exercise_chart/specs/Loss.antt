@@ -10,18 +10,18 @@ use Rattle.exercise_model.specs.Meaning.{meaning}
 use Rattle.exercise_review.specs.Room.{lists_below}
 use Rattle.exercise_chart.specs.declared.loss.Loss.{Loss}
 use Rattle.exercise_chart.specs.Point.{place_at}
-use Rattle.exercise_chart.specs.Deeds.{first_sent, first_got}
-use Rattle.exercise_chart.specs.Saying.{saying_of}
+use Rattle.exercise_chart.specs.Deeds.{first_sent, first_received}
+use Rattle.exercise_chart.specs.Saying.{pdu_summary}
 use Rattle.exercise_chart.specs.Scene.{SceneData, point_in}
 use Rattle.exercise_chart.specs.Row.{row_count}
 
 -- p, which station s sends in these bytes, is addressed to another recorded station t, which never
 -- received the bytes
 abbrev pub is_lost_at : SceneData → (s : ℕ) → List ℕ → Pdu → (t : ℕ) → Bool
-is_lost_at c s b p t = is_addressed p.target (station_at c.recording t).address && (not (t == s) && is_none (first_got c.recording t b))
+is_lost_at c s b p t = is_addressed p.target (station_at c.recording t).address && (not (t == s) && is_none (first_received c.recording t b))
 
 abbrev pub loss_of : SceneData → ℕ → (s : ℕ) → List ℕ → (t : ℕ) → Pdu → Option Loss
-loss_of c i s b t p = if is_lost_at c s b p t then Some (record { from = point_in c i; at = t; said = saying_of p }) else None
+loss_of c i s b t p = if is_lost_at c s b p t then Some (record { from = point_in c i; at = t; said = pdu_summary p }) else None
 
 -- the loss of a datagram, at the first entry that sends its bytes
 abbrev pub loss_of_first : SceneData → ℕ → (s : ℕ) → List ℕ → (t : ℕ) → Option Loss

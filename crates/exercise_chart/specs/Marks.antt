@@ -6,7 +6,7 @@ use Rattle.exercise_chart.specs.declared.point.Point.{Point}
 use Rattle.exercise_chart.specs.declared.point.Rows.{Rows}
 use Rattle.exercise_chart.specs.declared.row.Row.{Row}
 use Rattle.exercise_chart.specs.declared.arrow.Arrow.{Arrow}
-use Rattle.exercise_chart.specs.declared.outside.FromOutside.{FromOutside}
+use Rattle.exercise_chart.specs.declared.outside.OutsideReceipt.{OutsideReceipt}
 use Rattle.exercise_chart.specs.declared.loss.Loss.{Loss}
 use Rattle.exercise_chart.specs.declared.bar.Bar.{Bar}
 use Rattle.exercise_chart.specs.declared.marks.Marks.{Marks}
@@ -16,7 +16,7 @@ use Rattle.exercise_chart.specs.declared.fault.ChartFault.TheVariants.{OverLimit
 use Rattle.exercise_chart.specs.Scene.{SceneData}
 use Rattle.exercise_chart.specs.Row.{row_count, rows_of}
 use Rattle.exercise_chart.specs.Arrow.{arrows_of}
-use Rattle.exercise_chart.specs.Outside.{outside_of}
+use Rattle.exercise_chart.specs.Outside.{outside_receipts}
 use Rattle.exercise_chart.specs.Loss.{losses_of}
 use Rattle.exercise_chart.specs.Bar.{bars_of, IsOverfull}
 use Rattle.exercise_chart.specs.Unanswered.{unanswered_of}
@@ -32,7 +32,7 @@ use Rattle.exercise_chart.specs.Unanswered.{unanswered_of}
 pub record MarksData : Type 0 where
   pub rows : List Row
   pub arrows : List Arrow
-  pub outside : List FromOutside
+  pub outside : List OutsideReceipt
   pub losses : List Loss
   pub bars : List Bar
   pub unanswered : List Point
@@ -41,7 +41,7 @@ abbrev pub marks_in : SceneData → MarksData
 marks_in c = record {
   rows = rows_of c;
   arrows = arrows_of c;
-  outside = outside_of c;
+  outside = outside_receipts c;
   losses = losses_of c;
   bars = bars_of c;
   unanswered = unanswered_of c;
@@ -55,8 +55,8 @@ abbrev pub marks_of : PlainRecording → List Step → Rows → MarksData
 marks_of r steps rows = marks_in (scene_of r steps rows)
 
 -- the marks in a value of the program
-abbrev pub marks_kept : Marks → MarksData
-marks_kept m = record {
+abbrev pub marks_data : Marks → MarksData
+marks_data m = record {
   rows = m.rows.items;
   arrows = m.arrows.items;
   outside = m.outside.items;
@@ -69,6 +69,6 @@ marks_kept m = record {
 
 -- the marks; OverLimit says that there are too many rows, or too many spans of some station
 abbrev pub Marked : SceneData → Result Marks ChartFault → Type 0
-Marked c (Ok marks) = marks_kept marks ≡ marks_in c
+Marked c (Ok marks) = marks_data marks ≡ marks_in c
 Marked c (Err OverLimit) = (MOST_ROWS < row_count c) ⊎ IsOverfull c.recording
 Marked c (Err Memory) = Unit {0}

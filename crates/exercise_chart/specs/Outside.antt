@@ -7,34 +7,34 @@ use Rattle.exercise_model.specs.Entry.{Entry, Sent, Received, Told}
 use Rattle.exercise_model.specs.History.{event_of, station_of}
 use Rattle.exercise_model.specs.Meaning.{meaning}
 use Rattle.exercise_review.specs.Order.{is_outside}
-use Rattle.exercise_review.specs.Parties.{outsider_at}
+use Rattle.exercise_review.specs.Parties.{site_application}
 use Rattle.exercise_review.specs.Room.{lists_below}
-use Rattle.exercise_chart.specs.declared.outside.FromOutside.{FromOutside}
+use Rattle.exercise_chart.specs.declared.outside.OutsideReceipt.{OutsideReceipt}
 use Rattle.exercise_chart.specs.Point.{place_at}
-use Rattle.exercise_chart.specs.Saying.{saying_of}
+use Rattle.exercise_chart.specs.Saying.{pdu_summary}
 use Rattle.exercise_chart.specs.Scene.{SceneData, point_in}
 use Rattle.exercise_chart.specs.Row.{row_count}
 
 -- the receipt of p at entry i, if p is from outside: with the address of its sender
-abbrev pub outside_meant : SceneData → ℕ → Pdu → Option FromOutside
-outside_meant c i p =
-    if is_outside c.recording p then Some (record { by = outsider_at (pair_of p.origin); to = point_in c i; said = saying_of p }) else None
+abbrev pub outside_receipt : SceneData → ℕ → Pdu → Option OutsideReceipt
+outside_receipt c i p =
+    if is_outside c.recording p then Some (record { by = site_application (pair_of p.origin); to = point_in c i; said = pdu_summary p }) else None
 
-unfoldable pub outside_entry : SceneData → ℕ → Entry → Option FromOutside
-outside_entry c i (Sent s stamp b) = None
-outside_entry c i (Received s stamp b) = option_and_then (outside_meant c i) (meaning c.recording.setting.exercise b)
-outside_entry c i (Told s e y) = None
+unfoldable pub outside_receipt_in : SceneData → ℕ → Entry → Option OutsideReceipt
+outside_receipt_in c i (Sent s stamp b) = None
+outside_receipt_in c i (Received s stamp b) = option_and_then (outside_receipt c i) (meaning c.recording.setting.exercise b)
+outside_receipt_in c i (Told s e y) = None
 
-abbrev pub outside_taken : SceneData → ℕ → Option FromOutside
-outside_taken c i = option_and_then (outside_entry c i) (slice_get c.recording.entries i)
+abbrev pub outside_receipt_by : SceneData → ℕ → Option OutsideReceipt
+outside_receipt_by c i = option_and_then (outside_receipt_in c i) (slice_get c.recording.entries i)
 
 -- THE RECEIPT FROM OUTSIDE in the row of a step
-unfoldable pub outside_at : SceneData → ℕ → Option FromOutside
-outside_at c step = option_and_then (outside_taken c) (place_at c.steps step)
+unfoldable pub outside_receipt_at : SceneData → ℕ → Option OutsideReceipt
+outside_receipt_at c step = option_and_then (outside_receipt_by c) (place_at c.steps step)
 
-abbrev pub outside_shown : SceneData → ℕ → List FromOutside
-outside_shown c n = option_to_list (outside_at c (c.rows.first + n))
+abbrev pub outside_receipts_shown : SceneData → ℕ → List OutsideReceipt
+outside_receipts_shown c n = option_to_list (outside_receipt_at c (c.rows.first + n))
 
 -- ALL RECEIPTS FROM OUTSIDE, by row
-unfoldable pub outside_of : SceneData → List FromOutside
-outside_of c = lists_below (outside_shown c) (row_count c)
+unfoldable pub outside_receipts : SceneData → List OutsideReceipt
+outside_receipts c = lists_below (outside_receipts_shown c) (row_count c)

@@ -7,7 +7,7 @@ use Rattle.exercise_model.specs.History.{log_at, station_at}
 use Rattle.exercise_model.specs.State.{state_after}
 use Rattle.exercise_findings.specs.Source.{source_of}
 use Rattle.exercise_check.specs.declared.certificate.Step.{Step}
-use Rattle.exercise_check.specs.Order.{order_of}
+use Rattle.exercise_check.specs.Sequence.{sequence_of}
 use Rattle.exercise_check.specs.Links.{step_at}
 use Rattle.exercise_chart.specs.declared.point.Point.{Point}
 use Rattle.exercise_chart.specs.declared.point.Rows.{Rows}
@@ -47,7 +47,7 @@ bar_covers b k = is_done b.from k && is_ahead b.to k
 
 -- the state of entity e of station s after step k
 abbrev pub state_at_step : PlainRecording → List Step → (s e k : ℕ) → EntityState
-state_at_step r steps s e k = state_after r.setting.exercise (station_at r s) (log_at s (order_of r (take (k + 1) steps))) e
+state_at_step r steps s e k = state_after r.setting.exercise (station_at r s) (log_at s (sequence_of r (take (k + 1) steps))) e
 
 -- A BAR HAS THE STATE that its entity has after each step that it covers
 pub record HasState (r : PlainRecording) (steps : List Step) (b : Bar) : Type 0 where

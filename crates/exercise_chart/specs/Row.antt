@@ -8,14 +8,14 @@ use Rattle.exercise_model.specs.History.{event_of, station_of}
 use Rattle.exercise_model.specs.Meaning.{meaning}
 use Rattle.exercise_review.specs.Order.{head_of}
 use Rattle.exercise_review.specs.Room.{lists_below}
-use Rattle.exercise_chart.specs.declared.row.Again.{Again}
-use Rattle.exercise_chart.specs.declared.row.Again.TheVariants as agains
-use Rattle.exercise_chart.specs.declared.row.Did.{Did}
-use Rattle.exercise_chart.specs.declared.row.Did.TheVariants as deeds
+use Rattle.exercise_chart.specs.declared.row.Repetition.{Repetition}
+use Rattle.exercise_chart.specs.declared.row.Repetition.TheVariants as agains
+use Rattle.exercise_chart.specs.declared.row.Activity.{Activity}
+use Rattle.exercise_chart.specs.declared.row.Activity.TheVariants as deeds
 use Rattle.exercise_chart.specs.declared.row.Row.{Row}
 use Rattle.exercise_chart.specs.Point.{place_at}
 use Rattle.exercise_chart.specs.Deeds.{first_sent}
-use Rattle.exercise_chart.specs.Saying.{saying_of}
+use Rattle.exercise_chart.specs.Saying.{pdu_summary}
 use Rattle.exercise_chart.specs.Scene.{SceneData}
 
 -- entry i sends a request whose head, its first entry, is another entry
@@ -24,28 +24,28 @@ is_repeat c i = option_map_or (λ h. not (h == i)) (head_of c.recording i) false
 
 -- WHETHER AND HOW A SEND REPEATS AN EARLIER ONE: equal bytes of this station; or the request, in
 -- other bytes
-abbrev pub again_of : SceneData → ℕ → ℕ → List ℕ → Again
-again_of c i s b =
+abbrev pub repetition_of : SceneData → ℕ → ℕ → List ℕ → Repetition
+repetition_of c i s b =
     if same_id (first_sent c.recording s b) (Some i) then (if is_repeat c i then agains.Repeated else agains.No) else agains.SameBytes
 
 -- what station s does when it sends bytes with this meaning at entry i
-abbrev pub sent_did : SceneData → ℕ → ℕ → List ℕ → Option Pdu → Did
-sent_did c i s b None = deeds.SentOther (length b)
-sent_did c i s b (Some p) = deeds.Sent (saying_of p) (again_of c i s b)
+abbrev pub send_activity : SceneData → ℕ → ℕ → List ℕ → Option Pdu → Activity
+send_activity c i s b None = deeds.SentOther (length b)
+send_activity c i s b (Some p) = deeds.Sent (pdu_summary p) (repetition_of c i s b)
 
-abbrev pub received_did : List ℕ → Option Pdu → Did
-received_did b None = deeds.ReceivedOther (length b)
-received_did b (Some p) = deeds.Received (saying_of p)
+abbrev pub receipt_activity : List ℕ → Option Pdu → Activity
+receipt_activity b None = deeds.ReceivedOther (length b)
+receipt_activity b (Some p) = deeds.Received (pdu_summary p)
 
 -- WHAT A STATION DID at entry i
-unfoldable pub did_of : SceneData → ℕ → Entry → Did
-did_of c i (Sent s stamp b) = sent_did c i s b (meaning c.recording.setting.exercise b)
-did_of c i (Received s stamp b) = received_did b (meaning c.recording.setting.exercise b)
-did_of c i (Told s e y) = deeds.Told e y
+unfoldable pub activity_of : SceneData → ℕ → Entry → Activity
+activity_of c i (Sent s stamp b) = send_activity c i s b (meaning c.recording.setting.exercise b)
+activity_of c i (Received s stamp b) = receipt_activity b (meaning c.recording.setting.exercise b)
+activity_of c i (Told s e y) = deeds.Told e y
 
 -- the row of a step that takes entry i
 abbrev pub row_of : SceneData → (step i : ℕ) → Entry → Row
-row_of c step i e = record { at = record { entry = i; step = step; station = station_of (event_of e) }; did = did_of c i e }
+row_of c step i e = record { at = record { entry = i; step = step; station = station_of (event_of e) }; did = activity_of c i e }
 
 abbrev pub row_taking : SceneData → (step i : ℕ) → Option Row
 row_taking c step i = option_map (row_of c step i) (slice_get c.recording.entries i)

@@ -10,7 +10,7 @@ use Rattle.siman_print.specs.Spelled.{address_text, field_text, fields_spelled}
 use Rattle.exercise_chart.specs.declared.frame.Frame.{Frame}
 use Rattle.exercise_chart.specs.Element.{element_text, begun_words, number, word}
 use Rattle.exercise_chart.specs.Frame.{words_x, step_y}
-use Rattle.exercise_chart.specs.Words.{did_words}
+use Rattle.exercise_chart.specs.Words.{activity_words}
 
 -- the horizontal rule, at height y, that leads to the words of a row
 unfoldable pub rule_text : Frame → (y : ℕ) → List ℕ
@@ -23,7 +23,7 @@ unfoldable pub row_words : PlainRecording → Row → List ℕ
 row_words r row =
     field_text (Bare (codes "entry") (Number row.at.entry))
     ++ fields_spelled Text (Bare (codes "address") (Word (address_text (station_at r row.at.station).address)) ∷ [])
-    ++ did_words (station_at r row.at.station).address row.did
+    ++ activity_words (station_at r row.at.station).address row.did
 
 -- A ROW: its rule, and its words, which carry the row's attributes
 abbrev pub row_text : Frame → PlainRecording → Row → List ℕ

@@ -3,7 +3,7 @@
 use Rattle.std.specs.Prelude.{◌≡◌, ℕ, List, length, Option}
 use Rattle.exercise_model.specs.Recording.{PlainRecording}
 use Rattle.exercise_check.specs.declared.certificate.Step.{Step}
-use Rattle.exercise_review.specs.Entries.{bytes_sent, bytes_got}
+use Rattle.exercise_review.specs.Entries.{bytes_sent, bytes_received}
 use Rattle.exercise_chart.specs.declared.point.Point.{Point}
 use Rattle.exercise_chart.specs.declared.point.Rows.{Rows}
 use Rattle.exercise_chart.specs.Point.{point_of, AreTaken}
@@ -23,4 +23,4 @@ point_in c i = point_of c.recording c.steps i
 pub record IsScene (r : PlainRecording) (steps : List Step) (taken : List (Option ℕ)) (sent got : Firsts) : Type 0 where
   pub stepped : AreTaken steps (length steps) (length r.entries) taken
   pub sends : AreFirsts (bytes_sent r) (length r.entries) sent
-  pub receipts : AreFirsts (bytes_got r) (length r.entries) got
+  pub receipts : AreFirsts (bytes_received r) (length r.entries) got

@@ -3,8 +3,8 @@
 use Rattle.std.specs.Prelude.{ℕ, List, [], ◌∷◌, codes}
 use Rattle.std.specs.List.{flat_map}
 use Rattle.exercise_chart.specs.declared.point.Point.{Point}
-use Rattle.exercise_chart.specs.declared.row.Did.{Did}
-use Rattle.exercise_chart.specs.declared.row.Did.TheVariants as deeds
+use Rattle.exercise_chart.specs.declared.row.Activity.{Activity}
+use Rattle.exercise_chart.specs.declared.row.Activity.TheVariants as deeds
 use Rattle.exercise_chart.specs.declared.row.Row.{Row}
 use Rattle.exercise_chart.specs.declared.frame.Frame.{Frame}
 use Rattle.exercise_chart.specs.Element.{element_text, number, word}
@@ -19,15 +19,15 @@ sign_text f p sign colour class =
     ∷ word (codes "class") class ∷ number (codes "data-entry") p.entry ∷ [])
 
 -- THE SIGN OF WHAT A STATION DID; a receipt that means something has none: its arrow shows it
-abbrev pub deed_text : Frame → Point → Did → List ℕ
-deed_text f p (deeds.Sent said again) = sign_text f p (codes "#sent") (colour_of (tone_of said)) (codes "sent")
-deed_text f p (deeds.Received said) = []
-deed_text f p (deeds.SentOther bytes) = sign_text f p (codes "#other") (codes "#475569") (codes "other")
-deed_text f p (deeds.ReceivedOther bytes) = sign_text f p (codes "#other") (codes "#475569") (codes "other")
-deed_text f p (deeds.Told e y) = sign_text f p (codes "#told") (codes "#ffffff") (codes "told")
+abbrev pub activity_sign_text : Frame → Point → Activity → List ℕ
+activity_sign_text f p (deeds.Sent said again) = sign_text f p (codes "#sent") (colour_of (tone_of said)) (codes "sent")
+activity_sign_text f p (deeds.Received said) = []
+activity_sign_text f p (deeds.SentOther bytes) = sign_text f p (codes "#other") (codes "#475569") (codes "other")
+activity_sign_text f p (deeds.ReceivedOther bytes) = sign_text f p (codes "#other") (codes "#475569") (codes "other")
+activity_sign_text f p (deeds.Told e y) = sign_text f p (codes "#told") (codes "#ffffff") (codes "told")
 
-unfoldable pub deeds_text : Frame → List Row → List ℕ
-deeds_text f rows = flat_map (λ (row : Row). deed_text f row.at row.did) rows
+unfoldable pub activity_signs_text : Frame → List Row → List ℕ
+activity_signs_text f rows = flat_map (λ (row : Row). activity_sign_text f row.at row.did) rows
 
 -- THE SIGN OF A REQUEST that was never answered there
 unfoldable pub unanswered_text : Frame → Point → List ℕ

@@ -6,10 +6,10 @@ use Rattle.dis_records.specs.declared.entity_state.EntityState.{EntityState}
 use Rattle.exercise_review.specs.declared.word.Word.{Word as Said}
 use Rattle.exercise_review.specs.declared.word.Word.TheVariants as words
 use Rattle.exercise_review.specs.Word.{word_text}
-use Rattle.exercise_chart.specs.declared.row.Again.{Again}
-use Rattle.exercise_chart.specs.declared.row.Again.TheVariants as agains
-use Rattle.exercise_chart.specs.declared.row.Did.{Did}
-use Rattle.exercise_chart.specs.declared.row.Did.TheVariants as deeds
+use Rattle.exercise_chart.specs.declared.row.Repetition.{Repetition}
+use Rattle.exercise_chart.specs.declared.row.Repetition.TheVariants as agains
+use Rattle.exercise_chart.specs.declared.row.Activity.{Activity}
+use Rattle.exercise_chart.specs.declared.row.Activity.TheVariants as deeds
 use Rattle.exercise_chart.specs.declared.saying.Saying.{Saying}
 use Rattle.siman_print.specs.declared.spelling.Spelling.TheVariants.{Text}
 use Rattle.siman_print.specs.Line.{Number, Word, Bare, Keyed}
@@ -30,16 +30,16 @@ abbrev pub request_words : Option ℕ → List ℕ
 request_words (Some n) = fields_spelled Text (Keyed (codes "request") (Number n) ∷ [])
 request_words None = []
 
-abbrev pub again_words : Again → List ℕ
-again_words agains.No = []
-again_words agains.Repeated = codes " (repeat)"
-again_words agains.SameBytes = codes " (same bytes again)"
+abbrev pub repetition_words : Repetition → List ℕ
+repetition_words agains.No = []
+repetition_words agains.Repeated = codes " (repeat)"
+repetition_words agains.SameBytes = codes " (same bytes again)"
 
 -- sent KIND WORD to=ID request=N
-abbrev pub sent_words : Saying → Again → List ℕ
+abbrev pub sent_words : Saying → Repetition → List ℕ
 sent_words said again =
     codes " sent" ++ kind_words said ++ fields_spelled Text (Keyed (codes "to") (Word (entity_text said.target)) ∷ []) ++ request_words said.request
-    ++ again_words again
+    ++ repetition_words again
 
 -- received KIND WORD from=ID request=N
 abbrev pub received_words : Saying → List ℕ
@@ -58,9 +58,9 @@ told_words address e y =
     ∷ Keyed (codes "state") (Word (state_text y)) ∷ [])
 
 -- WHAT THE STATION WITH AN ADDRESS DID
-unfoldable pub did_words : Pair → Did → List ℕ
-did_words address (deeds.Sent said again) = sent_words said again
-did_words address (deeds.Received said) = received_words said
-did_words address (deeds.SentOther bytes) = other_words (codes "sent") bytes
-did_words address (deeds.ReceivedOther bytes) = other_words (codes "received") bytes
-did_words address (deeds.Told e y) = told_words address e y
+unfoldable pub activity_words : Pair → Activity → List ℕ
+activity_words address (deeds.Sent said again) = sent_words said again
+activity_words address (deeds.Received said) = received_words said
+activity_words address (deeds.SentOther bytes) = other_words (codes "sent") bytes
+activity_words address (deeds.ReceivedOther bytes) = other_words (codes "received") bytes
+activity_words address (deeds.Told e y) = told_words address e y

@@ -1,12 +1,12 @@
 //! The arrows of a picture: receipts, each with its source.
 
 ghost use Rattle.std.specs.Prelude.{◌≡◌, option_map, IfOk};
-ghost use Rattle.exercise_review.specs.Entries.{meant_at};
+ghost use Rattle.exercise_review.specs.Entries.{pdu_at};
 ghost use Rattle.exercise_chart.specs.Arrow.{arrow_from, arrow_to, arrows_of};
-ghost use Rattle.exercise_chart.specs.Saying.{saying_of};
+ghost use Rattle.exercise_chart.specs.Saying.{pdu_summary};
 
 use crate::point::Point;
-use crate::saying::{Saying, saying_of};
+use crate::saying::{Saying, pdu_summary};
 use crate::scene::Scene;
 use exercise_model::{EntryView, ExerciseLog};
 use std::alloc::{AllocError, Global};
@@ -22,16 +22,16 @@ pub struct Arrow {
 }
 
 /// What the datagram of an entry says, if it means something in the exercise.
-#[tactic(auto, unfolding(exercise_review::specs::Entries::meant_at))]
+#[tactic(auto, unfolding(exercise_review::specs::Entries::pdu_at))]
 fn said_at<L: ExerciseLog>(scene: &Scene<'_, L>, entry: usize) -> Option<Saying>
-    ensures { result ≡ option_map saying_of (meant_at scene.now.recording entry) }
+    ensures { result ≡ option_map pdu_summary (pdu_at scene.now.recording entry) }
 {
     let bytes = match scene.entry_at(entry) {
         Some(EntryView::Sent { bytes, .. } | EntryView::Received { bytes, .. }) => bytes,
         Some(EntryView::Told { .. }) | None => return None,
     };
     match scene.meant(bytes) {
-        Some(pdu) => Some(saying_of(&pdu)),
+        Some(pdu) => Some(pdu_summary(&pdu)),
         None => None,
     }
 }

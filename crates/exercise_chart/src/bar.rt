@@ -2,7 +2,7 @@
 
 ghost use Rattle.std.specs.Prelude.{◌≡◌, ◌<◌, ◌≤◌, ◌++◌, length, option_map, OnOk};
 ghost use Rattle.exercise_chart.specs.Scene.{point_in};
-ghost use Rattle.exercise_chart.specs.Bar.{began, reaches, is_shown, no_slots, slots_with, bar_of, bars_in, bars_from, station_bars, bars_of, Adds, Makes};
+ghost use Rattle.exercise_chart.specs.Bar.{began, reaches, is_shown, no_slots, next_slots, bar_of, bars_in, bars_from, station_bars, bars_of, Adds, Makes};
 
 use crate::fault::ChartFault;
 use crate::point::Point;
@@ -36,7 +36,7 @@ pub struct Bar {
 
 /// How many slots of a station are used so far, and the entity in the last one.
 #[derive(Clone, Copy)]
-pub(crate) struct Slots {
+pub(crate) struct BarSlots {
     pub used: usize,
     pub last: Option<u16>,
 }
@@ -62,14 +62,14 @@ fn reaches<L: ExerciseLog>(scene: &Scene<'_, L>, span: &Span) -> bool
 }
 
 /// The slots after `entity`: unchanged if it has the last slot, else with one more.
-fn slots_with(slots: Slots, entity: u16) -> Slots
+fn next_slots(slots: BarSlots, entity: u16) -> BarSlots
     requires { slots.used < 4194304 }
-    ensures { result ≡ slots_with slots entity }
+    ensures { result ≡ next_slots slots entity }
 {
     if slots.last == Some(entity) {
         slots
     } else {
-        Slots {
+        BarSlots {
             used: slots.used + 1,
             last: Some(entity),
         }
@@ -105,7 +105,7 @@ fn push_bar<L: ExerciseLog>(
     bars: &mut Vec<Bar>,
     scene: &Scene<'_, L>,
     station: u16,
-    slots: Slots,
+    slots: BarSlots,
     span: &Span,
 ) -> Result<(), AllocError>
     ensures { OnOk result (bars.new.items ≡ bars.old.items ++ bars_in scene.now station slots span.now) }
@@ -127,13 +127,13 @@ fn push_bars<L: ExerciseLog>(
     requires { length spans.now ≤ MOST_STRETCHES }
     ensures { OnOk result (bars.new.items ≡ bars.old.items ++ bars_from scene.now station no_slots spans.now) }
 {
-    let mut slots = Slots {
+    let mut slots = BarSlots {
         used: 0,
         last: None,
     };
     for span in spans {
         if began(scene, span) && reaches(scene, span) {
-            slots = slots_with(slots, span.entity.entity);
+            slots = next_slots(slots, span.entity.entity);
             push_bar(bars, scene, station, slots, span)?;
         }
     }

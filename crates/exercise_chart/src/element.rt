@@ -4,7 +4,7 @@ ghost use Rattle.std.specs.Prelude.{◌≡◌, ◌++◌, map, OnOk, string_bytes
 ghost use Rattle.exercise_chart.specs.Element.{shown_text, attribute_of, attribute_text, attributes_text, element_text, begun_words, words_text};
 
 use dis_records::{Address, EntityId, EntityState};
-use exercise_review::Outsider;
+use exercise_review::SiteApplication;
 use siman_print::{Field, Spelling, Value, put_opening};
 use std::alloc::AllocError;
 
@@ -22,7 +22,7 @@ pub(crate) enum Shown<'a> {
     /// The address of a station.
     Address(Address),
     /// An address that nobody recorded.
-    Outsider(Outsider),
+    SiteApplication(SiteApplication),
     /// Nothing: `-`.
     Missing,
 }
@@ -47,7 +47,7 @@ fn put_shown(text: &mut String, shown: &Shown<'_>) -> Result<(), AllocError>
             let address = Some(Field::Bare("", Value::Address(*address)));
             put_opening(text, Spelling::Text, "", &address)
         }
-        Shown::Outsider(by) => write!(text, "{}:{}", by.site, by.application),
+        Shown::SiteApplication(by) => write!(text, "{}:{}", by.site, by.application),
         Shown::Missing => text.push('-'),
     }
 }

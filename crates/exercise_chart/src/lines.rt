@@ -8,7 +8,7 @@ ghost use Rattle.exercise_chart.specs.Lines.{arrow_text, outside_text, lost_x, l
 use crate::element::{Attribute, Shown, put_element};
 use crate::frame::Frame;
 use crate::tone::Tone;
-use crate::{Arrow, FromOutside, Loss};
+use crate::{Arrow, Loss, OutsideReceipt};
 use exercise_model::ExerciseLog;
 use std::alloc::AllocError;
 
@@ -33,7 +33,11 @@ fn put_arrow(text: &mut String, frame: Frame, arrow: &Arrow) -> Result<(), Alloc
 }
 
 /// Writes a short horizontal arrow to a receipt from outside.
-fn put_outsider(text: &mut String, frame: Frame, outsider: &FromOutside) -> Result<(), AllocError>
+fn put_outsider(
+    text: &mut String,
+    frame: Frame,
+    outsider: &OutsideReceipt,
+) -> Result<(), AllocError>
     ensures { OnOk result (string_bytes text.new ≡ string_bytes text.old ++ outside_text frame outsider.now) }
 {
     let tone = Tone::of(&outsider.said);
@@ -47,7 +51,7 @@ fn put_outsider(text: &mut String, frame: Frame, outsider: &FromOutside) -> Resu
         Attribute("stroke", Shown::Word(tone.colour())),
         Attribute("marker-end", Shown::Word(tone.head())),
         Attribute("class", Shown::Word("outside")),
-        Attribute("data-by", Shown::Outsider(outsider.by)),
+        Attribute("data-by", Shown::SiteApplication(outsider.by)),
         Attribute("data-to", Shown::Number(outsider.to.entry as u64)),
     ];
     put_element(text, "line", &line)?;
@@ -118,7 +122,7 @@ pub(crate) fn put_arrows(
 pub(crate) fn put_outsiders(
     text: &mut String,
     frame: Frame,
-    outside: &[FromOutside],
+    outside: &[OutsideReceipt],
 ) -> Result<(), AllocError>
     ensures { OnOk result (string_bytes text.new ≡ string_bytes text.old ++ outsiders_text frame outside.now) }
 {

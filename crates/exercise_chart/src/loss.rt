@@ -6,7 +6,7 @@ ghost use Rattle.exercise_model.specs.Held.{shown};
 ghost use Rattle.exercise_chart.specs.Loss.{is_lost_at, loss_of, loss_of_first, loss_entry, loss_taken, loss_at, losses_at, losses_of};
 
 use crate::point::Point;
-use crate::saying::{Saying, saying_of};
+use crate::saying::{Saying, pdu_summary};
 use crate::scene::Scene;
 use dis_records::addressed;
 use exercise_model::{EntryView, ExerciseLog};
@@ -37,7 +37,7 @@ fn is_lost_at<L: ExerciseLog>(
     ensures { result ≡ is_lost_at scene.now station bytes.now (pdu_of pdu.now) other }
 {
     let address = scene.log().station(usize::from(other)).address();
-    addressed(pdu.target, address) && (other != station && !scene.has_got(other, bytes))
+    addressed(pdu.target, address) && (other != station && !scene.has_receipt(other, bytes))
 }
 
 /// The loss at `other` of a PDU sent at `entry`, if it is lost there.
@@ -56,7 +56,7 @@ fn loss_of<L: ExerciseLog>(
         Some(Loss {
             from: scene.point(entry),
             at: other,
-            said: saying_of(pdu),
+            said: pdu_summary(pdu),
         })
     } else {
         None

@@ -7,7 +7,7 @@ use crate::arrow::{Arrow, arrows_of};
 use crate::bar::{Bar, bars_of};
 use crate::fault::ChartFault;
 use crate::loss::{Loss, losses_of};
-use crate::outside::{FromOutside, outside_of};
+use crate::outside::{OutsideReceipt, outside_receipts};
 use crate::point::{Point, Rows};
 use crate::row::{Row, rows_of};
 use crate::scene::Scene;
@@ -27,7 +27,7 @@ pub struct Marks {
     /// Receipts with their sources, in the order of the receipts in the recording.
     pub arrows: Vec<Arrow>,
     /// Receipts from outside, by row.
-    pub outside: Vec<FromOutside>,
+    pub outside: Vec<OutsideReceipt>,
     /// Losses, by row and station.
     pub losses: Vec<Loss>,
     /// Spans of the entities' lives, by station, entity and time.
@@ -58,7 +58,7 @@ fn marks_in<L: ExerciseLog>(alloc: Global, scene: &Scene<'_, L>) -> Result<Marks
     let bars = bars_of(alloc, scene)?;
     let rows = rows_of(alloc, scene)?;
     let arrows = arrows_of(alloc, scene)?;
-    let outside = outside_of(alloc, scene)?;
+    let outside = outside_receipts(alloc, scene)?;
     let losses = losses_of(alloc, scene)?;
     let unanswered = unanswered_of(alloc, scene)?;
     Ok(Marks {

@@ -6,20 +6,20 @@ ghost use Rattle.exercise_model.specs.Account.{sender_of};
 ghost use Rattle.exercise_model.specs.Held.{shown};
 ghost use Rattle.exercise_model.specs.Setting.{is_recorded};
 ghost use Rattle.exercise_review.specs.Order.{is_outside};
-ghost use Rattle.exercise_chart.specs.Outside.{outside_meant, outside_entry, outside_taken, outside_at, outside_of};
+ghost use Rattle.exercise_chart.specs.Outside.{outside_receipt, outside_receipt_in, outside_receipt_by, outside_receipt_at, outside_receipts};
 
 use crate::point::Point;
-use crate::saying::{Saying, saying_of};
+use crate::saying::{Saying, pdu_summary};
 use crate::scene::Scene;
 use exercise_model::{EntryView, ExerciseLog, Form, is_from};
-use exercise_review::Outsider;
+use exercise_review::SiteApplication;
 use siman_pdus::PduView;
 use std::alloc::{AllocError, Global};
 
 /// A receipt, in a row, from an address that nobody recorded.
 #[derive(Clone, Copy)]
-pub struct FromOutside {
-    pub by: Outsider,
+pub struct OutsideReceipt {
+    pub by: SiteApplication,
     pub to: Point,
     /// What the received PDU says.
     pub said: Saying,
@@ -48,22 +48,22 @@ fn is_outside<L: ExerciseLog>(scene: &Scene<'_, L>, pdu: &PduView<'_>) -> bool
 }
 
 /// The receipt of a PDU at an entry, if the PDU is from outside.
-fn outside_meant<L: ExerciseLog>(
+fn outside_receipt<L: ExerciseLog>(
     scene: &Scene<'_, L>,
     entry: usize,
     pdu: &PduView<'_>,
-) -> Option<FromOutside>
-    ensures { result ≡ outside_meant scene.now entry (pdu_of pdu.now) }
+) -> Option<OutsideReceipt>
+    ensures { result ≡ outside_receipt scene.now entry (pdu_of pdu.now) }
 {
     if is_outside(scene, pdu) {
-        let by = Outsider {
+        let by = SiteApplication {
             site: pdu.origin.site,
             application: pdu.origin.application,
         };
-        Some(FromOutside {
+        Some(OutsideReceipt {
             by,
             to: scene.point(entry),
-            said: saying_of(pdu),
+            said: pdu_summary(pdu),
         })
     } else {
         None
@@ -71,56 +71,56 @@ fn outside_meant<L: ExerciseLog>(
 }
 
 /// The receipt at the given entry, if it is one from outside.
-#[tactic(auto, unfolding(crate::specs::Outside::outside_entry))]
-fn outside_entry<L: ExerciseLog>(
+#[tactic(auto, unfolding(crate::specs::Outside::outside_receipt_in))]
+fn outside_receipt_in<L: ExerciseLog>(
     scene: &Scene<'_, L>,
     entry: usize,
     view: EntryView<'_>,
-) -> Option<FromOutside>
-    ensures { result ≡ outside_entry scene.now entry (shown view.entry) }
+) -> Option<OutsideReceipt>
+    ensures { result ≡ outside_receipt_in scene.now entry (shown view.entry) }
 {
     let EntryView::Received { bytes, .. } = view else {
         return None;
     };
     match scene.meant(bytes) {
-        Some(pdu) => outside_meant(scene, entry, &pdu),
+        Some(pdu) => outside_receipt(scene, entry, &pdu),
         None => None,
     }
 }
 
 /// The receipt at an entry, by its number, if it is one from outside.
-fn outside_taken<L: ExerciseLog>(scene: &Scene<'_, L>, entry: usize) -> Option<FromOutside>
-    ensures { result ≡ outside_taken scene.now entry }
+fn outside_receipt_by<L: ExerciseLog>(scene: &Scene<'_, L>, entry: usize) -> Option<OutsideReceipt>
+    ensures { result ≡ outside_receipt_by scene.now entry }
 {
     match scene.entry_at(entry) {
-        Some(view) => outside_entry(scene, entry, view),
+        Some(view) => outside_receipt_in(scene, entry, view),
         None => None,
     }
 }
 
 /// The receipt in the row of a step, if it is one from outside.
-#[tactic(auto, unfolding(crate::specs::Outside::outside_at))]
-fn outside_at<L: ExerciseLog>(scene: &Scene<'_, L>, step: usize) -> Option<FromOutside>
-    ensures { result ≡ outside_at scene.now step }
+#[tactic(auto, unfolding(crate::specs::Outside::outside_receipt_at))]
+fn outside_receipt_at<L: ExerciseLog>(scene: &Scene<'_, L>, step: usize) -> Option<OutsideReceipt>
+    ensures { result ≡ outside_receipt_at scene.now step }
 {
     match scene.place_at(step) {
-        Some(entry) => outside_taken(scene, entry),
+        Some(entry) => outside_receipt_by(scene, entry),
         None => None,
     }
 }
 
 /// All receipts from outside, by row. The list takes memory.
-#[tactic(auto, unfolding(crate::specs::Outside::outside_of), using(crate::proofs::Lists::list_steps))]
-pub(crate) fn outside_of<L: ExerciseLog>(
+#[tactic(auto, unfolding(crate::specs::Outside::outside_receipts), using(crate::proofs::Lists::list_steps))]
+pub(crate) fn outside_receipts<L: ExerciseLog>(
     alloc: Global,
     scene: &Scene<'_, L>,
-) -> Result<Vec<FromOutside>, AllocError>
-    ensures { IfOk result (λ found. found.items ≡ outside_of scene.now) }
+) -> Result<Vec<OutsideReceipt>, AllocError>
+    ensures { IfOk result (λ found. found.items ≡ outside_receipts scene.now) }
 {
     let shown = scene.rows();
     let mut found = Vec::new(alloc);
     for number in 0..shown.count() {
-        if let Some(receipt) = outside_at(scene, shown.first + number) {
+        if let Some(receipt) = outside_receipt_at(scene, shown.first + number) {
             found.push(receipt)?;
         }
     }

@@ -2,7 +2,7 @@
 
 ghost use Rattle.std.specs.Prelude.{◌≡◌, ◌-◌, ◌≤◌, ◌++◌, length, OnOk, IfOk, string_bytes};
 ghost use Rattle.exercise_model.specs.Recording.{IsRecording};
-ghost use Rattle.exercise_chart.specs.Marks.{marks_kept};
+ghost use Rattle.exercise_chart.specs.Marks.{marks_data};
 ghost use Rattle.exercise_chart.specs.Drawing.{AreOfStations, frame_of, under_text, over_text, picture_in, Draws};
 
 use crate::bars::put_bars;
@@ -11,7 +11,7 @@ use crate::frame::Frame;
 use crate::heading::put_heading;
 use crate::lines::{put_arrows, put_losses, put_outsiders};
 use crate::rows::put_rows;
-use crate::signs::{put_deeds, put_unanswered};
+use crate::signs::{put_activity_signs, put_unanswered};
 use crate::{ChartFault, MOST_ROWS, Marks, Rows, marks_of};
 use exercise_check::Step;
 use exercise_model::ExerciseLog;
@@ -37,8 +37,8 @@ fn put_under<L: ExerciseLog>(
     log: &L,
     marks: &Marks,
 ) -> Result<(), AllocError>
-    requires { AreOfStations (length (L.recording log.now).setting.stations) (marks_kept marks.now) }
-    ensures { OnOk result (string_bytes text.new ≡ string_bytes text.old ++ under_text frame (L.recording log.now) (marks_kept marks.now)) }
+    requires { AreOfStations (length (L.recording log.now).setting.stations) (marks_data marks.now) }
+    ensures { OnOk result (string_bytes text.new ≡ string_bytes text.old ++ under_text frame (L.recording log.now) (marks_data marks.now)) }
 {
     put_heading(text, frame, log)?;
     put_rows(text, frame, log, &marks.rows)?;
@@ -55,13 +55,13 @@ fn put_over<L: ExerciseLog>(
     marks: &Marks,
 ) -> Result<(), AllocError>
     requires stations { frame.stations ≡ length (L.recording log.now).setting.stations }
-    requires marks { AreOfStations (length (L.recording log.now).setting.stations) (marks_kept marks.now) }
-    ensures { OnOk result (string_bytes text.new ≡ string_bytes text.old ++ over_text frame (L.recording log.now) (marks_kept marks.now)) }
+    requires marks { AreOfStations (length (L.recording log.now).setting.stations) (marks_data marks.now) }
+    ensures { OnOk result (string_bytes text.new ≡ string_bytes text.old ++ over_text frame (L.recording log.now) (marks_data marks.now)) }
 {
     put_arrows(text, frame, &marks.arrows)?;
     put_outsiders(text, frame, &marks.outside)?;
     put_losses(text, frame, log, &marks.losses)?;
-    put_deeds(text, frame, &marks.rows)?;
+    put_activity_signs(text, frame, &marks.rows)?;
     put_unanswered(text, frame, &marks.unanswered)?;
     put_names(text, frame, log)?;
     text.push_str("</svg>\n")
@@ -75,8 +75,8 @@ fn picture_in<L: ExerciseLog>(
     marks: &Marks,
 ) -> Result<String, AllocError>
     requires stations { frame.stations ≡ length (L.recording log.now).setting.stations }
-    requires marks { AreOfStations (length (L.recording log.now).setting.stations) (marks_kept marks.now) }
-    ensures { IfOk result (λ text. string_bytes text ≡ picture_in frame (L.recording log.now) (marks_kept marks.now)) }
+    requires marks { AreOfStations (length (L.recording log.now).setting.stations) (marks_data marks.now) }
+    ensures { IfOk result (λ text. string_bytes text ≡ picture_in frame (L.recording log.now) (marks_data marks.now)) }
 {
     let mut text = String::new(alloc);
     put_under(&mut text, frame, log, marks)?;

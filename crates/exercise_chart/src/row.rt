@@ -4,10 +4,10 @@ ghost use Rattle.std.specs.Prelude.{◌≡◌, length, option_map, IfOk};
 ghost use Rattle.siman_pdus.specs.Reading.{pdu_of};
 ghost use Rattle.exercise_model.specs.Held.{shown};
 ghost use Rattle.exercise_model.specs.Meaning.{meaning};
-ghost use Rattle.exercise_chart.specs.Row.{is_repeat, again_of, sent_did, received_did, did_of, row_of, row_taking, row_at, rows_of};
+ghost use Rattle.exercise_chart.specs.Row.{is_repeat, repetition_of, send_activity, receipt_activity, activity_of, row_of, row_taking, row_at, rows_of};
 
 use crate::point::Point;
-use crate::saying::{Saying, saying_of};
+use crate::saying::{Saying, pdu_summary};
 use crate::scene::Scene;
 use dis_records::EntityState;
 use exercise_model::{EntryView, ExerciseLog};
@@ -16,7 +16,7 @@ use std::alloc::{AllocError, Global};
 
 /// Whether a datagram repeats an earlier one.
 #[derive(Clone, Copy)]
-pub enum Again {
+pub enum Repetition {
     /// It does not.
     No,
     /// It repeats an earlier request, in other bytes.
@@ -27,9 +27,9 @@ pub enum Again {
 
 /// What a station did at an entry.
 #[derive(Clone, Copy)]
-pub enum Did {
+pub enum Activity {
     /// It sent a PDU of the exercise.
-    Sent(Saying, Again),
+    Sent(Saying, Repetition),
     /// It received one.
     Received(Saying),
     /// It sent a datagram, of this many bytes, that means nothing in the exercise.
@@ -44,7 +44,7 @@ pub enum Did {
 #[derive(Clone, Copy)]
 pub struct Row {
     pub at: Point,
-    pub did: Did,
+    pub did: Activity,
 }
 
 /// Whether an entry sends a request that an earlier entry sent first.
@@ -58,47 +58,60 @@ fn is_repeat<L: ExerciseLog>(scene: &Scene<'_, L>, entry: usize) -> bool
 }
 
 /// Whether, and how, a datagram sent at an entry repeats an earlier one.
-fn again_of<L: ExerciseLog>(scene: &Scene<'_, L>, entry: usize, station: u16, bytes: &[u8]) -> Again
-    ensures { result ≡ again_of scene.now entry station bytes.now }
+fn repetition_of<L: ExerciseLog>(
+    scene: &Scene<'_, L>,
+    entry: usize,
+    station: u16,
+    bytes: &[u8],
+) -> Repetition
+    ensures { result ≡ repetition_of scene.now entry station bytes.now }
 {
     if !scene.is_first_sent(entry, station, bytes) {
-        Again::SameBytes
+        Repetition::SameBytes
     } else if is_repeat(scene, entry) {
-        Again::Repeated
+        Repetition::Repeated
     } else {
-        Again::No
+        Repetition::No
     }
 }
 
 /// What a station does when it sends a datagram.
-fn sent_did<L: ExerciseLog>(scene: &Scene<'_, L>, entry: usize, station: u16, bytes: &[u8]) -> Did
-    ensures { result ≡ sent_did scene.now entry station bytes.now (meaning scene.now.recording.setting.exercise bytes.now) }
+fn send_activity<L: ExerciseLog>(
+    scene: &Scene<'_, L>,
+    entry: usize,
+    station: u16,
+    bytes: &[u8],
+) -> Activity
+    ensures { result ≡ send_activity scene.now entry station bytes.now (meaning scene.now.recording.setting.exercise bytes.now) }
 {
     match scene.meant(bytes) {
-        Some(pdu) => Did::Sent(saying_of(&pdu), again_of(scene, entry, station, bytes)),
-        None => Did::SentOther(bytes.len()),
+        Some(pdu) => Activity::Sent(
+            pdu_summary(&pdu),
+            repetition_of(scene, entry, station, bytes),
+        ),
+        None => Activity::SentOther(bytes.len()),
     }
 }
 
 /// What a station does when it receives a datagram.
-fn received_did<L: ExerciseLog>(scene: &Scene<'_, L>, bytes: &[u8]) -> Did
-    ensures { result ≡ received_did bytes.now (meaning scene.now.recording.setting.exercise bytes.now) }
+fn receipt_activity<L: ExerciseLog>(scene: &Scene<'_, L>, bytes: &[u8]) -> Activity
+    ensures { result ≡ receipt_activity bytes.now (meaning scene.now.recording.setting.exercise bytes.now) }
 {
     match scene.meant(bytes) {
-        Some(pdu) => Did::Received(saying_of(&pdu)),
-        None => Did::ReceivedOther(bytes.len()),
+        Some(pdu) => Activity::Received(pdu_summary(&pdu)),
+        None => Activity::ReceivedOther(bytes.len()),
     }
 }
 
 /// What a station does at an entry.
-#[tactic(auto, unfolding(crate::specs::Row::did_of))]
-fn did_of<L: ExerciseLog>(scene: &Scene<'_, L>, entry: usize, view: EntryView<'_>) -> Did
-    ensures { result ≡ did_of scene.now entry (shown view.entry) }
+#[tactic(auto, unfolding(crate::specs::Row::activity_of))]
+fn activity_of<L: ExerciseLog>(scene: &Scene<'_, L>, entry: usize, view: EntryView<'_>) -> Activity
+    ensures { result ≡ activity_of scene.now entry (shown view.entry) }
 {
     match view {
-        EntryView::Sent { station, bytes, .. } => sent_did(scene, entry, station, bytes),
-        EntryView::Received { bytes, .. } => received_did(scene, bytes),
-        EntryView::Told { entity, state, .. } => Did::Told(entity, state),
+        EntryView::Sent { station, bytes, .. } => send_activity(scene, entry, station, bytes),
+        EntryView::Received { bytes, .. } => receipt_activity(scene, bytes),
+        EntryView::Told { entity, state, .. } => Activity::Told(entity, state),
     }
 }
 
@@ -113,7 +126,7 @@ fn row_taking<L: ExerciseLog>(scene: &Scene<'_, L>, step: usize, entry: usize) -
                 step,
                 station: view.station(),
             },
-            did: did_of(scene, entry, view),
+            did: activity_of(scene, entry, view),
         }),
         None => None,
     }

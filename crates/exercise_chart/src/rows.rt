@@ -8,7 +8,7 @@ ghost use Rattle.exercise_chart.specs.Rows.{rule_text, row_words, row_text, rows
 use crate::Row;
 use crate::element::{Attribute, Shown, begin_words, put_element};
 use crate::frame::Frame;
-use crate::words::put_did;
+use crate::words::put_activity;
 use exercise_model::ExerciseLog;
 use siman_print::{Field, Spelling, Value, put_fields, put_opening};
 use std::alloc::AllocError;
@@ -41,7 +41,7 @@ fn put_row_words<L: ExerciseLog>(text: &mut String, log: &L, row: &Row) -> Resul
     put_opening(text, Spelling::Text, "", &Some(entry))?;
     let station = [Field::Bare("address", Value::Address(address))];
     put_fields(text, Spelling::Text, &station)?;
-    put_did(text, address, &row.did)
+    put_activity(text, address, &row.did)
 }
 
 /// Writes a row: its rule and its words.

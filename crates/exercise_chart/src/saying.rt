@@ -2,7 +2,7 @@
 
 ghost use Rattle.std.specs.Prelude.{◌≡◌};
 ghost use Rattle.siman_pdus.specs.Reading.{pdu_of};
-ghost use Rattle.exercise_chart.specs.Saying.{saying_of};
+ghost use Rattle.exercise_chart.specs.Saying.{pdu_summary};
 
 use dis_records::{EntityId, Kind};
 use exercise_review::Word;
@@ -23,8 +23,8 @@ pub struct Saying {
 }
 
 /// Summary of a PDU.
-pub(crate) fn saying_of(pdu: &PduView<'_>) -> Saying
-    ensures { result ≡ saying_of (pdu_of pdu.now) }
+pub(crate) fn pdu_summary(pdu: &PduView<'_>) -> Saying
+    ensures { result ≡ pdu_summary (pdu_of pdu.now) }
 {
     Saying {
         kind: pdu.kind(),

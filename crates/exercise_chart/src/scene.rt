@@ -7,10 +7,10 @@ ghost use Rattle.exercise_model.specs.Entry.{is_entry};
 ghost use Rattle.exercise_model.specs.Held.{shown};
 ghost use Rattle.exercise_model.specs.Meaning.{meaning};
 ghost use Rattle.exercise_chart.specs.Point.{first_step, step_of, station_of_entry, place_at};
-ghost use Rattle.exercise_chart.specs.Deeds.{first_sent, first_got};
+ghost use Rattle.exercise_chart.specs.Deeds.{first_sent, first_received};
 ghost use Rattle.exercise_chart.specs.Scene.{SceneData, point_in};
 
-use crate::deeds::{Deed, Firsts, got_in, sent_in};
+use crate::deeds::{DatagramFirsts, StationDatagram, first_receipt_index, first_send_index};
 use crate::point::{Point, Rows};
 use crate::taken::steps_taken;
 use exercise_check::Step;
@@ -28,8 +28,8 @@ pub(crate) struct Scene<'a, L: ExerciseLog> {
     steps: &'a [Step],
     rows: Rows,
     taken: Vec<Option<usize>>,
-    sent: Firsts<'a>,
-    got: Firsts<'a>,
+    sent: DatagramFirsts<'a>,
+    got: DatagramFirsts<'a>,
 }
 
 impl<'a, L: ExerciseLog> Model for Scene<'a, L> {
@@ -54,8 +54,8 @@ impl<'a, L: ExerciseLog> Scene<'a, L> {
     {
         let log = register.log();
         let taken = steps_taken(alloc, steps, log.entry_count())?;
-        let sent = sent_in(alloc, log)?;
-        let got = got_in(alloc, log)?;
+        let sent = first_send_index(alloc, log)?;
+        let got = first_receipt_index(alloc, log)?;
         Ok(Scene {
             register,
             steps,
@@ -164,16 +164,16 @@ impl<'a, L: ExerciseLog> Scene<'a, L> {
     pub(crate) fn is_first_sent(&self, entry: usize, station: u16, bytes: &[u8]) -> bool
         ensures { result ≡ same_id (first_sent self.now.recording station bytes.now) (Some entry) }
     {
-        match self.sent.get(&Deed { station, bytes }) {
+        match self.sent.get(&StationDatagram { station, bytes }) {
             Some(first) => *first == entry,
             None => false,
         }
     }
 
     /// Whether a station ever receives these bytes.
-    pub(crate) fn has_got(&self, station: u16, bytes: &[u8]) -> bool
-        ensures { result ≡ is_some (first_got self.now.recording station bytes.now) }
+    pub(crate) fn has_receipt(&self, station: u16, bytes: &[u8]) -> bool
+        ensures { result ≡ is_some (first_received self.now.recording station bytes.now) }
     {
-        self.got.get(&Deed { station, bytes }).is_some()
+        self.got.get(&StationDatagram { station, bytes }).is_some()
     }
 }

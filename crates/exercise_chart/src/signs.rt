@@ -3,12 +3,12 @@
 
 ghost use Rattle.std.specs.Prelude.{◌≡◌, ◌++◌, OnOk, string_bytes};
 ghost use Rattle.std.specs.List.{flat_map};
-ghost use Rattle.exercise_chart.specs.Signs.{sign_text, deed_text, deeds_text, unanswered_text, all_unanswered_text};
+ghost use Rattle.exercise_chart.specs.Signs.{sign_text, activity_sign_text, activity_signs_text, unanswered_text, all_unanswered_text};
 
 use crate::element::{Attribute, Shown, put_element};
 use crate::frame::Frame;
 use crate::tone::Tone;
-use crate::{Did, Point, Row};
+use crate::{Activity, Point, Row};
 use std::alloc::AllocError;
 
 /// Writes a sign at the place of an entry, with a colour and a class.
@@ -36,28 +36,32 @@ fn put_sign<'a>(
 
 /// Writes the sign of what a station did. A receipt that means something has none: its arrow shows
 /// it.
-fn put_deed(text: &mut String, frame: Frame, row: &Row) -> Result<(), AllocError>
-    ensures { OnOk result (string_bytes text.new ≡ string_bytes text.old ++ deed_text frame row.now.at row.now.did) }
+fn put_activity_sign(text: &mut String, frame: Frame, row: &Row) -> Result<(), AllocError>
+    ensures { OnOk result (string_bytes text.new ≡ string_bytes text.old ++ activity_sign_text frame row.now.at row.now.did) }
 {
     match &row.did {
-        Did::Sent(said, _) => {
+        Activity::Sent(said, _) => {
             let colour = Tone::of(said).colour();
             put_sign(text, frame, &row.at, "#sent", colour, "sent")
         }
-        Did::Received(_) => Ok(()),
-        Did::SentOther(_) => put_sign(text, frame, &row.at, "#other", "#475569", "other"),
-        Did::ReceivedOther(_) => put_sign(text, frame, &row.at, "#other", "#475569", "other"),
-        Did::Told(_, _) => put_sign(text, frame, &row.at, "#told", "#ffffff", "told"),
+        Activity::Received(_) => Ok(()),
+        Activity::SentOther(_) => put_sign(text, frame, &row.at, "#other", "#475569", "other"),
+        Activity::ReceivedOther(_) => put_sign(text, frame, &row.at, "#other", "#475569", "other"),
+        Activity::Told(_, _) => put_sign(text, frame, &row.at, "#told", "#ffffff", "told"),
     }
 }
 
 /// Writes the signs of what the stations did.
-#[tactic(auto, unfolding(crate::specs::Signs::deeds_text))]
-pub(crate) fn put_deeds(text: &mut String, frame: Frame, rows: &[Row]) -> Result<(), AllocError>
-    ensures { OnOk result (string_bytes text.new ≡ string_bytes text.old ++ deeds_text frame rows.now) }
+#[tactic(auto, unfolding(crate::specs::Signs::activity_signs_text))]
+pub(crate) fn put_activity_signs(
+    text: &mut String,
+    frame: Frame,
+    rows: &[Row],
+) -> Result<(), AllocError>
+    ensures { OnOk result (string_bytes text.new ≡ string_bytes text.old ++ activity_signs_text frame rows.now) }
 {
     for row in rows {
-        put_deed(text, frame, row)?;
+        put_activity_sign(text, frame, row)?;
     }
     Ok(())
 }

@@ -1,9 +1,9 @@
 //! What a station did, in words.
 
 ghost use Rattle.std.specs.Prelude.{◌≡◌, ◌++◌, OnOk, string_bytes};
-ghost use Rattle.exercise_chart.specs.Words.{answer_words, request_words, again_words, kind_words, sent_words, received_words, other_words, told_words, did_words};
+ghost use Rattle.exercise_chart.specs.Words.{answer_words, request_words, repetition_words, kind_words, sent_words, received_words, other_words, told_words, activity_words};
 
-use crate::{Again, Did, Saying};
+use crate::{Activity, Repetition, Saying};
 use dis_records::{Address, EntityId, EntityState};
 use exercise_review::Word;
 use siman_print::{Field, Spelling, Value, put_fields};
@@ -42,18 +42,18 @@ fn put_request(text: &mut String, request: Option<u32>) -> Result<(), AllocError
 }
 
 /// Writes how a send repeats an earlier one, if it does.
-fn put_again(text: &mut String, again: Again) -> Result<(), AllocError>
-    ensures { OnOk result (string_bytes text.new ≡ string_bytes text.old ++ again_words again) }
+fn put_repetition(text: &mut String, again: Repetition) -> Result<(), AllocError>
+    ensures { OnOk result (string_bytes text.new ≡ string_bytes text.old ++ repetition_words again) }
 {
     match again {
-        Again::No => Ok(()),
-        Again::Repeated => text.push_str(" (repeat)"),
-        Again::SameBytes => text.push_str(" (same bytes again)"),
+        Repetition::No => Ok(()),
+        Repetition::Repeated => text.push_str(" (repeat)"),
+        Repetition::SameBytes => text.push_str(" (same bytes again)"),
     }
 }
 
 /// Writes that a PDU was sent, and to whom.
-fn put_sent(text: &mut String, said: &Saying, again: Again) -> Result<(), AllocError>
+fn put_sent(text: &mut String, said: &Saying, again: Repetition) -> Result<(), AllocError>
     ensures { OnOk result (string_bytes text.new ≡ string_bytes text.old ++ sent_words said.now again) }
 {
     text.push_str(" sent")?;
@@ -61,7 +61,7 @@ fn put_sent(text: &mut String, said: &Saying, again: Again) -> Result<(), AllocE
     let target = [Field::Keyed("to", Value::Entity(&said.target))];
     put_fields(text, Spelling::Text, &target)?;
     put_request(text, said.request)?;
-    put_again(text, again)
+    put_repetition(text, again)
 }
 
 /// Writes that a PDU was received, and from whom.
@@ -110,15 +110,19 @@ fn put_told(
 }
 
 /// Writes what the station with this address did.
-#[tactic(auto, unfolding(crate::specs::Words::did_words))]
-pub(crate) fn put_did(text: &mut String, address: Address, did: &Did) -> Result<(), AllocError>
-    ensures { OnOk result (string_bytes text.new ≡ string_bytes text.old ++ did_words address did.now) }
+#[tactic(auto, unfolding(crate::specs::Words::activity_words))]
+pub(crate) fn put_activity(
+    text: &mut String,
+    address: Address,
+    did: &Activity,
+) -> Result<(), AllocError>
+    ensures { OnOk result (string_bytes text.new ≡ string_bytes text.old ++ activity_words address did.now) }
 {
     match did {
-        Did::Sent(said, again) => put_sent(text, said, *again),
-        Did::Received(said) => put_received(text, said),
-        Did::SentOther(bytes) => put_other(text, "sent", *bytes),
-        Did::ReceivedOther(bytes) => put_other(text, "received", *bytes),
-        Did::Told(entity, state) => put_told(text, address, *entity, *state),
+        Activity::Sent(said, again) => put_sent(text, said, *again),
+        Activity::Received(said) => put_received(text, said),
+        Activity::SentOther(bytes) => put_other(text, "sent", *bytes),
+        Activity::ReceivedOther(bytes) => put_other(text, "received", *bytes),
+        Activity::Told(entity, state) => put_told(text, address, *entity, *state),
     }
 }

@@ -15,7 +15,7 @@ use Rattle.exercise_model.specs.Meaning.{meaning}
 use Rattle.exercise_model.specs.Cause.{first_cause, send_rows, send_cause, get_rows, get_cause, tell_rows, cause_of}
 use Rattle.exercise_model.specs.State.{state_after}
 use Rattle.exercise_check.specs.declared.certificate.Step.{Step}
-use Rattle.exercise_check.specs.Order.{order_of, is_next, link_of, link_number}
+use Rattle.exercise_check.specs.Sequence.{sequence_of, is_next, link_of, link_number}
 use Rattle.exercise_check.specs.Goodness.{link_cause, event_cause, step_cause}
 
 is_count : Cause → Bool
@@ -83,9 +83,9 @@ step_other r before step =
       | None ↦ refl
       | Some e ↦ elim (is_next r before step.place (event_of e)) as
           (λ b. Other
-          (cond b (option_or (cause_of r.setting (order_of r before) (event_of e)) (link_cause step.link (link_of r before step.place (event_of e))))
+          (cond b (option_or (cause_of r.setting (sequence_of r before) (event_of e)) (link_cause step.link (link_of r before step.place (event_of e))))
           (Some OutOfOrder))) [
-            | true ↦ or_other _ _ (event_other r.setting (order_of r before) (event_of e)) (link_other step.link (link_of r before step.place (event_of e)))
+            | true ↦ or_other _ _ (event_other r.setting (sequence_of r before) (event_of e)) (link_other step.link (link_of r before step.place (event_of e)))
             | false ↦ refl
           ]
     ]

@@ -15,14 +15,14 @@ use Rattle.exercise_model.proofs.Offered.{read_alike}
 use Rattle.exercise_check.specs.declared.certificate.Step.{Step}
 use Rattle.exercise_check.specs.declared.checker.CheckFault.{CheckFault}
 use Rattle.exercise_check.specs.declared.checker.CheckFault.TheVariants.{Bad, Memory}
-use Rattle.exercise_check.specs.Order.{order_of, is_next, link_of}
+use Rattle.exercise_check.specs.Sequence.{sequence_of, is_next, link_of}
 use Rattle.exercise_check.specs.Goodness.{step_cause, cause_at, IsGood, IsFirstBad, Refuses}
-use Rattle.exercise_findings.specs.Account.{AccountData, TellsAccount}
+use Rattle.exercise_findings.specs.Account.{AccountData, IsAccount}
 
 -- who may be heard is all that a step asks of the form, and that is as it was
 same_in_form : (r : PlainRecording) (before : List Step) (step : Step)
     → (let first : PlainRecording = record r { setting = record r.setting { form = First } } in step_cause first before step ≡ step_cause (converted r) before step)
-unfolding step_cause is_next order_of log_before link_of entry_taken_up own_event cause_of get_cause may_be_heard is_recorded
+unfolding step_cause is_next sequence_of log_before link_of entry_taken_up own_event cause_of get_cause may_be_heard is_recorded
 same_in_form r before step = refl
 
 pub step_alike : (r : PlainRecording) (before : List Step) (step : Step) → r.setting.form ≡ First → step_cause r before step ≡ step_cause (converted r) before step
@@ -66,7 +66,7 @@ pub refused_alike : (r : PlainRecording) (steps : List Step) (fault : CheckFault
 refused_alike r steps fault first =
     (refused_on r (closed r.setting) (closed_alike r first) steps fault, refused_on (converted r) r.setting (first_alike r first) steps fault)
 
-pub told_alike : (r : PlainRecording) (c : AccountData) → TellsAccount r c ↔ TellsAccount (converted r) c
+pub told_alike : (r : PlainRecording) (c : AccountData) → IsAccount r c ↔ IsAccount (converted r) c
 told_alike r c =
     let alike = read_alike r in (
       λ p. record { states = λ s. p.states s ∙ alike.states s; pairs = λ i. p.pairs i ∙ alike.pairs i; causes = λ i. p.causes i ∙ alike.changes i; others = p.others ∙ alike.others },

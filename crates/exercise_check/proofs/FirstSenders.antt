@@ -19,11 +19,11 @@ use Rattle.exercise_model.proofs.Offered.{IsFirst, first_found, passes, sender_f
 use Rattle.exercise_findings.specs.Source.{sends_here, first_send, source_of_pdu, source_of}
 use Rattle.exercise_findings.proofs.Offered.{bytes_same, sends_there, source_here}
 use Rattle.exercise_check.specs.declared.certificate.Step.{Step}
-use Rattle.exercise_check.specs.Order.{order_of, first_sender}
+use Rattle.exercise_check.specs.Sequence.{sequence_of, first_sender}
 use Rattle.exercise_check.specs.Goodness.{no_step, IsGoodStep, GoodBelow}
-use Rattle.exercise_check.specs.Cursors.{StandsFor}
+use Rattle.exercise_check.specs.Cursors.{Represents}
 use Rattle.exercise_check.specs.Judging.{was_taken, if_taken}
-use Rattle.exercise_check.proofs.Orders.{first_sender-snoc, first_sender-none, length-order-none}
+use Rattle.exercise_check.proofs.Sequences.{first_sender-snoc, first_sender-none, length-order-none}
 use Rattle.exercise_check.proofs.Courses.{own_entry}
 use Rattle.exercise_check.proofs.Goodness.{good_step}
 use Rattle.exercise_check.proofs.Nexts.{own_here}
@@ -34,7 +34,7 @@ abbrev rank : PlainRecording → ℕ → ℕ → ℕ
 rank r t e = length (log_before r t e)
 
 abbrev count : PlainRecording → ℕ → List Step → ℕ
-count r t steps = length (log_at t (order_of r steps))
+count r t steps = length (log_at t (sequence_of r steps))
 
 -- an entry of a station was taken where fewer stand before it than were taken
 own_taken : (r : PlainRecording) (steps : List Step) (t e : ℕ) → is_some (own_event r t e) ≡ true
@@ -47,7 +47,7 @@ own_taken r steps t e own =
 
 -- an entry was taken where the one that its station is to do next comes after it
 pub taken_by_cursor : (r : PlainRecording) (steps : List Step) (e s number : ℕ) (x : Entry) → s ≡ station_of (event_of x)
-    → e < length r.entries → slice_get r.entries e ≡ Some x → StandsFor r s (count r s steps) number → nat_lt e number ≡ was_taken r steps e
+    → e < length r.entries → slice_get r.entries e ≡ Some x → Represents r s (count r s steps) number → nat_lt e number ≡ was_taken r steps e
 taken_by_cursor r steps e s number x same within at stands = by ∙ sym (own_taken r steps s e own)
   where
     own : is_some (own_event r s e) ≡ true
@@ -124,10 +124,10 @@ sending r limits b p means before step e good = of_entry e good
     of_entry (Sent s stamp c) good same =
         let equal : b ≡ c = (bytes_decides b c).0 same in
         let at = subst (λ x. slice_get r.entries step.place ≡ Some (Sent s stamp x)) (sym equal) good.at in
-        let allowed = subst (λ x. cause_of r.setting (order_of r before) (Send s x) ≡ None) (sym equal) good.allowed in
+        let allowed = subst (λ x. cause_of r.setting (sequence_of r before) (Send s x) ≡ None) (sym equal) good.allowed in
         let there = entry_station (length r.setting.stations) r.entries step.place (Sent s stamp c) limits.each_entry good.at in
         record {
-          sender = sender_found r limits p s there (own_address r (order_of r before) s b p allowed means);
+          sender = sender_found r limits p s there (own_address r (sequence_of r before) s b p allowed means);
           here = sends_there r step.place s stamp b b s at ∙ ap (λ q. cond q (bytes_eq b b) false) (eq-eqb s s refl) ∙ bytes_same b;
         }
     of_entry (Received s stamp c) good same = absurd (cc)

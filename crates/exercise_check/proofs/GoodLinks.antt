@@ -20,14 +20,14 @@ use Rattle.exercise_model.proofs.Offered.{log_before-all, passes, unsent_is_neve
 use Rattle.exercise_findings.specs.Source.{first_send, source_of_pdu, source_of}
 use Rattle.exercise_findings.proofs.Offered.{entry_within, recorded_sender, source_here}
 use Rattle.exercise_check.specs.declared.certificate.Step.{Step}
-use Rattle.exercise_check.specs.Order.{order_of, first_sender, sender_link, link_of, link_number}
+use Rattle.exercise_check.specs.Sequence.{sequence_of, first_sender, sender_link, link_of, link_number}
 use Rattle.exercise_check.specs.Judging.{was_taken, if_taken}
 use Rattle.exercise_check.specs.Goodness.{IsGoodStep, GoodBelow, IsGood}
-use Rattle.exercise_check.specs.Links.{log_link, step_at, NameOnce, DifferInOrder}
+use Rattle.exercise_check.specs.Links.{log_link, step_at, IsNamedOnce, DifferInSequence}
 use Rattle.exercise_check.proofs.Explained.{good_explains}
 use Rattle.exercise_check.proofs.FirstSenders.{first_taken, same_rank}
 use Rattle.exercise_check.proofs.Goodness.{good_step}
-use Rattle.exercise_check.proofs.Orders.{is_some-first_sender, length-steps-more, length-steps-none}
+use Rattle.exercise_check.proofs.Sequences.{is_some-first_sender, length-steps-more, length-steps-none}
 
 -- ---- links
 
@@ -42,17 +42,17 @@ taken_is r before (Some e) some =
 
 -- what was received and had to be sent was sent
 sent_there : (r : PlainRecording) (before : List Step) (s : ℕ) (b : List ℕ) (p : Pdu) → meaning r.setting.exercise b ≡ Some p → is_recorded r.setting p ≡ true
-    → cause_of r.setting (order_of r before) (Get s b) ≡ None → is_some (first_sender r.entries b before) ≡ true
+    → cause_of r.setting (sequence_of r before) (Get s b) ≡ None → is_some (first_sender r.entries b before) ≡ true
 sent_there r before s b p meant recorded allowed =
     is_some-first_sender r b before
-    ∙ elim (was_sent b (order_of r before)) as (λ t. was_sent b (order_of r before) ≡ t → t ≡ true) [
+    ∙ elim (was_sent b (sequence_of r before)) as (λ t. was_sent b (sequence_of r before) ≡ t → t ≡ true) [
       | true ↦ λ _. refl
-      | false ↦ λ unsent. absurd (none-some NeverSent (sym allowed ∙ unsent_is_never_sent r.setting (order_of r before) s b p meant recorded unsent))
+      | false ↦ λ unsent. absurd (none-some NeverSent (sym allowed ∙ unsent_is_never_sent r.setting (sequence_of r before) s b p meant recorded unsent))
     ] refl
 
 -- what was received is linked with its source
 got_link : (r : PlainRecording) (steps : List Step) (k place s stamp : ℕ) (b : List ℕ) → IsRecording r → GoodBelow r steps (length steps) → k ≤ length steps
-    → slice_get r.entries place ≡ Some (Received s stamp b) → cause_of r.setting (order_of r (take k steps)) (Get s b) ≡ None
+    → slice_get r.entries place ≡ Some (Received s stamp b) → cause_of r.setting (sequence_of r (take k steps)) (Get s b) ≡ None
     → link_of r (take k steps) place (Get s b) ≡ source_of r place
 unfolding link_of
 got_link r steps k place s stamp b limits good within at allowed =
@@ -84,7 +84,7 @@ or_none (Some x) = refl
 
 -- the link of an event is that of its entry by the logs
 link_is : (r : PlainRecording) (steps : List Step) (k place : ℕ) (e : Entry) → IsRecording r → GoodBelow r steps (length steps) → k ≤ length steps
-    → slice_get r.entries place ≡ Some e → cause_of r.setting (order_of r (take k steps)) (event_of e) ≡ None
+    → slice_get r.entries place ≡ Some e → cause_of r.setting (sequence_of r (take k steps)) (event_of e) ≡ None
     → link_of r (take k steps) place (event_of e) ≡ log_link r place
 unfolding link_of pair_of
 link_is r steps k place (Sent s stamp b) limits good within at allowed =
@@ -116,7 +116,7 @@ abbrev rank : PlainRecording → ℕ → ℕ → ℕ
 rank r t i = length (log_before r t i)
 
 abbrev named : PlainRecording → ℕ → List Step → ℕ → ℕ
-named r t steps n = length (log_at t (order_of r (take n steps)))
+named r t steps n = length (log_at t (sequence_of r (take n steps)))
 
 own_station : (r : PlainRecording) (t i : ℕ) (e : Entry) → slice_get r.entries i ≡ Some e → is_some (own_event r t i) ≡ true → station_of (event_of e) ≡ t
 unfolding own_event
@@ -138,7 +138,7 @@ next_here : (r : PlainRecording) (steps : List Step) (t n : ℕ) → GoodBelow r
     → is_some (own_event r t (step_at steps n).place) ≡ true → named r t steps n ≡ rank r t (step_at steps n).place
 next_here r steps t n good within own =
     let here = good_here r steps n good within in
-    subst (λ s. length (log_at s (order_of r (take n steps))) ≡ length (log_before r s (step_at steps n).place))
+    subst (λ s. length (log_at s (sequence_of r (take n steps))) ≡ length (log_before r s (step_at steps n).place))
     (own_station r t (step_at steps n).place here.0 here.1.at own) here.1.next
 
 grows : (r : PlainRecording) (t : ℕ) (steps : List Step) (m d : ℕ) → m + d ≤ length steps → named r t steps m ≤ named r t steps (m + d)
@@ -197,13 +197,13 @@ found_among r steps i t good own (suc n) within less =
     (cases_lt (rank r t i) (named r t steps n))
 
 -- A GOOD CERTIFICATE NAMES EACH ENTRY ONCE
-pub named_once : (r : PlainRecording) (steps : List Step) (i : ℕ) → IsRecording r → IsGood r steps → i < length r.entries → NameOnce steps i
+pub named_once : (r : PlainRecording) (steps : List Step) (i : ℕ) → IsRecording r → IsGood r steps → i < length r.entries → IsNamedOnce steps i
 named_once r steps i limits good within =
     let entry = entry_within r.entries i within in
     let t : ℕ = station_of (event_of entry.0) in
     let own : is_some (own_event r t i) ≡ true = own_some r i entry.0 entry.1 in
     let all : named r t steps (length steps) ≡ rank r t (length r.entries) =
-    ap (λ xs. length (log_at t (order_of r xs))) (take_all (length steps) steps (omega arith))
+    ap (λ xs. length (log_at t (sequence_of r xs))) (take_all (length steps) steps (omega arith))
     ∙ ap length ((good_explains r limits steps good).logs t ∙ sym (log_before-all r t)) in
     let found = found_among r steps i t good.good own (length steps) (omega arith) (omega (arith, all, passes r t i (length r.entries) own within)) in
     record {
@@ -223,8 +223,8 @@ step_same : (x y : Step) → x.place ≡ y.place → x.link ≡ y.link → x ≡
 step_same x y place link = rw (place, link) refl
 
 -- TWO GOOD CERTIFICATES differ in order alone
-pub differ_in_order : (r : PlainRecording) (steps other : List Step) → IsRecording r → IsGood r steps → IsGood r other → DifferInOrder steps other
-differ_in_order r steps other limits good also = record {
+pub differ_in_sequence : (r : PlainRecording) (steps other : List Step) → IsRecording r → IsGood r steps → IsGood r other → DifferInSequence steps other
+differ_in_sequence r steps other limits good also = record {
   count = good.count ∙ sym also.count;
   there = λ k within.
       let here = good_here r steps k good.good within in

@@ -17,9 +17,9 @@ use Rattle.exercise_model.specs.Place.{log_before, own_event}
 use Rattle.exercise_model.specs.Run.{IsBeginning}
 use Rattle.exercise_model.proofs.Offered.{same_beginnings, log_before-beginning, log_before-next}
 use Rattle.exercise_check.specs.declared.certificate.Step.{Step}
-use Rattle.exercise_check.specs.Order.{order_of, is_next, link_of, link_number}
+use Rattle.exercise_check.specs.Sequence.{sequence_of, is_next, link_of, link_number}
 use Rattle.exercise_check.specs.Goodness.{event_cause, step_cause, IsGoodStep, no_step, GoodBelow, ArePlaced, IsReady}
-use Rattle.exercise_check.proofs.Orders.{log_at-order_of-snoc, log_at-order_of-none}
+use Rattle.exercise_check.proofs.Sequences.{log_at-sequence_of-snoc, log_at-sequence_of-none}
 
 -- the parts of a good step
 good_event : (r : PlainRecording) (before : List Step) (step : Step) (e : Entry) → slice_get r.entries step.place ≡ Some e
@@ -27,14 +27,14 @@ good_event : (r : PlainRecording) (before : List Step) (step : Step) (e : Entry)
 unfolding is_next
 good_event r before step e at =
     let v = event_of e in
-    elim (nat_eq (length (log_at (station_of v) (order_of r before))) (length (log_before r (station_of v) step.place))) as (λ t.
-    nat_eq (length (log_at (station_of v) (order_of r before))) (length (log_before r (station_of v) step.place)) ≡ t
-    → cond t (option_or (cause_of r.setting (order_of r before) v) (cond (nat_eq step.link (link_number (link_of r before step.place v))) None (Some BadLink)))
+    elim (nat_eq (length (log_at (station_of v) (sequence_of r before))) (length (log_before r (station_of v) step.place))) as (λ t.
+    nat_eq (length (log_at (station_of v) (sequence_of r before))) (length (log_before r (station_of v) step.place)) ≡ t
+    → cond t (option_or (cause_of r.setting (sequence_of r before) v) (cond (nat_eq step.link (link_number (link_of r before step.place v))) None (Some BadLink)))
     (Some OutOfOrder) ≡ None
     → IsGoodStep r before step e) [
       | false ↦ λ _ h. absurd (cc)
-      | true ↦ λ next. elim (cause_of r.setting (order_of r before) v) as
-          (λ o. cause_of r.setting (order_of r before) v ≡ o → option_or o
+      | true ↦ λ next. elim (cause_of r.setting (sequence_of r before) v) as
+          (λ o. cause_of r.setting (sequence_of r before) v ≡ o → option_or o
           (cond (nat_eq step.link (link_number (link_of r before step.place v))) None (Some BadLink)) ≡ None → IsGoodStep r before step e) [
             | Some cause ↦ λ _ h. absurd (cc)
             | None ↦ λ allowed. elim (nat_eq step.link (link_number (link_of r before step.place v))) as
@@ -68,31 +68,31 @@ own_station r s i v e own at =
 
 -- what good steps record at each station is a beginning of its log
 pub steps_cover : (r : PlainRecording) (steps : List Step) (n : ℕ) → n ≤ length steps → GoodBelow r steps n → (s : ℕ)
-    → IsBeginning (log_at s (order_of r (take n steps))) (log_of r s)
+    → IsBeginning (log_at s (sequence_of r (take n steps))) (log_of r s)
 unfolding log_of
 steps_cover r steps zero within good s =
-    (log_at s (past r.entries), ap (λ h. log_at s (past r.entries) ++ h) (log_at-order_of-none r s) ∙ append-nil (log_of r s))
+    (log_at s (past r.entries), ap (λ h. log_at s (past r.entries) ++ h) (log_at-sequence_of-none r s) ∙ append-nil (log_of r s))
 steps_cover r steps (suc n) within good s =
     let before : List Step = take n steps in
     let step : Step = slice_index_or steps n no_step in
     let here = good_step r before step (good n (omega arith)) in
     let cover = steps_cover r steps n (omega arith) (λ k l. good k (omega arith)) s in
     let whole : History = log_at s (past r.entries) in
-    let next : (v : Event) → own_event r s step.place ≡ Some v → IsBeginning (v ∷ log_at s (order_of r before)) whole =
+    let next : (v : Event) → own_event r s step.place ≡ Some v → IsBeginning (v ∷ log_at s (sequence_of r before)) whole =
     λ v own.
     let at_s = own_station r s step.place v here.0 own here.1.at in
-    let lengths : length (log_at s (order_of r before)) ≡ length (log_before r s step.place) = subst
-    (λ t. length (log_at t (order_of r before)) ≡ length (log_before r t step.place)) at_s here.1.next in
+    let lengths : length (log_at s (sequence_of r before)) ≡ length (log_before r s step.place) = subst
+    (λ t. length (log_at t (sequence_of r before)) ≡ length (log_before r t step.place)) at_s here.1.next in
     subst (λ h. IsBeginning (v ∷ h) whole) (sym (same_beginnings _ _ whole cover (log_before-beginning r s step.place) lengths))
     (log_before-next r s step.place v own) in
-    let more : IsBeginning (log_at s (order_of r (before ++ step ∷ []))) whole =
-    subst (λ h. IsBeginning h whole) (sym (log_at-order_of-snoc r s before step))
+    let more : IsBeginning (log_at s (sequence_of r (before ++ step ∷ []))) whole =
+    subst (λ h. IsBeginning h whole) (sym (log_at-sequence_of-snoc r s before step))
     (elim (own_event r s step.place) as
-    (λ o. own_event r s step.place ≡ o → IsBeginning (option_map_or (λ v. v ∷ log_at s (order_of r before)) o (log_at s (order_of r before))) whole) [
+    (λ o. own_event r s step.place ≡ o → IsBeginning (option_map_or (λ v. v ∷ log_at s (sequence_of r before)) o (log_at s (sequence_of r before))) whole) [
       | None ↦ λ _. cover
       | Some v ↦ λ own. next v own
     ] refl) in
-    subst (λ xs. IsBeginning (log_at s (order_of r xs)) whole) (sym (ap (λ k. take k steps) (sym (add-one n)) ∙ take_more steps n no_step (omega arith))) more
+    subst (λ xs. IsBeginning (log_at s (sequence_of r xs)) whole) (sym (ap (λ k. take k steps) (sym (add-one n)) ∙ take_more steps n no_step (omega arith))) more
 
 pub are_placed : (r : PlainRecording) (steps : List Step) → GoodBelow r steps (length steps) → ArePlaced r steps
 are_placed r steps good =
@@ -101,10 +101,10 @@ are_placed r steps good =
 
 -- where the next entry of a station is looked at, what is order_of there is what stands before the entry
 pub is_ready : (r : PlainRecording) (before : List Step) (place : ℕ) (v : Event) → GoodBelow r before (length before)
-    → length (log_at (station_of v) (order_of r before)) ≡ length (log_before r (station_of v) place) → IsReady r before place v
+    → length (log_at (station_of v) (sequence_of r before)) ≡ length (log_before r (station_of v) place) → IsReady r before place v
 unfolding log_of
 is_ready r before place v good lengths =
-    let cover = subst (λ xs. IsBeginning (log_at (station_of v) (order_of r xs)) (log_at (station_of v) (past r.entries))) (take_whole before)
+    let cover = subst (λ xs. IsBeginning (log_at (station_of v) (sequence_of r xs)) (log_at (station_of v) (past r.entries))) (take_whole before)
     (steps_cover r before (length before) (omega arith) good (station_of v)) in
     same_beginnings _ _ _ cover (log_before-beginning r (station_of v) place) lengths
   where
@@ -118,7 +118,7 @@ unfolding step_cause is_next
 cause_none r before step e good =
     ap (λ o. option_map_or (λ e. event_cause r before step (event_of e)) o (Some NoSuchRecord)) good.at
     ∙ ap (λ b. cond b
-    (option_or (cause_of r.setting (order_of r before) (event_of e))
+    (option_or (cause_of r.setting (sequence_of r before) (event_of e))
     (cond (nat_eq step.link (link_number (link_of r before step.place (event_of e)))) None (Some BadLink))) (Some OutOfOrder)) (eq-eqb _ _ good.next)
     ∙ ap (λ o. option_or o (cond (nat_eq step.link (link_number (link_of r before step.place (event_of e)))) None (Some BadLink))) good.allowed
     ∙ ap (λ b. cond b None (Some BadLink)) (eq-eqb _ _ good.link)
@@ -140,6 +140,6 @@ good_push r steps step good last k l =
 
 -- what good steps record at each station is a beginning of its log
 pub good_logs : (r : PlainRecording) (steps : List Step) → GoodBelow r steps (length steps) → (s : ℕ)
-    → IsBeginning (log_at s (order_of r steps)) (log_of r s)
+    → IsBeginning (log_at s (sequence_of r steps)) (log_of r s)
 good_logs r steps good s =
-    subst (λ xs. IsBeginning (log_at s (order_of r xs)) (log_of r s)) (take-length steps) (steps_cover r steps (length steps) (omega arith) good s)
+    subst (λ xs. IsBeginning (log_at s (sequence_of r xs)) (log_of r s)) (take-length steps) (steps_cover r steps (length steps) (omega arith) good s)

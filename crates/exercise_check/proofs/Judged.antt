@@ -20,17 +20,17 @@ use Rattle.dis_records.specs.declared.entity_state.EntityState.{EntityState}
 use Rattle.exercise_check.specs.declared.certificate.Step.{Step}
 use Rattle.exercise_check.specs.declared.judgement.Judgement.{Judgement}
 use Rattle.exercise_check.specs.declared.judgement.Judgement.TheVariants.{Allowed, Forbidden}
-use Rattle.exercise_check.specs.Order.{order_of, first_sender, sender_link, link_of}
+use Rattle.exercise_check.specs.Sequence.{sequence_of, first_sender, sender_link, link_of}
 use Rattle.exercise_check.specs.Goodness.{IsReady}
 use Rattle.exercise_check.specs.Course.{IsCourse, Judges}
 use Rattle.exercise_findings.specs.Source.{source_of}
 use Rattle.exercise_findings.specs.Tables.{event_own_cause, own_cause}
 use Rattle.exercise_findings.proofs.Offered.{below, cause_here, pair_earlier, pair_here}
-use Rattle.exercise_check.specs.Judging.{judged, is_never_sent, is_unsent, if_taken, by_source}
+use Rattle.exercise_check.specs.Judging.{judged, is_never_sent, is_unsent, if_taken, source_judgement}
 use Rattle.exercise_model.proofs.Offered.{get_where_sent}
 use Rattle.exercise_check.proofs.Courses.{received_unsent, sender_tells}
 use Rattle.exercise_check.proofs.FirstSenders.{source_first}
-use Rattle.exercise_check.proofs.Orders.{sender_within}
+use Rattle.exercise_check.proofs.Sequences.{sender_within}
 
 -- ---- a cause and a link make a judgement
 
@@ -50,7 +50,7 @@ own_judged r n e within at =
 sent_judged : (r : PlainRecording) (before : List Step) (j s : ℕ) (b : List ℕ) (x : Judgement)
     → IsReady r before j (Send s b)
     → Judges (event_own_cause r j (Send s b)) (option_and_then (pair_of_sent r s j) (meaning r.setting.exercise b)) (length r.entries) x
-    → Judges (cause_of r.setting (order_of r before) (Send s b)) (link_of r before j (Send s b)) (length r.entries) x
+    → Judges (cause_of r.setting (sequence_of r before) (Send s b)) (link_of r before j (Send s b)) (length r.entries) x
 unfolding cause_of link_of
 sent_judged r before j s b x ready judged =
     subst (λ log. Judges (option_and_then (send_cause r.setting.exercise (station_at r s) log) (meaning r.setting.exercise b))
@@ -58,7 +58,7 @@ sent_judged r before j s b x ready judged =
 
 told_judged : (r : PlainRecording) (before : List Step) (j s e : ℕ) (y : EntityState) (x : Judgement)
     → IsReady r before j (Tell s e y) → Judges (event_own_cause r j (Tell s e y)) None (length r.entries) x
-    → Judges (cause_of r.setting (order_of r before) (Tell s e y)) (link_of r before j (Tell s e y)) (length r.entries) x
+    → Judges (cause_of r.setting (sequence_of r before) (Tell s e y)) (link_of r before j (Tell s e y)) (length r.entries) x
 unfolding cause_of link_of
 told_judged r before j s e y x ready judged =
     subst (λ log. Judges (first_cause (tell_rows y (state_after r.setting.exercise (station_at r s) log e))) None (length r.entries) x) (sym ready) judged
@@ -148,12 +148,12 @@ source_told r steps place s stamp b alone course at so judged =
 -- a datagram that was sent first by this entry
 received_from : (r : PlainRecording) (steps : List Step) (place s : ℕ) (b : List ℕ) (alone : Judgement) (e : ℕ) → Some e ≡ first_sender r.entries b steps
     → is_unsent alone ≡ true → Judges (cause_of r.setting [] (Get s b)) None (length r.entries) alone
-    → Judges (cause_of r.setting (order_of r steps) (Get s b)) (link_of r steps place (Get s b)) (length r.entries) (Allowed (Some e))
+    → Judges (cause_of r.setting (sequence_of r steps) (Get s b)) (link_of r steps place (Get s b)) (length r.entries) (Allowed (Some e))
 unfolding cause_of link_of
 received_from r steps place s b alone e is so judged =
     let u = unsent r.setting b s (told_unsent _ _ _ alone so judged) in (
-      ap (option_and_then (get_cause r.setting (order_of r steps) b)) u.means
-          ∙ get_where_sent r.setting (order_of r steps) b u.pdu u.known (sender_tells r b steps (Some e) is),
+      ap (option_and_then (get_cause r.setting (sequence_of r steps) b)) u.means
+          ∙ get_where_sent r.setting (sequence_of r steps) b u.pdu u.known (sender_tells r b steps (Some e) is),
       is ∙ sym (ap (option_and_then (sender_link r b steps)) u.means ∙ ap (λ k. cond k (first_sender r.entries b steps) None) u.known),
       subst (λ o. IfSome o (λ e. e < length r.entries)) (sym is) (sender_within r.entries b steps),
     )
@@ -161,22 +161,22 @@ received_from r steps place s b alone e is so judged =
 -- a datagram that nobody sent
 received_unsent_here : (r : PlainRecording) (steps : List Step) (s : ℕ) (b : List ℕ) (alone : Judgement) → None ≡ first_sender r.entries b steps
     → is_unsent alone ≡ true → Judges (cause_of r.setting [] (Get s b)) None (length r.entries) alone
-    → cause_of r.setting (order_of r steps) (Get s b) ≡ Some NeverSent
+    → cause_of r.setting (sequence_of r steps) (Get s b) ≡ Some NeverSent
 unfolding cause_of
 received_unsent_here r steps s b alone is so judged =
     let u = unsent r.setting b s (told_unsent _ _ _ alone so judged) in
-    ap (option_and_then (get_cause r.setting (order_of r steps) b)) u.means
-    ∙ received_unsent r.setting (order_of r steps) b u.pdu u.known (sender_tells r b steps None is)
+    ap (option_and_then (get_cause r.setting (sequence_of r steps) b)) u.means
+    ∙ received_unsent r.setting (sequence_of r steps) b u.pdu u.known (sender_tells r b steps None is)
 
 -- a datagram whose sender does not matter
 received_alone : (r : PlainRecording) (steps : List Step) (place s : ℕ) (b : List ℕ) (alone : Judgement) → is_unsent alone ≡ false
     → Judges (cause_of r.setting [] (Get s b)) None (length r.entries) alone
-    → Judges (cause_of r.setting (order_of r steps) (Get s b)) (link_of r steps place (Get s b)) (length r.entries) alone
+    → Judges (cause_of r.setting (sequence_of r steps) (Get s b)) (link_of r steps place (Get s b)) (length r.entries) alone
 received_alone r steps place s b (Forbidden cause) so judged =
-    received_else r.setting (order_of r steps) b s
+    received_else r.setting (sequence_of r steps) b s
     (λ never. not_unsent (Forbidden cause) so (ap (λ (c : Cause). Forbidden c) (same_Some cause NeverSent (sym judged ∙ never)))) ∙ judged
 received_alone r steps place s b (Allowed link) so judged = (
-  received_else r.setting (order_of r steps) b s (λ never. absurd (cc (sym never ∙ judged.0))) ∙ judged.0,
+  received_else r.setting (sequence_of r steps) b s (λ never. absurd (cc (sym never ∙ judged.0))) ∙ judged.0,
   judged.1 ∙ sym (received_unlinked r steps place s b judged.0),
   judged.2,
 )
@@ -186,7 +186,7 @@ received_alone r steps place s b (Allowed link) so judged = (
 -- what is not judged to be unsent is judged by its station's log alone
 pub judged_alone : (r : PlainRecording) (steps : List Step) (n : ℕ) (e : Entry) (x : Judgement) → is_unsent x ≡ false → IsReady r steps n (event_of e)
     → Judges (event_own_cause r n (event_of e)) (pair_of_entry r n e) (length r.entries) x
-    → Judges (cause_of r.setting (order_of r steps) (event_of e)) (link_of r steps n (event_of e)) (length r.entries) x
+    → Judges (cause_of r.setting (sequence_of r steps) (event_of e)) (link_of r steps n (event_of e)) (length r.entries) x
 judged_alone r steps n (Sent s stamp b) x so ready own = sent_judged r steps n s b x ready own
 judged_alone r steps n (Received s stamp b) x so ready own = received_alone r steps n s b x so own
 judged_alone r steps n (Told s e y) x so ready own = told_judged r steps n s e y x ready own
@@ -217,18 +217,18 @@ told_never told y = others_never (tell_rows told y) (λ h. absurd (cc), tt)
 pub judged_by_source : (r : PlainRecording) (steps : List Step) (n : ℕ) (e : Entry) (x given : Judgement) → IsCourse (record { recording = r; steps = steps })
     → slice_get r.entries n ≡ Some e → is_unsent x ≡ true
     → Judges (event_own_cause r n (event_of e)) (pair_of_entry r n e) (length r.entries) x
-    → given ≡ by_source (if_taken r steps (source_of r n))
-    → Judges (cause_of r.setting (order_of r steps) (event_of e)) (link_of r steps n (event_of e)) (length r.entries) given
+    → given ≡ source_judgement (if_taken r steps (source_of r n))
+    → Judges (cause_of r.setting (sequence_of r steps) (event_of e)) (link_of r steps n (event_of e)) (length r.entries) given
 judged_by_source r steps n (Sent s stamp b) x given course at so own is =
     absurd (sent_never r.setting.exercise (station_at r s) (log_before r s n) (meaning r.setting.exercise b) (told_unsent _ _ _ x so own))
 judged_by_source r steps n (Told s e y) x given course at so own is =
     absurd (told_never y (state_after r.setting.exercise (station_at r s) (log_before r s n) e) (told_unsent _ _ _ x so own))
 judged_by_source r steps n (Received s stamp b) x given course at so own is =
     let told = source_told r steps n s stamp b x course at so own in
-    subst (λ g. Judges (cause_of r.setting (order_of r steps) (Get s b)) (link_of r steps n (Get s b)) (length r.entries) g)
-    (sym (is ∙ ap by_source told)) (by_first (first_sender r.entries b steps) refl)
+    subst (λ g. Judges (cause_of r.setting (sequence_of r steps) (Get s b)) (link_of r steps n (Get s b)) (length r.entries) g)
+    (sym (is ∙ ap source_judgement told)) (by_first (first_sender r.entries b steps) refl)
   where
     by_first : (o : Option ℕ) → o ≡ first_sender r.entries b steps
-        → Judges (cause_of r.setting (order_of r steps) (Get s b)) (link_of r steps n (Get s b)) (length r.entries) (by_source o)
+        → Judges (cause_of r.setting (sequence_of r steps) (Get s b)) (link_of r steps n (Get s b)) (length r.entries) (source_judgement o)
     by_first (Some e) first = received_from r steps n s b x e first so own
     by_first None first = received_unsent_here r steps s b x first so own

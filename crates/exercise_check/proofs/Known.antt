@@ -4,11 +4,11 @@ use Rattle.exercise_model.specs.Recording.{PlainRecording, IsRecording}
 use Rattle.exercise_model.specs.History.{History}
 use Rattle.exercise_model.specs.Run.{Explains}
 use Rattle.exercise_model.proofs.Offered.{always_as_said, entries_known}
-use Rattle.exercise_findings.specs.Account.{AccountData, TellsAccount}
-use Rattle.exercise_check.specs.Checked.{TellsKnowledge, TellsPairs}
+use Rattle.exercise_findings.specs.Account.{AccountData, IsAccount}
+use Rattle.exercise_check.specs.Checked.{HasKnowledge, HasPairs}
 
 -- the changes that a recording says are known in each run that explains it
-pub account_known : (r : PlainRecording) (h : History) (c : AccountData) → IsRecording r → Explains r h → TellsAccount r c → TellsKnowledge r h c
+pub account_known : (r : PlainRecording) (h : History) (c : AccountData) → IsRecording r → Explains r h → IsAccount r c → HasKnowledge r h c
 account_known r h c limits explains account =
     let knows = entries_known r h limits explains in
     record {
@@ -17,7 +17,7 @@ account_known r h c limits explains account =
     }
 
 -- the pairs that a recording says are those in each run that explains it
-pub account_paired : (r : PlainRecording) (h : History) (c : AccountData) → Explains r h → TellsAccount r c → TellsPairs r h c
+pub account_paired : (r : PlainRecording) (h : History) (c : AccountData) → Explains r h → IsAccount r c → HasPairs r h c
 account_paired r h c explains account =
     let said = always_as_said r h explains in
     record {

@@ -1,4 +1,4 @@
-mod Orders
+mod Sequences
 mod Goodness
 mod Courses
 mod Nexts

@@ -13,7 +13,7 @@ use Rattle.exercise_model.specs.Account.{pair_of_sent}
 use Rattle.exercise_model.specs.Pairing.{IsTakenUp}
 use Rattle.exercise_model.proofs.Offered.{had_where_allowed, taken_entry}
 use Rattle.exercise_check.specs.declared.certificate.Step.{Step}
-use Rattle.exercise_check.specs.Order.{order_of, link_of, link_number}
+use Rattle.exercise_check.specs.Sequence.{sequence_of, link_of, link_number}
 use Rattle.exercise_check.specs.Goodness.{IsGoodStep, GoodBelow}
 use Rattle.exercise_check.proofs.Goodness.{is_ready}
 
@@ -26,9 +26,9 @@ answer_link r before place s b p meant answer =
 
 pub good_link : (r : PlainRecording) (before : List Step) (step : Step) (e : Entry) (s : ℕ) (b : List ℕ) (p : Pdu)
     → GoodBelow r before (length before) → IsGoodStep r before step e → event_of e ≡ Send s b
-    → meaning r.setting.exercise b ≡ Some p → is_answer_body p.body ≡ true → IsTakenUp r (order_of r before) s p step.link
+    → meaning r.setting.exercise b ≡ Some p → is_answer_body p.body ≡ true → IsTakenUp r (sequence_of r before) s p step.link
 good_link r before step e s b p good here is meant answer =
-    let h = order_of r before in
+    let h = sequence_of r before in
     let allowed = subst (λ v. cause_of r.setting h v ≡ None) is here.allowed in
     let lengths = subst (λ (v : Event). length (log_at (station_of v) h) ≡ length (log_before r (station_of v) step.place)) is here.next in
     let had = had_where_allowed r h s b p allowed meant answer in

@@ -9,12 +9,12 @@ use Rattle.exercise_model.specs.Place.{log_before, own_event}
 use Rattle.exercise_model.proofs.Offered.{length-entries-more, log_before-all, no_log, past_within}
 use Rattle.exercise_check.specs.declared.certificate.Step.{Step}
 use Rattle.exercise_check.specs.declared.cursors.Cursors.{Cursors}
-use Rattle.exercise_check.specs.Order.{order_of}
+use Rattle.exercise_check.specs.Sequence.{sequence_of}
 use Rattle.exercise_findings.specs.Column.{IsColumn}
-use Rattle.exercise_check.specs.Cursors.{StandsFor, IsNextFrom, IsNextAfter, IsFollower, IsFollowerFrom, AreCursorsFrom, AreCursors}
+use Rattle.exercise_check.specs.Cursors.{Represents, IsNextFrom, IsNextAfter, IsFollower, IsFollowerFrom, AreCursorsFrom, AreCursors}
 use Rattle.exercise_check.proofs.Nexts.{own_here}
 use Rattle.exercise_check.proofs.Courses.{at_entry, from_entry}
-use Rattle.exercise_check.proofs.Orders.{length-entries-none, length-order-more, length-order-none}
+use Rattle.exercise_check.proofs.Sequences.{length-entries-none, length-order-more, length-order-none}
 
 -- a column in which one number was replaced
 pub replaced : (P Q : ℕ → ℕ → Type 0) (n at number : ℕ) (old new : List ℕ) → length new ≡ length old
@@ -36,9 +36,9 @@ before_more r s i e at = length-entries-more r s i ∙ ap (λ b. length (log_bef
 
 -- how many of a station were taken after one step more
 pub taken_more : (r : PlainRecording) (s : ℕ) (steps : List Step) (step : Step) (e : Entry) → slice_get r.entries step.place ≡ Some e
-    → length (log_at s (order_of r (steps ++ step ∷ []))) ≡ length (log_at s (order_of r steps)) + (if s == station_of (event_of e) then 1 else 0)
+    → length (log_at s (sequence_of r (steps ++ step ∷ []))) ≡ length (log_at s (sequence_of r steps)) + (if s == station_of (event_of e) then 1 else 0)
 taken_more r s steps step e at =
-    length-order-more r s steps step ∙ ap (λ b. length (log_at s (order_of r steps)) + (if b then 1 else 0)) (own_here r s step.place e at)
+    length-order-more r s steps step ∙ ap (λ b. length (log_at s (sequence_of r steps)) + (if b then 1 else 0)) (own_here r s step.place e at)
 
 -- one more where it is the station's own, and as many where it is not
 one_more : (n s t : ℕ) → s ≡ t → n + (if s == t then 1 else 0) ≡ n + 1
@@ -73,7 +73,7 @@ gone_back r i e s follower old followers next within at here below is count_f ea
       from.followers,
   replaced (IsNextFrom r (i + 1)) (IsNextFrom r i) (length r.setting.stations) s i old.next.items next count_n each_n
       (stands_here r s i e within at here)
-      (λ j other. subst (λ k. StandsFor r j k (slice_index_or old.next.items j 0))
+      (λ j other. subst (λ k. Represents r j k (slice_index_or old.next.items j 0))
       (before_more r j i e at ∙ no_more _ j _ (subst (λ t. nat_eq j t ≡ false) here other)))
       from.next,
 )
@@ -90,14 +90,14 @@ none_taken r c from = record {
   followers = record { count = from.followers.count; each = λ j l. from.followers.each j l (omega arith) };
   next = record {
     count = from.next.count;
-    each = λ s l. subst (λ k. StandsFor r s k (slice_index_or c.next.items s 0)) (length-entries-none r s ∙ sym (length-order-none r s)) (from.next.each s l);
+    each = λ s l. subst (λ k. Represents r s k (slice_index_or c.next.items s 0)) (length-entries-none r s ∙ sym (length-order-none r s)) (from.next.each s l);
   };
 }
 
 -- one step more
 pub passed : (r : PlainRecording) (steps : List Step) (step : Step) (e : Entry) (s follower : ℕ) (old new : Cursors) → step.place < length r.entries
     → slice_get r.entries step.place ≡ Some e → s ≡ station_of (event_of e)
-    → IfSome (slice_get r.entries step.place) (λ e. length (log_at (station_of (event_of e)) (order_of r steps)) ≡
+    → IfSome (slice_get r.entries step.place) (λ e. length (log_at (station_of (event_of e)) (sequence_of r steps)) ≡
     length (log_before r (station_of (event_of e)) step.place))
     → follower ≡ slice_index_or old.followers.items step.place 0 → new.followers ≡ old.followers → length new.next.items ≡ length old.next.items
     → ((j : ℕ) → slice_index_or new.next.items j 0 ≡ (if j == s then follower else slice_index_or old.next.items j 0))
@@ -105,7 +105,7 @@ pub passed : (r : PlainRecording) (steps : List Step) (step : Step) (e : Entry) 
 passed r steps step e s follower old new within at here ready is same count each cursors =
     let follows = from_entry _ e (λ e. IsNextFrom r (step.place + 1) (station_of (event_of e)) follower) at
     (subst (IsFollower r step.place) (sym is) (cursors.followers.each step.place within)) in
-    let lengths = from_entry _ e (λ e. length (log_at (station_of (event_of e)) (order_of r steps)) ≡
+    let lengths = from_entry _ e (λ e. length (log_at (station_of (event_of e)) (sequence_of r steps)) ≡
     length (log_before r (station_of (event_of e)) step.place)) at ready in
     let t = station_of (event_of e) in
     let one = before_more r t step.place e at ∙ one_more _ t t refl ∙ ap (λ n. n + 1) (sym lengths) ∙ sym (one_more _ t t refl)
@@ -113,8 +113,8 @@ passed r steps step e s follower old new within at here ready is same count each
     record {
       followers = subst (λ v. IsColumn 0 (IsFollower r) (length r.entries) v.items) (sym same) cursors.followers;
       next = replaced (IsNextAfter r steps) (IsNextAfter r (steps ++ step ∷ [])) (length r.setting.stations) s _ old.next.items new.next.items count each
-          (subst (λ u. IsNextAfter r (steps ++ step ∷ []) u follower) (sym here) (subst (λ k. StandsFor r t k follower) one follows))
-          (λ j other. subst (λ k. StandsFor r j k (slice_index_or old.next.items j 0))
+          (subst (λ u. IsNextAfter r (steps ++ step ∷ []) u follower) (sym here) (subst (λ k. Represents r t k follower) one follows))
+          (λ j other. subst (λ k. Represents r j k (slice_index_or old.next.items j 0))
           (sym (taken_more r j steps step e at ∙ no_more _ j _ (subst (λ t. nat_eq j t ≡ false) here other))))
           cursors.next;
     }
@@ -122,8 +122,8 @@ passed r steps step e s follower old new within at here ready is same count each
 -- what a look at the cursor of a station finds: its next entry, or that it has none
 pub record Finds (r : PlainRecording) (steps : List Step) (s : ℕ) (found : Option ℕ) : Type 0 where
   pub own : IfSome found (λ i. is_some (own_event r s i) ≡ true)
-  pub place : IfSome found (λ i. length (log_before r s i) ≡ length (log_at s (order_of r steps)))
-  pub none : IfNone found (length (log_before r s (length r.entries)) ≤ length (log_at s (order_of r steps)))
+  pub place : IfSome found (λ i. length (log_before r s i) ≡ length (log_at s (sequence_of r steps)))
+  pub none : IfNone found (length (log_before r s (length r.entries)) ≤ length (log_at s (sequence_of r steps)))
 
 pub finds : (r : PlainRecording) (steps : List Step) (s : ℕ) (c : Cursors) (found : Option ℕ) → IsRecording r → AreCursors r steps c
     → IfSome found (λ i. i < length r.entries) → IfSome found (λ i. s < length c.next.items)

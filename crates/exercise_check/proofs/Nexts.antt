@@ -9,8 +9,8 @@ use Rattle.exercise_model.specs.History.{event_of, station_of, log_at}
 use Rattle.exercise_model.specs.Place.{event_at, own_event, log_before}
 use Rattle.exercise_model.proofs.Offered.{passes}
 use Rattle.exercise_check.specs.declared.certificate.Step.{Step}
-use Rattle.exercise_check.specs.Order.{order_of, is_next}
-use Rattle.exercise_check.specs.Cursors.{StandsFor}
+use Rattle.exercise_check.specs.Sequence.{sequence_of, is_next}
+use Rattle.exercise_check.specs.Cursors.{Represents}
 
 -- an entry is a station's own where it is the station's
 pub own_here : (r : PlainRecording) (s i : ℕ) (e : Entry) → slice_get r.entries i ≡ Some e
@@ -30,14 +30,14 @@ differ a b m n ab mn = grind (arith, nat_tests)
 -- an entry is its station's next one exactly where the number that stands for that one is its own
 pub next_by_cursor : (r : PlainRecording) (steps : List Step) (place s number : ℕ) (e : Entry) → s ≡ station_of (event_of e)
     → place < length r.entries → slice_get r.entries place ≡ Some e
-    → StandsFor r s (length (log_at s (order_of r steps))) number
+    → Represents r s (length (log_at s (sequence_of r steps))) number
     → nat_eq number place ≡ is_next r steps place (event_of e)
 unfolding is_next
 next_by_cursor r steps place s number e same within at stands =
-    by ∙ ap (λ t. nat_eq (length (log_at t (order_of r steps))) (length (log_before r t place))) same
+    by ∙ ap (λ t. nat_eq (length (log_at t (sequence_of r steps))) (length (log_before r t place))) same
   where
     k : ℕ
-    k = length (log_at s (order_of r steps))
+    k = length (log_at s (sequence_of r steps))
 
     own : is_some (own_event r s place) ≡ true
     own = own_here r s place e at ∙ eq-eqb s _ same

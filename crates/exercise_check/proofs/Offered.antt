@@ -5,5 +5,5 @@ pub use Rattle.exercise_check.proofs.Explained.{good_covers, good_explains, good
 pub use Rattle.exercise_check.proofs.Goodness.{good_logs, good_step}
 pub use Rattle.exercise_check.proofs.Judged.{Unsent, unsent, received_else}
 pub use Rattle.exercise_check.proofs.Moved.{replaced}
-pub use Rattle.exercise_check.proofs.Orders.{length-steps-more, length-steps-none}
+pub use Rattle.exercise_check.proofs.Sequences.{length-steps-more, length-steps-none}
 pub use Rattle.exercise_findings.proofs.Offered.{entry_within}

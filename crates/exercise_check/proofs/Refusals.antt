@@ -8,7 +8,7 @@ use Rattle.std.proofs.lemmas.Bool.{ltb-true, ltb-false, leb-true, leb-false, eqb
 use Rattle.std.proofs.lemmas.List.{take_at, length-append}
 use Rattle.byte_files.specs.Fields.{Input, IsBytes, tested}
 use Rattle.byte_files.specs.Rows.{Row, unless, any, number_in}
-use Rattle.byte_files.proofs.Offered.{four_bytes, TellsWrong, Refuses, Takes, any_wrong, failure, field_wrong, front, tested_err, tested_wrong, refuses_last, refuses_mark, refuses_then, refuses_times, takes_nothing, where_wrong, wide32}
+use Rattle.byte_files.proofs.Offered.{four_bytes, ReportsFault, Refuses, Takes, any_wrong, failure, field_wrong, front, tested_err, tested_wrong, refuses_last, refuses_mark, refuses_then, refuses_times, takes_nothing, where_wrong, wide32}
 use Rattle.exercise_check.specs.declared.certificate.Step.{Step}
 use Rattle.exercise_check.specs.declared.certificate_fault.CertificateFormatFault.{CertificateFormatFault}
 use Rattle.exercise_check.specs.declared.certificate_fault.CertificateFormatFault.TheVariants as faults
@@ -30,7 +30,7 @@ short_or_tested false false s t fault d fits e f g = g refl e
 magic_row : Row CertificateFormatFault
 magic_row = record { width = 8; fault = λ at left. unless (bytes_eq (take 8 left) (codes "DSCT0001")) (faults.Magic at) }
 
-magic_wrong : TellsWrong names magic_at magic_row
+magic_wrong : ReportsFault names magic_at magic_row
 unfolding magic_at magic_row
 magic_wrong =
     field_wrong names magic_row (λ i b. tested (bytes_eq b.0 (codes "DSCT0001")) (faults.Magic i.at) b.1)
@@ -46,7 +46,7 @@ module _ (limit : ℕ) (bytes : List ℕ) where
 
   -- a field within the limit: it is not wholly there, and the steps that are counted need it, or else it is tested
   field_right : {Y : Type 0} {f : Input → Result Y CertificateFormatFault} {before : List ℕ} (row : Row CertificateFormatFault)
-      → TellsWrong names f row → length before + row.width ≤ 12 + 8 * limit
+      → ReportsFault names f row → length before + row.width ≤ 12 + 8 * limit
       → ((i : Input) → Takes start before i → length before + row.width ≤ 12 + 8 * count_of bytes)
       → ((i : Input)
       (d : CertificateFormatFault) → Takes start before i → row.width ≤ length i.bytes → row.fault i.at i.bytes ≡ Some d → IsRefused limit bytes d)
@@ -61,7 +61,7 @@ module _ (limit : ℕ) (bytes : List ℕ) where
   }
 
   -- a number of any value
-  any_right : {Y : Type 0} {f : Input → Result Y CertificateFormatFault} {before : List ℕ} → TellsWrong names f (any 4) → length before + 4 ≤ 12 + 8 * limit
+  any_right : {Y : Type 0} {f : Input → Result Y CertificateFormatFault} {before : List ℕ} → ReportsFault names f (any 4) → length before + 4 ≤ 12 + 8 * limit
       → ((i : Input) → Takes start before i → length before + 4 ≤ 12 + 8 * count_of bytes) → IsRight before f
   any_right told within needed = field_right (any 4) told within needed (λ i d t long e. absurd cc)
 

@@ -10,7 +10,7 @@ use Rattle.exercise_check.specs.declared.judgement.Judgement.{Judgement}
 use Rattle.exercise_check.specs.declared.judgement.Judgement.TheVariants.{Allowed, Forbidden}
 use Rattle.exercise_check.specs.declared.course.Progress.{Progress}
 use Rattle.exercise_check.specs.declared.course.Progress.TheVariants.{Taken, Barred}
-use Rattle.exercise_check.specs.Order.{order_of, is_next, link_of, link_number}
+use Rattle.exercise_check.specs.Sequence.{sequence_of, is_next, link_of, link_number}
 use Rattle.exercise_check.specs.Goodness.{GoodBelow}
 
 -- the recording whose entries are taken, and the steps taken so far
@@ -33,7 +33,7 @@ with_step c step = record c { steps = c.steps ++ step ∷ [] }
 
 -- the history of the steps so far
 abbrev pub so_far : CourseData → History
-so_far c = order_of c.recording c.steps
+so_far c = sequence_of c.recording c.steps
 
 -- The judgement is the first cause that holds, or if none does, the link, which is an entry.
 abbrev pub Judges : Option Cause → Option ℕ → ℕ → Judgement → Type 0

@@ -5,23 +5,23 @@ use Rattle.exercise_model.specs.History.{event_of, station_of, log_at}
 use Rattle.exercise_model.specs.Place.{log_before, own_event}
 use Rattle.exercise_check.specs.declared.certificate.Step.{Step}
 use Rattle.exercise_check.specs.declared.cursors.Cursors.{Cursors}
-use Rattle.exercise_check.specs.Order.{order_of}
+use Rattle.exercise_check.specs.Sequence.{sequence_of}
 use Rattle.exercise_findings.specs.Column.{IsColumn}
 
 -- The number represents entry k of station s, counted among the station's own entries: it is the number of that
 -- entry, or, if the station has no such entry, a number that no entry has.
-pub record StandsFor (r : PlainRecording) (s k number : ℕ) : Type 0 where
+pub record Represents (r : PlainRecording) (s k number : ℕ) : Type 0 where
   pub own : number < length r.entries → is_some (own_event r s number) ≡ true
   pub rank : number < length r.entries → length (log_before r s number) ≡ k
   pub none : length r.entries ≤ number → length (log_before r s (length r.entries)) ≤ k
 
 -- the number represents the entry of station s that follows its entries below n
 abbrev pub IsNextFrom : PlainRecording → ℕ → ℕ → ℕ → Type 0
-IsNextFrom r n s number = StandsFor r s (length (log_before r s n)) number
+IsNextFrom r n s number = Represents r s (length (log_before r s n)) number
 
 -- the number represents the entry of station s that follows those of these steps
 abbrev pub IsNextAfter : PlainRecording → List Step → ℕ → ℕ → Type 0
-IsNextAfter r steps s number = StandsFor r s (length (log_at s (order_of r steps))) number
+IsNextAfter r steps s number = Represents r s (length (log_at s (sequence_of r steps))) number
 
 -- the number represents the entry that follows entry j at its station
 abbrev pub IsFollower : PlainRecording → ℕ → ℕ → Type 0

@@ -11,7 +11,7 @@ use Rattle.exercise_model.specs.Place.{log_before}
 use Rattle.exercise_check.specs.declared.certificate.Step.{Step}
 use Rattle.exercise_check.specs.declared.checker.CheckFault.{CheckFault}
 use Rattle.exercise_check.specs.declared.checker.CheckFault.TheVariants.{Bad, Memory}
-use Rattle.exercise_check.specs.Order.{order_of, is_next, link_of, link_number}
+use Rattle.exercise_check.specs.Sequence.{sequence_of, is_next, link_of, link_number}
 
 -- the cause BadLink, if the given link is not this one
 abbrev pub link_cause : ℕ → Option ℕ → Option Cause
@@ -22,7 +22,7 @@ link_cause given link = if given == link_number link then None else Some BadLink
 abbrev pub event_cause : PlainRecording → List Step → Step → Event → Option Cause
 event_cause r before step v =
     if is_next r before step.place v
-    then option_or (cause_of r.setting (order_of r before) v) (link_cause step.link (link_of r before step.place v))
+    then option_or (cause_of r.setting (sequence_of r before) v) (link_cause step.link (link_of r before step.place v))
     else Some OutOfOrder
 
 -- the first cause against a step after the steps before it: it has no entry, or one of the causes of `event_cause`
@@ -33,8 +33,8 @@ step_cause r before step = option_map_or (λ e. event_cause r before step (event
 -- before; and its link is correct
 pub record IsGoodStep (r : PlainRecording) (before : List Step) (step : Step) (e : Entry) : Type 0 where
   pub at : slice_get r.entries step.place ≡ Some e
-  pub next : length (log_at (station_of (event_of e)) (order_of r before)) ≡ length (log_before r (station_of (event_of e)) step.place)
-  pub allowed : cause_of r.setting (order_of r before) (event_of e) ≡ None
+  pub next : length (log_at (station_of (event_of e)) (sequence_of r before)) ≡ length (log_before r (station_of (event_of e)) step.place)
+  pub allowed : cause_of r.setting (sequence_of r before) (event_of e) ≡ None
   pub link : step.link ≡ link_number (link_of r before step.place (event_of e))
 
 abbrev pub no_step : Step
@@ -79,4 +79,4 @@ ArePlaced r steps = All (λ (step : Step). step.place < length r.entries) steps
 
 -- the sequence so far has exactly the events of the entry's station that are before the entry in the recording
 abbrev pub IsReady : PlainRecording → List Step → ℕ → Event → Type 0
-IsReady r before place v = log_at (station_of v) (order_of r before) ≡ log_before r (station_of v) place
+IsReady r before place v = log_at (station_of v) (sequence_of r before) ≡ log_before r (station_of v) place

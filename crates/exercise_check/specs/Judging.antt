@@ -11,7 +11,7 @@ use Rattle.exercise_check.specs.declared.judgement.Judgement.{Judgement}
 use Rattle.exercise_check.specs.declared.judgement.Judgement.TheVariants.{Allowed, Forbidden}
 use Rattle.exercise_check.specs.declared.certificate.Step.{Step}
 use Rattle.exercise_check.specs.declared.cursors.Cursors.{Cursors}
-use Rattle.exercise_check.specs.Order.{order_of, link_of}
+use Rattle.exercise_check.specs.Sequence.{sequence_of, link_of}
 use Rattle.exercise_check.specs.Goodness.{IsReady}
 use Rattle.exercise_check.specs.Course.{IsCourse, Judges}
 use Rattle.exercise_check.specs.Cursors.{AreCursors}
@@ -33,7 +33,7 @@ is_unsent (Forbidden cause) = is_never_sent cause
 -- the steps have taken entry e: they have taken more entries of its station than there are before it
 unfoldable pub was_taken : PlainRecording → List Step → ℕ → Bool
 was_taken r steps e =
-    option_map_or (λ x. nat_lt (length (log_before r (station_of (event_of x)) e)) (length (log_at (station_of (event_of x)) (order_of r steps))))
+    option_map_or (λ x. nat_lt (length (log_before r (station_of (event_of x)) e)) (length (log_at (station_of (event_of x)) (sequence_of r steps))))
     (slice_get r.entries e) false
 
 -- the entry, if it was taken
@@ -42,13 +42,13 @@ if_taken r steps o = option_and_then (λ e. if was_taken r steps e then Some e e
 
 -- the judgement of a received datagram that must have been sent before, given the entry that sent it first, if that
 -- was taken
-abbrev pub by_source : Option ℕ → Judgement
-by_source (Some source) = Allowed (Some source)
-by_source None = Forbidden NeverSent
+abbrev pub source_judgement : Option ℕ → Judgement
+source_judgement (Some source) = Allowed (Some source)
+source_judgement None = Forbidden NeverSent
 
 -- the judgement is that of this entry after these steps
 abbrev pub JudgesNext : PlainRecording → List Step → ℕ → Judgement → Type 0
-JudgesNext r steps place given = IfSome (slice_get r.entries place) (λ e. Judges (cause_of r.setting (order_of r steps) (event_of e))
+JudgesNext r steps place given = IfSome (slice_get r.entries place) (λ e. Judges (cause_of r.setting (sequence_of r steps) (event_of e))
     (link_of r steps place (event_of e)) (length r.entries) given)
 
 -- The steps have taken exactly the entries of its station before this entry.

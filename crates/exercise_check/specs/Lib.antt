@@ -1,5 +1,5 @@
 pub mod Number
-pub mod Order
+pub mod Sequence
 pub mod Goodness
 pub mod Course
 pub mod Cursors

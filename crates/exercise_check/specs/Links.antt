@@ -16,7 +16,7 @@ abbrev pub step_at : List Step → ℕ → Step
 step_at steps k = slice_index_or steps k no_step
 
 -- EXACTLY ONE STEP HAS THE ENTRY
-pub record NameOnce (steps : List Step) (i : ℕ) : Type 0 where
+pub record IsNamedOnce (steps : List Step) (i : ℕ) : Type 0 where
   pub at : ℕ
   pub within : at < length steps
   pub names : (step_at steps at).place ≡ i
@@ -24,7 +24,7 @@ pub record NameOnce (steps : List Step) (i : ℕ) : Type 0 where
 
 -- STEPS DIFFER ONLY IN THEIR SEQUENCE from others, and their numbers are equal: each step of the one list is at
 -- exactly one index of the other
-pub record DifferInOrder (steps other : List Step) : Type 0 where
+pub record DifferInSequence (steps other : List Step) : Type 0 where
   pub count : length steps ≡ length other
   pub there : (k : ℕ) → k < length steps → (j : ℕ) × (j < length other) × (step_at other j ≡ step_at steps k)
   pub once : (j k : ℕ) → j < length other → k < length other → (step_at other j).place ≡ (step_at other k).place → j ≡ k

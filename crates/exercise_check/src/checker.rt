@@ -4,11 +4,11 @@ ghost use Rattle.std.specs.Prelude.{◌≡◌, ◌≢◌, ◌<◌, ◌+◌, [], 
 ghost use Rattle.exercise_model.specs.Run.{Explains};
 ghost use Rattle.exercise_model.specs.Headline.{Holds};
 ghost use Rattle.exercise_model.specs.Alike.{IsAlwaysAsSaid};
-ghost use Rattle.exercise_check.specs.Order.{order_of};
+ghost use Rattle.exercise_check.specs.Sequence.{sequence_of};
 ghost use Rattle.exercise_check.specs.Goodness.{cause_at, IsGood, Refuses};
 ghost use Rattle.exercise_check.specs.Judging.{Keeps};
-ghost use Rattle.exercise_findings.specs.Account.{TellsAccount};
-ghost use Rattle.exercise_check.specs.Checked.{TellsKnowledge, TellsPairs};
+ghost use Rattle.exercise_findings.specs.Account.{IsAccount};
+ghost use Rattle.exercise_check.specs.Checked.{HasKnowledge, HasPairs};
 
 use crate::certificate::{Certificate, Step};
 use crate::cursors::{Cursors, first_cursors, is_next, pass};
@@ -132,11 +132,11 @@ pub fn check<L: ExerciseLog>(
     certificate: &Certificate,
 ) -> Result<Account, CheckFault>
     ensures good { OnOk result (IsGood (L.recording log.now) certificate.now.steps.items) }
-    ensures explains { let r = L.recording log.now in OnOk result (Explains r (order_of r certificate.now.steps.items)) }
-    ensures holds { let r = L.recording log.now in OnOk result (Holds r (order_of r certificate.now.steps.items)) }
-    ensures account { IfOk result (λ checked. TellsAccount (L.recording log.now) checked) }
-    ensures knowledge { let r = L.recording log.now in IfOk result (λ checked. TellsKnowledge r (order_of r certificate.now.steps.items) checked) }
-    ensures answers { let r = L.recording log.now in IfOk result (λ checked. TellsPairs r (order_of r certificate.now.steps.items) checked) }
+    ensures explains { let r = L.recording log.now in OnOk result (Explains r (sequence_of r certificate.now.steps.items)) }
+    ensures holds { let r = L.recording log.now in OnOk result (Holds r (sequence_of r certificate.now.steps.items)) }
+    ensures account { IfOk result (λ checked. IsAccount (L.recording log.now) checked) }
+    ensures knowledge { let r = L.recording log.now in IfOk result (λ checked. HasKnowledge r (sequence_of r certificate.now.steps.items) checked) }
+    ensures answers { let r = L.recording log.now in IfOk result (λ checked. HasPairs r (sequence_of r certificate.now.steps.items) checked) }
     ensures said { OnOk result (IsAlwaysAsSaid (L.recording log.now)) }
     ensures bad { IfErr result (Refuses (L.recording log.now) certificate.now.steps.items) }
     ensures only { IsGood (L.recording log.now) certificate.now.steps.items → IfErr result (λ fault. fault ≡ CheckFault.Memory) }
@@ -171,7 +171,7 @@ pub struct BadStep {
 
 /// Result of a check, with the findings in the log.
 #[derive(Drop)]
-pub struct Stepped<'a, L: ExerciseLog> {
+pub struct CheckResult<'a, L: ExerciseLog> {
     /// First bad step; `None` if the certificate is good.
     pub bad: Option<BadStep>,
     /// Findings of each station's log about its own entries.
@@ -183,7 +183,7 @@ pub fn check_found<'a, L: ExerciseLog>(
     alloc: Global,
     findings: Findings<'a, L>,
     certificate: &Certificate,
-) -> Result<Stepped<'a, L>, AllocError>
+) -> Result<CheckResult<'a, L>, AllocError>
     ensures good { IfOk result (λ stepped. IfNone stepped.bad (IsGood findings.entry certificate.now.steps.items)) }
     ensures bad { IfOk result (λ stepped. IfSome stepped.bad (λ bad. Refuses findings.entry certificate.now.steps.items (CheckFault.Bad bad.step bad.cause))) }
     ensures findings { IfOk result (λ stepped. stepped.findings ≡ findings.entry) }
@@ -195,7 +195,7 @@ pub fn check_found<'a, L: ExerciseLog>(
             step: 0,
             cause: Cause::CountDiffers,
         };
-        return Ok(Stepped {
+        return Ok(CheckResult {
             bad: Some(bad),
             findings,
         });
@@ -203,5 +203,5 @@ pub fn check_found<'a, L: ExerciseLog>(
     let mut findings = findings;
     let mut cursors = first_cursors(alloc, findings.log())?;
     let bad = take_steps(&mut findings, &mut cursors, steps);
-    Ok(Stepped { bad, findings })
+    Ok(CheckResult { bad, findings })
 }

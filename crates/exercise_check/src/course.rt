@@ -3,8 +3,8 @@
 ghost use Rattle.std.specs.Prelude.{◌≡◌, ◌<◌, ◌==◌, length, slice_index_or, slice_get, IfOk, IfSome, IfNone, OnErr};
 ghost use Rattle.exercise_model.specs.Cause.{IsAllowed};
 ghost use Rattle.exercise_model.specs.History.{event_of, station_of, log_at, log_of};
-ghost use Rattle.exercise_check.specs.Order.{is_next};
-ghost use Rattle.exercise_findings.specs.Account.{TellsAccount};
+ghost use Rattle.exercise_check.specs.Sequence.{is_next};
+ghost use Rattle.exercise_findings.specs.Account.{IsAccount};
 ghost use Rattle.exercise_findings.specs.Source.{source_of};
 ghost use Rattle.exercise_check.specs.Course.{CourseData, IsCourse, begun, so_far, IsNext, GoesOn};
 ghost use Rattle.exercise_check.specs.Judging.{Keeps};
@@ -164,7 +164,7 @@ impl<'a, L: ExerciseLog> Course<'a, L> {
 
     /// Account of the recording.
     pub fn into_account(self, alloc: Global) -> Result<Account, AllocError>
-        ensures { IfOk result (λ account. TellsAccount self.entry.recording account) }
+        ensures { IfOk result (λ account. IsAccount self.entry.recording account) }
     {
         let found = self.into_found();
         found.into_account(alloc)

@@ -4,7 +4,7 @@ ghost use Rattle.std.specs.Prelude.{◌≡◌, ◌<◌, ◌≤◌, ◌+◌, ◌=
 ghost use Rattle.exercise_model.specs.History.{event_of, station_of, log_at};
 ghost use Rattle.exercise_model.specs.Place.{log_before};
 ghost use Rattle.exercise_check.specs.declared.certificate.Step.{Step};
-ghost use Rattle.exercise_check.specs.Order.{order_of, is_next};
+ghost use Rattle.exercise_check.specs.Sequence.{sequence_of, is_next};
 ghost use Rattle.exercise_check.specs.Cursors.{AreCursorsFrom, AreCursors};
 ghost use Rattle.exercise_check.specs.Judging.{was_taken};
 
@@ -102,7 +102,7 @@ pub(crate) fn pass_at<L: ExerciseLog>(cursors: &mut Cursors, log: &L, station: u
     requires own { IfSome (slice_get (L.recording log.now).entries place) (λ e. station_of (event_of e) ≡ station) }
     requires followers { length cursors.old.followers.items ≡ length (L.recording log.now).entries }
     requires next { length cursors.old.next.items ≡ length (L.recording log.now).setting.stations }
-    ensures { let r = L.recording log.now in (steps : List Step) (link : ℕ) → IfSome (slice_get r.entries place) (λ e. length (log_at (station_of (event_of e)) (order_of r steps)) ≡ length (log_before r (station_of (event_of e)) place)) → AreCursors r steps cursors.old → AreCursors r (steps ++ record { place = place; link = link } ∷ []) cursors.new }
+    ensures { let r = L.recording log.now in (steps : List Step) (link : ℕ) → IfSome (slice_get r.entries place) (λ e. length (log_at (station_of (event_of e)) (sequence_of r steps)) ≡ length (log_before r (station_of (event_of e)) place)) → AreCursors r steps cursors.old → AreCursors r (steps ++ record { place = place; link = link } ∷ []) cursors.new }
 {
     let _log = log;
     let follower = cursors.followers[place];
@@ -114,7 +114,7 @@ pub(crate) fn pass<L: ExerciseLog>(cursors: &mut Cursors, log: &L, place: usize)
     requires within { place < length (L.recording log.now).entries }
     requires followers { length cursors.old.followers.items ≡ length (L.recording log.now).entries }
     requires next { length cursors.old.next.items ≡ length (L.recording log.now).setting.stations }
-    ensures { let r = L.recording log.now in (steps : List Step) (link : ℕ) → IfSome (slice_get r.entries place) (λ e. length (log_at (station_of (event_of e)) (order_of r steps)) ≡ length (log_before r (station_of (event_of e)) place)) → AreCursors r steps cursors.old → AreCursors r (steps ++ record { place = place; link = link } ∷ []) cursors.new }
+    ensures { let r = L.recording log.now in (steps : List Step) (link : ℕ) → IfSome (slice_get r.entries place) (λ e. length (log_at (station_of (event_of e)) (sequence_of r steps)) ≡ length (log_before r (station_of (event_of e)) place)) → AreCursors r steps cursors.old → AreCursors r (steps ++ record { place = place; link = link } ∷ []) cursors.new }
 {
     let station = usize::from(log.entry(place).station());
     pass_at(cursors, log, station, place);

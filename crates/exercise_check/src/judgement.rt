@@ -5,7 +5,7 @@ ghost use Rattle.exercise_findings.specs.Source.{source_of};
 ghost use Rattle.exercise_check.specs.declared.certificate.Step.{Step};
 ghost use Rattle.exercise_check.specs.Course.{IsCourse};
 ghost use Rattle.exercise_check.specs.Cursors.{AreCursors};
-ghost use Rattle.exercise_check.specs.Judging.{judged, is_unsent, if_taken, by_source, JudgesNext, IsReadyAt};
+ghost use Rattle.exercise_check.specs.Judging.{judged, is_unsent, if_taken, source_judgement, JudgesNext, IsReadyAt};
 
 use crate::cursors::{Cursors, was_taken};
 use exercise_findings::Findings;
@@ -60,7 +60,7 @@ fn judge_received<L: ExerciseLog>(
     place: usize,
 ) -> Judgement
     requires { length cursors.now.next.items ≡ length found.now.setting.stations }
-    ensures { (steps : List Step) → AreCursors found.now steps cursors.now → result ≡ by_source (if_taken found.now steps (source_of found.now place)) }
+    ensures { (steps : List Step) → AreCursors found.now steps cursors.now → result ≡ source_judgement (if_taken found.now steps (source_of found.now place)) }
 {
     match source_taken(found, cursors, place) {
         Some(source) => Judgement::Allowed(Some(source)),

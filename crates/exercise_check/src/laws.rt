@@ -16,9 +16,9 @@ ghost use Rattle.exercise_model.specs.Pairing.{IsTakenUp};
 ghost use Rattle.exercise_model.specs.Run.{Explains};
 ghost use Rattle.exercise_model.specs.declared.form.Form.TheVariants.{First};
 ghost use Rattle.exercise_model.specs.Conversion.{converted};
-ghost use Rattle.exercise_check.specs.Order.{order_of};
+ghost use Rattle.exercise_check.specs.Sequence.{sequence_of};
 ghost use Rattle.exercise_check.specs.Goodness.{step_cause, IsGoodStep, GoodBelow, IsGood, Refuses};
-ghost use Rattle.exercise_findings.specs.Account.{AccountData, TellsAccount};
+ghost use Rattle.exercise_findings.specs.Account.{AccountData, IsAccount};
 ghost use Rattle.exercise_check.specs.declared.checker.CheckFault.{CheckFault};
 ghost use Rattle.exercise_check.specs.declared.checker.CheckFault.TheVariants.{Bad};
 ghost use Rattle.exercise_model.specs.declared.cause.Cause.{Cause};
@@ -31,8 +31,8 @@ pub fn good_steps_have_no_cause()
     ensures none { (r : PlainRecording) (before : List Step) (step : Step) (e : Entry) → IsGoodStep r before step e → step_cause r before step ≡ None }
     // After good steps the link of an answer is the entry of the request taken up in that sequence.
     ensures links { (r : PlainRecording) (before : List Step) (step : Step) (e : Entry) (s : ℕ) (b : List ℕ) (p : Pdu) → GoodBelow r before (length before) → IsGoodStep r before step e
-        → event_of e ≡ Send s b → meaning r.setting.exercise b ≡ Some p → is_answer_body p.body ≡ true → IsTakenUp r (order_of r before) s p step.link }
-    ensures explains { (r : PlainRecording) (steps : List Step) → IsRecording r → IsGood r steps → Explains r (order_of r steps) }
+        → event_of e ≡ Send s b → meaning r.setting.exercise b ≡ Some p → is_answer_body p.body ≡ true → IsTakenUp r (sequence_of r before) s p step.link }
+    ensures explains { (r : PlainRecording) (steps : List Step) → IsRecording r → IsGood r steps → Explains r (sequence_of r steps) }
 {}
 
 /// Converting a recording of the first form changes no check. It and the recording that differs
@@ -49,7 +49,7 @@ pub fn conversion_keeps_checks()
     ensures one { (r : PlainRecording) (steps : List Step) (k j : ℕ) (cause other : Cause) → r.setting.form ≡ First → Refuses r steps (Bad k cause) → Refuses (converted r) steps (Bad j other)
         → (k ≡ j) × (cause ≡ other) }
     ensures never { (r : PlainRecording) (steps : List Step) (k : ℕ) (cause : Cause) → r.setting.form ≡ First → IsGood r steps → Refuses (converted r) steps (Bad k cause) → ⊥ }
-    ensures account { (r : PlainRecording) (c : AccountData) → TellsAccount r c ↔ TellsAccount (converted r) c }
+    ensures account { (r : PlainRecording) (c : AccountData) → IsAccount r c ↔ IsAccount (converted r) c }
 {}
 
 /// Reading and writing agree. Bytes that read as a certificate are its text, complete and within

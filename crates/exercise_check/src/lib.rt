@@ -30,7 +30,7 @@ pub use certificate::{Certificate, NO_LINK, Step};
 pub use certificate_fault::{CertificateFault, CertificateFormatFault, CertificateWriterFault};
 pub use certificate_reading::{fetch_certificate, read_certificate};
 pub use certificate_text::write_certificate;
-pub use checker::{BadStep, CheckFault, Stepped, check, check_found};
+pub use checker::{BadStep, CheckFault, CheckResult, check, check_found};
 pub use course::{Course, Progress};
 pub use exercise_findings::Account as Checked;
 pub use laws::{

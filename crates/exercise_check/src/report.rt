@@ -2,7 +2,7 @@
 
 ghost use Rattle.std.specs.Prelude.{◌≡◌, ◌≤◌, ◌++◌, length, IfOk, OnOk, string_bytes};
 ghost use Rattle.std.specs.List.{flat_map};
-ghost use Rattle.exercise_findings.specs.Account.{TellsAccount};
+ghost use Rattle.exercise_findings.specs.Account.{IsAccount};
 ghost use Rattle.siman_print.specs.Spelled.{line_text};
 ghost use Rattle.siman_print.specs.Below.{texts_below};
 ghost use Rattle.exercise_check.specs.Report.{pair_line, entity_line, yes_line, line_with, answer_at, known_at, entities_at, report_text, no_text};
@@ -24,7 +24,7 @@ pub fn report_text<L: ExerciseLog>(
     log: &L,
     checked: &Checked,
 ) -> Result<String, AllocError>
-    requires { TellsAccount (L.recording log.now) checked.now }
+    requires { IsAccount (L.recording log.now) checked.now }
     ensures { IfOk result (λ text. string_bytes text ≡ report_text (L.recording log.now)) }
 {
     let (records, others) = (log.entry_count(), checked.others());
@@ -82,7 +82,7 @@ fn put_answers<L: ExerciseLog>(
     log: &L,
     checked: &Checked,
 ) -> Result<(), AllocError>
-    requires { TellsAccount (L.recording log.now) checked.now }
+    requires { IsAccount (L.recording log.now) checked.now }
     ensures { let r = L.recording log.now in OnOk result (string_bytes text.new ≡ string_bytes text.old ++ texts_below (answer_at r) (length r.entries)) }
 {
     let mut line = TextLine::new();
@@ -100,7 +100,7 @@ fn put_changes<L: ExerciseLog>(
     log: &L,
     checked: &Checked,
 ) -> Result<(), AllocError>
-    requires { TellsAccount (L.recording log.now) checked.now }
+    requires { IsAccount (L.recording log.now) checked.now }
     ensures { let r = L.recording log.now in OnOk result (string_bytes text.new ≡ string_bytes text.old ++ texts_below (known_at r) (length r.entries)) }
 {
     let mut line = TextLine::new();
@@ -143,7 +143,7 @@ fn put_states<L: ExerciseLog>(
     log: &L,
     checked: &Checked,
 ) -> Result<(), AllocError>
-    requires { TellsAccount (L.recording log.now) checked.now }
+    requires { IsAccount (L.recording log.now) checked.now }
     ensures { let r = L.recording log.now in OnOk result (string_bytes text.new ≡ string_bytes text.old ++ texts_below (entities_at r) (length r.setting.stations)) }
 {
     let mut line = TextLine::new();

@@ -4,41 +4,41 @@ use Rattle.std.specs.Prelude.{nat_lt, option_map, option_and_then}
 use Rattle.std.proofs.lemmas.Bool.{eq-eqb, ne_eqb, lt-ltb, le-ltb}
 use Rattle.exercise_model.specs.declared.station.TheConstants.{MOST_STATIONS}
 use Rattle.exercise_conflict.specs.declared.waits.Wait.{Wait}
-use Rattle.exercise_conflict.specs.Cycles.{wait_at, way_back, IsWayBack}
+use Rattle.exercise_conflict.specs.Cycles.{wait_at, waiting_path, IsWaitingPath}
 
 -- what stands behind what stood there begins the way back, which goes on from `place`
 pub record IsSoFar (waits : List Wait) (s from : ℕ) (old new : List ℕ) (place step : ℕ) : Type 0 where
   pub done : List ℕ
   pub added : new ≡ old ++ done
-  pub goes : (left : ℕ) → left + step ≡ MOST_STATIONS → way_back waits s from MOST_STATIONS ≡ option_map (λ rest. done ++ rest) (way_back waits s place left)
+  pub goes : (left : ℕ) → left + step ≡ MOST_STATIONS → waiting_path waits s from MOST_STATIONS ≡ option_map (λ rest. done ++ rest) (waiting_path waits s place left)
 
 -- ---- one step
 
-none_left : (waits : List Wait) (s t : ℕ) → way_back waits s t 0 ≡ None
-unfolding way_back
+none_left : (waits : List Wait) (s t : ℕ) → waiting_path waits s t 0 ≡ None
+unfolding waiting_path
 none_left waits s t = refl
 
-back_there : (waits : List Wait) (s t n : ℕ) → t ≡ s → way_back waits s t (suc n) ≡ Some []
-unfolding way_back
+back_there : (waits : List Wait) (s t n : ℕ) → t ≡ s → waiting_path waits s t (suc n) ≡ Some []
+unfolding waiting_path
 back_there waits s t n same =
-    ap (λ b. cond b (Some []) (cond (nat_lt s t) (option_and_then (λ w. option_map (λ way. t ∷ way) (way_back waits s w.on n)) (wait_at waits t)) None)) (eq-eqb t s same)
+    ap (λ b. cond b (Some []) (cond (nat_lt s t) (option_and_then (λ w. option_map (λ way. t ∷ way) (waiting_path waits s w.on n)) (wait_at waits t)) None)) (eq-eqb t s same)
 
-not_there : (waits : List Wait) (s t n : ℕ) → t ≢ s → way_back waits s t (suc n)
-    ≡ cond (nat_lt s t) (option_and_then (λ w. option_map (λ way. t ∷ way) (way_back waits s w.on n)) (wait_at waits t)) None
-unfolding way_back
+not_there : (waits : List Wait) (s t n : ℕ) → t ≢ s → waiting_path waits s t (suc n)
+    ≡ cond (nat_lt s t) (option_and_then (λ w. option_map (λ way. t ∷ way) (waiting_path waits s w.on n)) (wait_at waits t)) None
+unfolding waiting_path
 not_there waits s t n apart =
-    ap (λ b. cond b (Some []) (cond (nat_lt s t) (option_and_then (λ w. option_map (λ way. t ∷ way) (way_back waits s w.on n)) (wait_at waits t)) None)) (ne_eqb t s apart)
+    ap (λ b. cond b (Some []) (cond (nat_lt s t) (option_and_then (λ w. option_map (λ way. t ∷ way) (waiting_path waits s w.on n)) (wait_at waits t)) None)) (ne_eqb t s apart)
 
-back_below : (waits : List Wait) (s t n : ℕ) → t < s → way_back waits s t (suc n) ≡ None
+back_below : (waits : List Wait) (s t n : ℕ) → t < s → waiting_path waits s t (suc n) ≡ None
 back_below waits s t n less =
     not_there waits s t n (λ same. omega (arith, less, same))
-    ∙ ap (λ b. cond b (option_and_then (λ w. option_map (λ way. t ∷ way) (way_back waits s w.on n)) (wait_at waits t)) None) (le-ltb s t (omega (arith, less)))
+    ∙ ap (λ b. cond b (option_and_then (λ w. option_map (λ way. t ∷ way) (waiting_path waits s w.on n)) (wait_at waits t)) None) (le-ltb s t (omega (arith, less)))
 
-back_above : (waits : List Wait) (s t n : ℕ) → s < t → way_back waits s t (suc n)
-    ≡ option_and_then (λ w. option_map (λ way. t ∷ way) (way_back waits s w.on n)) (wait_at waits t)
+back_above : (waits : List Wait) (s t n : ℕ) → s < t → waiting_path waits s t (suc n)
+    ≡ option_and_then (λ w. option_map (λ way. t ∷ way) (waiting_path waits s w.on n)) (wait_at waits t)
 back_above waits s t n more =
     not_there waits s t n (λ same. omega (arith, more, same))
-    ∙ ap (λ b. cond b (option_and_then (λ w. option_map (λ way. t ∷ way) (way_back waits s w.on n)) (wait_at waits t)) None) (lt-ltb s t more)
+    ∙ ap (λ b. cond b (option_and_then (λ w. option_map (λ way. t ∷ way) (waiting_path waits s w.on n)) (wait_at waits t)) None) (lt-ltb s t more)
 
 -- ---- the loop
 
@@ -50,7 +50,7 @@ pub begins : (waits : List Wait) (s from : ℕ) (old : List ℕ) → IsSoFar wai
 begins waits s from old = record {
   done = [];
   added = sym (append-nil old);
-  goes = λ left all. let same : MOST_STATIONS ≡ left = omega (arith, all) in ap (way_back waits s from) same ∙ kept (way_back waits s from left);
+  goes = λ left all. let same : MOST_STATIONS ≡ left = omega (arith, all) in ap (waiting_path waits s from) same ∙ kept (waiting_path waits s from left);
 }
 
 -- what is left, where a step is taken
@@ -58,11 +58,11 @@ abbrev rest_of : List Wait → ℕ → ℕ
 rest_of waits step = MOST_STATIONS - (step + 1)
 
 at_left : (waits : List Wait) (s from : ℕ) (old new : List ℕ) (place step : ℕ) → (far : IsSoFar waits s from old new place step) → step < MOST_STATIONS
-    → way_back waits s from MOST_STATIONS ≡ option_map (λ rest. far.done ++ rest) (way_back waits s place (suc (rest_of waits step)))
+    → waiting_path waits s from MOST_STATIONS ≡ option_map (λ rest. far.done ++ rest) (waiting_path waits s place (suc (rest_of waits step)))
 at_left waits s from old new place step far less = far.goes (suc (rest_of waits step)) (omega (arith, less))
 
 pub arrives : (waits : List Wait) (s from : ℕ) (old new : List ℕ) (place step : ℕ) → IsSoFar waits s from old new place step → step < MOST_STATIONS
-    → place ≡ s → IsWayBack waits s from old new true
+    → place ≡ s → IsWaitingPath waits s from old new true
 arrives waits s from old new place step far less same = (
   far.done,
   at_left waits s from old new place step far less
@@ -72,17 +72,17 @@ arrives waits s from old new place step far less same = (
 )
 
 pub falls : (waits : List Wait) (s from : ℕ) (old new : List ℕ) (place step : ℕ) → IsSoFar waits s from old new place step → step < MOST_STATIONS
-    → place < s → IsWayBack waits s from old new false
+    → place < s → IsWaitingPath waits s from old new false
 falls waits s from old new place step far less below =
     at_left waits s from old new place step far less
     ∙ ap (option_map (λ rest. far.done ++ rest)) (back_below waits s place (rest_of waits step) below)
 
 pub stops : (waits : List Wait) (s from : ℕ) (old new : List ℕ) (place step : ℕ) → IsSoFar waits s from old new place step → step < MOST_STATIONS
-    → s < place → wait_at waits place ≡ None → IsWayBack waits s from old new false
+    → s < place → wait_at waits place ≡ None → IsWaitingPath waits s from old new false
 stops waits s from old new place step far less above none =
     at_left waits s from old new place step far less
     ∙ ap (option_map (λ rest. far.done ++ rest)) (back_above waits s place (rest_of waits step) above
-    ∙ ap (option_and_then (λ w. option_map (λ way. place ∷ way) (way_back waits s w.on (rest_of waits step)))) none)
+    ∙ ap (option_and_then (λ w. option_map (λ way. place ∷ way) (waiting_path waits s w.on (rest_of waits step)))) none)
 
 joined : (done : List ℕ) (place : ℕ) (o : Option (List ℕ))
     → option_map (λ rest. done ++ rest) (option_map (λ way. place ∷ way) o) ≡ option_map (λ rest. (done ++ place ∷ []) ++ rest) o
@@ -96,11 +96,11 @@ goes_on waits s from old new more place step w far less above is pushed = record
   added = pushed ∙ ap (λ xs. xs ++ place ∷ []) far.added ∙ append_assoc old far.done (place ∷ []);
   goes = λ left all. far.goes (suc left) (omega (arith, all))
       ∙ ap (option_map (λ rest. far.done ++ rest)) (back_above waits s place left above
-      ∙ ap (option_and_then (λ w. option_map (λ way. place ∷ way) (way_back waits s w.on left))) is)
-      ∙ joined far.done place (way_back waits s w.on left);
+      ∙ ap (option_and_then (λ w. option_map (λ way. place ∷ way) (waiting_path waits s w.on left))) is)
+      ∙ joined far.done place (waiting_path waits s w.on left);
 }
 
 pub ends : (waits : List Wait) (s from : ℕ) (old new : List ℕ) (place step : ℕ) → IsSoFar waits s from old new place step → step ≡ MOST_STATIONS
-    → IsWayBack waits s from old new false
+    → IsWaitingPath waits s from old new false
 ends waits s from old new place step far all =
     far.goes 0 (omega (arith, all)) ∙ ap (option_map (λ rest. far.done ++ rest)) (none_left waits s place)

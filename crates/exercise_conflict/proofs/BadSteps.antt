@@ -14,7 +14,7 @@ use Rattle.exercise_model.specs.Place.{log_before}
 use Rattle.exercise_model.proofs.Offered.{log_before-beginning, same_beginnings}
 use Rattle.exercise_findings.specs.Tables.{event_own_cause, own_cause}
 use Rattle.exercise_check.specs.declared.certificate.Step.{Step}
-use Rattle.exercise_check.specs.Order.{order_of, is_next, link_of}
+use Rattle.exercise_check.specs.Sequence.{sequence_of, is_next, link_of}
 use Rattle.exercise_check.specs.Goodness.{link_cause, event_cause, step_cause, no_step, GoodBelow, IsFirstBad, IsReady}
 use Rattle.exercise_check.proofs.Offered.{good_logs, next_lengths}
 use Rattle.exercise_conflict.specs.StepClash.{is_of_event}
@@ -33,7 +33,7 @@ record Accused (r : PlainRecording) (before : List Step) (step : Step) (cause : 
   pub entry : Entry
   pub at : slice_get r.entries step.place ≡ Some entry
   pub next : is_next r before step.place (event_of entry) ≡ true
-  pub stands : cause_of r.setting (order_of r before) (event_of entry) ≡ Some cause
+  pub stands : cause_of r.setting (sequence_of r before) (event_of entry) ≡ Some cause
 
 accused : (r : PlainRecording) (before : List Step) (step : Step) (cause : Cause) → step_cause r before step ≡ Some cause → is_of_event cause ≡ true
     → Accused r before step cause
@@ -48,11 +48,11 @@ accused r before step cause is event =
     of_entry : (e : Entry) → slice_get r.entries step.place ≡ Some e → event_cause r before step (event_of e) ≡ Some cause → Accused r before step cause
     of_entry e at is =
         elim (is_next r before step.place (event_of e)) as (λ b. is_next r before step.place (event_of e) ≡ b
-        → cond b (option_or (cause_of r.setting (order_of r before) (event_of e)) (link_cause step.link (link_of r before step.place (event_of e)))) (Some OutOfOrder) ≡ Some cause
+        → cond b (option_or (cause_of r.setting (sequence_of r before) (event_of e)) (link_cause step.link (link_of r before step.place (event_of e)))) (Some OutOfOrder) ≡ Some cause
         → Accused r before step cause) [
           | false ↦ λ _ e. absurd (cc (ap is_of_event (same_Some OutOfOrder cause e) ∙ event))
-          | true ↦ λ next is. elim (cause_of r.setting (order_of r before) (event_of e)) as
-              (λ o. cause_of r.setting (order_of r before) (event_of e) ≡ o
+          | true ↦ λ next is. elim (cause_of r.setting (sequence_of r before) (event_of e)) as
+              (λ o. cause_of r.setting (sequence_of r before) (event_of e) ≡ o
               → option_or o (link_cause step.link (link_of r before step.place (event_of e))) ≡ Some cause → Accused r before step cause) [
                 | None ↦ λ _ is. absurd (link_silent step.link (link_of r before step.place (event_of e)) cause is event)
                 | Some c ↦ λ here is. record { entry = e; at = at; next = next; stands = here ∙ is }
@@ -77,7 +77,7 @@ bad_own r steps k cause bad event =
     let v : Event = event_of of.entry in
     let good = good_before r steps k bad.within bad.good in
     let logs : IsReady r before step.place v =
-    same_beginnings (log_at (station_of v) (order_of r before)) (log_before r (station_of v) step.place) _ (good_logs r before good (station_of v))
+    same_beginnings (log_at (station_of v) (sequence_of r before)) (log_before r (station_of v) step.place) _ (good_logs r before good (station_of v))
     (log_before-beginning r (station_of v) step.place) (next_lengths r before step.place v of.next) in
     ap (option_and_then (λ e. event_own_cause r step.place (event_of e))) of.at
-    ∙ event_cause_own r (order_of r before) step.place v cause logs of.stands
+    ∙ event_cause_own r (sequence_of r before) step.place v cause logs of.stands

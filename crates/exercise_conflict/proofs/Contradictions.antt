@@ -24,7 +24,7 @@ use Rattle.exercise_conflict.specs.declared.clash.Clash.TheVariants as clashes
 use Rattle.exercise_conflict.specs.declared.waits.Wait.{Wait}
 use Rattle.exercise_conflict.specs.declared.way.Way.{Way}
 use Rattle.exercise_conflict.specs.declared.way.Way.TheVariants as ways
-use Rattle.exercise_conflict.specs.Clash.{unasked_for, clash_got, clash_by, clash_of_entry, clash_of}
+use Rattle.exercise_conflict.specs.Clash.{unasked_clash, receipt_clash, clash_by, clash_of_entry, clash_of}
 use Rattle.exercise_conflict.specs.StepClash.{is_of_event}
 use Rattle.exercise_conflict.specs.Waits.{wait_of}
 use Rattle.exercise_conflict.specs.Ways.{clashes_by, way_of}
@@ -101,7 +101,7 @@ stranger_there r j own = let at = accused r j causes.Stranger own in of_entry at
     of_pdu s stamp b at (Some p) meant e = (
       clashes.Stranger p.origin,
       ap (option_and_then (clash_of_entry r j)) at ∙ ap (option_and_then (clash_by r j (Received s stamp b))) own
-          ∙ ap (option_and_then (clash_got r j b causes.Stranger)) meant,
+          ∙ ap (option_and_then (receipt_clash r j b causes.Stranger)) meant,
     )
 
     no_row : (a b c d e f : Bool) → chain a b c d e f ≡ Some causes.Stranger → ⊥
@@ -136,7 +136,7 @@ clash_there r j causes.OutOfOrder own = absurd (cc (own_of_event r j causes.OutO
 clash_there r j causes.BadLink own = absurd (cc (own_of_event r j causes.BadLink own))
 clash_there r j causes.WrongSender own = let for = sent_for r j causes.WrongSender own refl in (clashes.WrongSender for.pdu.origin for.station, sent_clash r j causes.WrongSender for)
 clash_there r j causes.ReusedIdentifier own = let c = clashes_by_order r j own in (clashes.ReusedIdentifier c.earlier c.field, c.told)
-clash_there r j causes.NoRequest own = let for = sent_for r j causes.NoRequest own refl in (unasked_for r for.station j for.pdu, sent_clash r j causes.NoRequest for)
+clash_there r j causes.NoRequest own = let for = sent_for r j causes.NoRequest own refl in (unasked_clash r for.station j for.pdu, sent_clash r j causes.NoRequest for)
 clash_there r j causes.WrongAnswer own = let c = clashes_by_answer r j own in (clashes.WrongAnswer c.earlier c.why, c.told)
 clash_there r j causes.ChangedAnswer own = let c = clashes_by_opposite r j own in (clashes.ChangedAnswer c.earlier, c.told)
 clash_there r j causes.Impossible own = let c = clashes_by_change r j own in (clashes.Impossible c.earlier c.station c.entity c.state c.change, c.told)

@@ -16,15 +16,15 @@ use Rattle.exercise_model.specs.Meaning.{meaning}
 use Rattle.exercise_model.specs.Place.{own_event, log_before, first_below}
 use Rattle.exercise_model.specs.Account.{pair_of_entry, pair_of}
 use Rattle.exercise_model.proofs.Offered.{log_before-more, log_before-none}
-use Rattle.exercise_check.specs.Order.{sender_link, link_of}
+use Rattle.exercise_check.specs.Sequence.{sender_link, link_of}
 use Rattle.exercise_check.specs.declared.certificate.Step.{Step}
 use Rattle.exercise_check.specs.Goodness.{no_step}
-use Rattle.exercise_conflict.specs.declared.lacks.Lack.{Lack}
+use Rattle.exercise_conflict.specs.declared.lacks.MissingSend.{MissingSend}
 use Rattle.exercise_audit.specs.declared.blocks.Block.{Block}
 use Rattle.exercise_conflict.specs.declared.waits.Wait.{Wait}
-use Rattle.exercise_conflict.specs.Also.{also_at}
+use Rattle.exercise_conflict.specs.Also.{further_cause_at}
 use Rattle.exercise_conflict.specs.Cycles.{cycle_at}
-use Rattle.exercise_conflict.specs.Ways.{cycles_below, also_by, also_below}
+use Rattle.exercise_conflict.specs.Ways.{cycles_below, further_cause, further_causes_below}
 use Rattle.exercise_conflict.specs.Repair.{made, kept, is_first, is_after, slots_below}
 use Rattle.exercise_conflict.specs.StepClash.{right_link, times_taken}
 
@@ -60,26 +60,26 @@ same_below f g (suc n) same =
 
 -- ---- sends by their places
 
-pub made_more : (t : Lack → Bool) (xs : List Lack) (i : ℕ) (x : Lack) → i < length xs → x ≡ get_or xs i x
+pub made_more : (t : MissingSend → Bool) (xs : List MissingSend) (i : ℕ) (x : MissingSend) → i < length xs → x ≡ get_or xs i x
     → map made (filter t (take (i + 1) xs)) ≡ map made (filter t (take i xs)) ++ map made (filter t (x ∷ []))
 made_more t xs i x within is =
     ap (λ ys. map made (filter t ys)) (take_more xs i x within ∙ ap (λ y. take i xs ++ y ∷ []) (sym is))
     ∙ ap (map made) (filter-append t (take i xs) (x ∷ []))
     ∙ map-append made (filter t (take i xs)) (filter t (x ∷ []))
 
-pub made_here : (t : Lack → Bool) (x : Lack) → t x ≡ true → map made (filter t (x ∷ [])) ≡ made x ∷ []
+pub made_here : (t : MissingSend → Bool) (x : MissingSend) → t x ≡ true → map made (filter t (x ∷ [])) ≡ made x ∷ []
 made_here t x on = ap (λ (b : Bool). map made (cond b (x ∷ []) [])) on
 
-pub made_not : (t : Lack → Bool) (x : Lack) → t x ≡ false → map made (filter t (x ∷ [])) ≡ []
+pub made_not : (t : MissingSend → Bool) (x : MissingSend) → t x ≡ false → map made (filter t (x ∷ [])) ≡ []
 made_not t x off = ap (λ (b : Bool). map made (cond b (x ∷ []) [])) off
 
 -- ---- slots, cycles and what stands beside, one more
 
-pub slots_none : (xs : List Lack) → slots_below xs 0 ≡ map made (filter is_first xs)
+pub slots_none : (xs : List MissingSend) → slots_below xs 0 ≡ map made (filter is_first xs)
 unfolding slots_below
 slots_none xs = refl
 
-pub slots_more : (xs : List Lack) (n : ℕ) → slots_below xs (n + 1) ≡ slots_below xs n ++ kept n ∷ map made (filter (is_after n) xs)
+pub slots_more : (xs : List MissingSend) (n : ℕ) → slots_below xs (n + 1) ≡ slots_below xs n ++ kept n ∷ map made (filter (is_after n) xs)
 unfolding slots_below
 slots_more xs n = ap (slots_below xs) (add-one n)
 
@@ -91,14 +91,14 @@ pub cycles_more : (waits : List Wait) (n : ℕ) → cycles_below waits (n + 1) �
 unfolding cycles_below
 cycles_more waits n = ap (cycles_below waits) (add-one n)
 
-pub also_none : (r : PlainRecording) (blocks : List Block) → also_below r blocks 0 ≡ []
-unfolding also_below
+pub also_none : (r : PlainRecording) (blocks : List Block) → further_causes_below r blocks 0 ≡ []
+unfolding further_causes_below
 also_none r blocks = refl
 
 pub also_more : (r : PlainRecording) (blocks : List Block) (n : ℕ)
-    → also_below r blocks (n + 1) ≡ also_below r blocks n ++ option_to_list (option_map (also_by n) (also_at r blocks n))
-unfolding also_below
-also_more r blocks n = ap (also_below r blocks) (add-one n)
+    → further_causes_below r blocks (n + 1) ≡ further_causes_below r blocks n ++ option_to_list (option_map (further_cause n) (further_cause_at r blocks n))
+unfolding further_causes_below
+also_more r blocks n = ap (further_causes_below r blocks) (add-one n)
 
 -- ---- ranks, one entry more
 

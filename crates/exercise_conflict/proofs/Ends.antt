@@ -53,9 +53,9 @@ held_or_goes r k s begins =
     (some.0, sym (append_assoc some.0 (v ∷ []) (log_at s k)) ∙ ap (λ ys. ys ++ log_at s k) (sym some.2) ∙ begins.1) in
     elim (cause_of r.setting k v) as (λ o. cause_of r.setting k v ≡ o → IsHeld r k s ⊎ GoesOn r k s) [
       | None ↦ λ allowed. inr (v, allowed, next)
-      | Some cause ↦ λ barred. inl (λ w other allowed.
+      | Some cause ↦ λ event_clash. inl (λ w other allowed.
           let same : w ≡ v = head_same w v (log_at s k) (log_at s k) (same_beginnings (w ∷ log_at s k) (v ∷ log_at s k) (log_of r s) other next refl) in
-          absurd (cc (sym allowed ∙ ap (cause_of r.setting k) same ∙ barred)))
+          absurd (cc (sym allowed ∙ ap (cause_of r.setting k) same ∙ event_clash)))
     ] refl)
     (last_of begins.0)
 

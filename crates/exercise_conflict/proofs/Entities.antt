@@ -18,7 +18,7 @@ use Rattle.exercise_model.specs.Place.{event_at, own_event, log_before}
 use Rattle.exercise_model.specs.Account.{changed_by, change_at}
 use Rattle.exercise_model.proofs.Offered.{log_before-more, log_before-none}
 use Rattle.exercise_findings.specs.State.{state_before}
-use Rattle.exercise_conflict.specs.Since.{made_since, HasOneState, Made}
+use Rattle.exercise_conflict.specs.Since.{last_change_entry, HasOneState, Made}
 
 -- what an entry of a station changes, by the entry alone
 pub own_changes : (r : PlainRecording) (s j : ℕ) (e : Entry) → slice_get r.entries j ≡ Some e
@@ -81,26 +81,26 @@ same_state_where y z same = ap (same_state y) (sym same) ∙ state_itself y
 
 -- ---- what made a state
 
-pub since_none : (r : PlainRecording) (s e : ℕ) → made_since r s e 0 ≡ None
-unfolding made_since
+pub since_none : (r : PlainRecording) (s e : ℕ) → last_change_entry r s e 0 ≡ None
+unfolding last_change_entry
 since_none r s e = refl
 
-pub since_nowhere : (r : PlainRecording) (s e n : ℕ) → is_entity e ≡ false → made_since r s e n ≡ None
-unfolding made_since
+pub since_nowhere : (r : PlainRecording) (s e n : ℕ) → is_entity e ≡ false → last_change_entry r s e n ≡ None
+unfolding last_change_entry
 since_nowhere r s e zero none = refl
 since_nowhere r s e (suc n) none =
-    ap (λ (b : Bool). if b then made_since r s e n else Some n)
+    ap (λ (b : Bool). if b then last_change_entry r s e n else Some n)
     (same_state_where _ _ (state_nowhere r s e n none ∙ sym (state_nowhere r s e (suc n) none))) ∙ since_nowhere r s e n none
 
-pub since_still : (r : PlainRecording) (s e n : ℕ) → state_before r s e n ≡ state_before r s e (suc n) → made_since r s e (suc n) ≡ made_since r s e n
-unfolding made_since
-since_still r s e n same = ap (λ (b : Bool). if b then made_since r s e n else Some n) (same_state_where _ _ same)
+pub since_still : (r : PlainRecording) (s e n : ℕ) → state_before r s e n ≡ state_before r s e (suc n) → last_change_entry r s e (suc n) ≡ last_change_entry r s e n
+unfolding last_change_entry
+since_still r s e n same = ap (λ (b : Bool). if b then last_change_entry r s e n else Some n) (same_state_where _ _ same)
 
-pub since_here : (r : PlainRecording) (s e n : ℕ) → state_before r s e n ≢ state_before r s e (suc n) → made_since r s e (suc n) ≡ Some n
-unfolding made_since
+pub since_here : (r : PlainRecording) (s e n : ℕ) → state_before r s e n ≢ state_before r s e (suc n) → last_change_entry r s e (suc n) ≡ Some n
+unfolding last_change_entry
 since_here r s e n apart =
     elim (same_state (state_before r s e n) (state_before r s e (suc n))) as (λ b. same_state (state_before r s e n) (state_before r s e (suc n)) ≡ b
-    → (if b then made_since r s e n else Some n) ≡ Some n) [
+    → (if b then last_change_entry r s e n else Some n) ≡ Some n) [
       | true ↦ λ same. absurd (apart (state_same_is _ _ same))
       | false ↦ λ _. refl
     ] refl
@@ -149,12 +149,12 @@ at_once : (r : PlainRecording) (s e n : ℕ) → HasOneState r s e n n
 at_once r s e n m above below = let at : m ≡ n = omega (arith, above, below) in ap (state_before r s e) at
 
 -- WHAT MADE A STATE IS A CHANGE, AND NONE CAME AFTER IT
-pub since_made : (r : PlainRecording) (s e n k : ℕ) → made_since r s e n ≡ Some k → Made r s e n k
-unfolding made_since
+pub since_made : (r : PlainRecording) (s e n k : ℕ) → last_change_entry r s e n ≡ Some k → Made r s e n k
+unfolding last_change_entry
 since_made r s e zero k is = absurd (cc)
 since_made r s e (suc n) k is =
     elim (same_state (state_before r s e n) (state_before r s e (suc n))) as (λ b. same_state (state_before r s e n) (state_before r s e (suc n)) ≡ b
-    → (if b then made_since r s e n else Some n) ≡ Some k → Made r s e (suc n) k) [
+    → (if b then last_change_entry r s e n else Some n) ≡ Some k → Made r s e (suc n) k) [
       | true ↦ λ same is.
           let before = since_made r s e n k is in
           record {
@@ -177,12 +177,12 @@ since_made r s e (suc n) k is =
     ] refl is
 
 -- WHERE NOTHING MADE IT, IT IS THAT OF THE START
-pub since_start : (r : PlainRecording) (s e n : ℕ) → made_since r s e n ≡ None → HasOneState r s e 0 n
-unfolding made_since
+pub since_start : (r : PlainRecording) (s e n : ℕ) → last_change_entry r s e n ≡ None → HasOneState r s e 0 n
+unfolding last_change_entry
 since_start r s e zero none = at_once r s e 0
 since_start r s e (suc n) none =
     elim (same_state (state_before r s e n) (state_before r s e (suc n))) as (λ b. same_state (state_before r s e n) (state_before r s e (suc n)) ≡ b
-    → (if b then made_since r s e n else Some n) ≡ None → HasOneState r s e 0 (suc n)) [
+    → (if b then last_change_entry r s e n else Some n) ≡ None → HasOneState r s e 0 (suc n)) [
       | true ↦ λ same none. one_more r s e 0 n (state_same_is _ _ same) (since_start r s e n none)
       | false ↦ λ _ none. absurd (cc)
     ] refl none
@@ -200,18 +200,18 @@ entity_next r s n e y z before after =
 
 -- where the state is the same behind an entry, it was made where it was made before
 pub since_alike : (r : PlainRecording) (s n e : ℕ) (y z : EntityState) → is_entity e ≡ true → y ≡ entity_state r.setting.exercise (station_at r s) (log_before r s n) e
-    → z ≡ entity_state r.setting.exercise (station_at r s) (log_before r s (n + 1)) e → same_state z y ≡ true → made_since r s e n ≡ made_since r s e (n + 1)
+    → z ≡ entity_state r.setting.exercise (station_at r s) (log_before r s (n + 1)) e → same_state z y ≡ true → last_change_entry r s e n ≡ last_change_entry r s e (n + 1)
 since_alike r s n e y z is before after alike =
     let first : state_before r s e n ≡ y = state_there r s e n is ∙ sym before in
     let second : state_before r s e (suc n) ≡ z =
     state_there r s e (suc n) is ∙ ap (λ k. entity_state r.setting.exercise (station_at r s) (log_before r s k) e) (sym (add-one n)) ∙ sym after in
-    sym (since_still r s e n (first ∙ sym (state_same_is z y alike) ∙ sym second)) ∙ ap (made_since r s e) (sym (add-one n))
+    sym (since_still r s e n (first ∙ sym (state_same_is z y alike) ∙ sym second)) ∙ ap (last_change_entry r s e) (sym (add-one n))
 
 -- where it is another one, it was made there
 pub since_apart : (r : PlainRecording) (s n e : ℕ) (y z : EntityState) → is_entity e ≡ true → y ≡ entity_state r.setting.exercise (station_at r s) (log_before r s n) e
-    → z ≡ entity_state r.setting.exercise (station_at r s) (log_before r s (n + 1)) e → same_state z y ≡ false → Some n ≡ made_since r s e (n + 1)
+    → z ≡ entity_state r.setting.exercise (station_at r s) (log_before r s (n + 1)) e → same_state z y ≡ false → Some n ≡ last_change_entry r s e (n + 1)
 since_apart r s n e y z is before after apart =
     let first : state_before r s e n ≡ y = state_there r s e n is ∙ sym before in
     let second : state_before r s e (suc n) ≡ z =
     state_there r s e (suc n) is ∙ ap (λ k. entity_state r.setting.exercise (station_at r s) (log_before r s k) e) (sym (add-one n)) ∙ sym after in
-    sym (since_here r s e n (λ equal. absurd (cc (sym apart ∙ same_state_where z y (sym second ∙ sym equal ∙ first))))) ∙ ap (made_since r s e) (sym (add-one n))
+    sym (since_here r s e n (λ equal. absurd (cc (sym apart ∙ same_state_where z y (sym second ∙ sym equal ∙ first))))) ∙ ap (last_change_entry r s e) (sym (add-one n))

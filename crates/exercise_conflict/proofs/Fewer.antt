@@ -15,12 +15,12 @@ use Rattle.exercise_model.specs.Run.{Explains, Contains}
 use Rattle.exercise_model.proofs.Offered.{length-past, log_before-all, past_within}
 use Rattle.exercise_findings.proofs.Offered.{bytes_same}
 use Rattle.exercise_findings.specs.Missing.{gets_bytes, missing_at}
-use Rattle.exercise_conflict.specs.declared.lacks.Lack.{Lack}
-use Rattle.exercise_conflict.specs.Lacks.{lack_by, lack_at, lacks_below, lacks_of}
+use Rattle.exercise_conflict.specs.declared.lacks.MissingSend.{MissingSend}
+use Rattle.exercise_conflict.specs.Lacks.{missing_send_by, missing_send_at, missing_sends_below, missing_sends}
 use Rattle.exercise_conflict.specs.Needed.{HasSend}
 use Rattle.exercise_conflict.specs.Repair.{Every, bytes_of, no_entry}
 use Rattle.exercise_conflict.proofs.Every.{every-append}
-use Rattle.exercise_conflict.specs.Further.{same_send, bytes_at, sends_lack}
+use Rattle.exercise_conflict.specs.Further.{same_send, bytes_at, is_this_missing_send}
 use Rattle.exercise_conflict.specs.Wider.{AddsTo, anything, IsWider}
 use Rattle.exercise_conflict.proofs.Blocks.{own_entry}
 use Rattle.exercise_conflict.proofs.Lacking.{lacking, lacks_send, needed, none_passes}
@@ -30,16 +30,16 @@ use Rattle.exercise_conflict.proofs.Tables.{gets_here}
 
 -- ---- which events are sends that a log lacks
 
-abbrev pub sends_some : PlainRecording → List Lack → Event → Bool
-sends_some r lacks v = list_any (sends_lack r v) lacks
+abbrev pub sends_some : PlainRecording → List MissingSend → Event → Bool
+sends_some r lacks v = list_any (is_this_missing_send r v) lacks
 
 -- the bytes of a receipt, and so of a lack
-pub bytes_got : (r : PlainRecording) (i s stamp : ℕ) (b : List ℕ) → slice_get r.entries i ≡ Some (Received s stamp b) → bytes_at r i ≡ b
+pub bytes_received : (r : PlainRecording) (i s stamp : ℕ) (b : List ℕ) → slice_get r.entries i ≡ Some (Received s stamp b) → bytes_at r i ≡ b
 unfolding bytes_at
-bytes_got r i s stamp b got = ap bytes_of (get_or_from_slice_get r.entries i (Received s stamp b) no_entry got)
+bytes_received r i s stamp b got = ap bytes_of (get_or_from_slice_get r.entries i (Received s stamp b) no_entry got)
 
-pub bytes_there : (r : PlainRecording) (lack : Lack) (of : IsLackOf r lack) → bytes_at r lack.entry ≡ of.lacking.bytes
-bytes_there r lack of = bytes_got r lack.entry of.lacking.station of.lacking.stamp of.lacking.bytes of.lacking.got
+pub bytes_there : (r : PlainRecording) (lack : MissingSend) (of : IsLackOf r lack) → bytes_at r lack.entry ≡ of.lacking.bytes
+bytes_there r lack of = bytes_received r lack.entry of.lacking.station of.lacking.stamp of.lacking.bytes of.lacking.got
 
 both : (a b : Bool) → (a && b) ≡ true → (a ≡ true) × (b ≡ true)
 both true b e = (refl, e)
@@ -210,29 +210,29 @@ adds_beside may f l (v ∷ k) adds none =
 
 -- ---- each missing send is one of its own
 
-below_later : (n : ℕ) (xs : List Lack) → Every (λ (lack : Lack). lack.entry < n) xs → Every (λ (lack : Lack). lack.entry < suc n) xs
+below_later : (n : ℕ) (xs : List MissingSend) → Every (λ (lack : MissingSend). lack.entry < n) xs → Every (λ (lack : MissingSend). lack.entry < suc n) xs
 below_later n [] all = tt
 below_later n (x ∷ xs) all = let less : x.entry < n = all.0 in (omega (arith, less), below_later n xs all.1)
 
-lacks_rise : (r : PlainRecording) (n : ℕ) → Every (λ (lack : Lack). lack.entry < n) (lacks_below r n)
-unfolding lacks_below
+lacks_rise : (r : PlainRecording) (n : ℕ) → Every (λ (lack : MissingSend). lack.entry < n) (missing_sends_below r n)
+unfolding missing_sends_below
 lacks_rise r zero = tt
 lacks_rise r (suc n) =
-    every-append (λ (lack : Lack). lack.entry < suc n) (lacks_below r n) (option_to_list (lack_at r n)) (below_later n (lacks_below r n) (lacks_rise r n)) (here r n)
+    every-append (λ (lack : MissingSend). lack.entry < suc n) (missing_sends_below r n) (option_to_list (missing_send_at r n)) (below_later n (missing_sends_below r n) (lacks_rise r n)) (here r n)
   where
-    here : (r : PlainRecording) (n : ℕ) → Every (λ (lack : Lack). lack.entry < suc n) (option_to_list (lack_at r n))
-    here r n = elim (missing_at r n) as (λ o. Every (λ (lack : Lack). lack.entry < suc n) (option_to_list (option_map (lack_by n) o))) [
+    here : (r : PlainRecording) (n : ℕ) → Every (λ (lack : MissingSend). lack.entry < suc n) (option_to_list (missing_send_at r n))
+    here r n = elim (missing_at r n) as (λ o. Every (λ (lack : MissingSend). lack.entry < suc n) (option_to_list (option_map (missing_send_by n) o))) [
       | None ↦ tt
       | Some m ↦ (omega arith, tt)
     ]
 
 -- a lack of the entries before does not lack the same datagram
-first_apart : (r : PlainRecording) (n : ℕ) (lack : Lack) → IsLackOf r lack → lack.entry ≡ n → (xs : List Lack) → Every (IsLackOf r) xs
-    → Every (λ (x : Lack). x.entry < n) xs → (v : Event) → sends_some r xs v ≡ true → sends_lack r v lack ≡ true → ⊥
+first_apart : (r : PlainRecording) (n : ℕ) (lack : MissingSend) → IsLackOf r lack → lack.entry ≡ n → (xs : List MissingSend) → Every (IsLackOf r) xs
+    → Every (λ (x : MissingSend). x.entry < n) xs → (v : Event) → sends_some r xs v ≡ true → is_this_missing_send r v lack ≡ true → ⊥
 first_apart r n lack of at [] all rise v one other = absurd (cc)
 first_apart r n lack of at (x ∷ xs) all rise v one other =
     ⊎_elim
-    (λ (here : sends_lack r v x ≡ true).
+    (λ (here : is_this_missing_send r v x ≡ true).
     let same : Send x.missing.sender (bytes_at r x.entry) ≡ Send lack.missing.sender (bytes_at r lack.entry) =
     sym (is_send x.missing.sender (bytes_at r x.entry) v here) ∙ is_send lack.missing.sender (bytes_at r lack.entry) v other in
     let bytes : of.lacking.bytes ≡ all.0.lacking.bytes = sym (bytes_there r lack of) ∙ ap sent_bytes (sym same) ∙ bytes_there r x all.0 in
@@ -252,37 +252,37 @@ first_apart r n lack of at (x ∷ xs) all rise v one other =
     none_is None e = refl
     none_is (Some k) e = absurd (cc)
 
-any_one : (r : PlainRecording) (xs : List Lack) (lack : Lack) (v : Event) → sends_some r (xs ++ lack ∷ []) v ≡ (sends_some r xs v || sends_lack r v lack)
-any_one r [] lack v = or_false (sends_lack r v lack)
+any_one : (r : PlainRecording) (xs : List MissingSend) (lack : MissingSend) (v : Event) → sends_some r (xs ++ lack ∷ []) v ≡ (sends_some r xs v || is_this_missing_send r v lack)
+any_one r [] lack v = or_false (is_this_missing_send r v lack)
   where
     or_false : (b : Bool) → (b || false) ≡ b
     or_false true = refl
     or_false false = refl
 any_one r (x ∷ xs) lack v =
-    ap (λ b. sends_lack r v x || b) (any_one r xs lack v) ∙ sym (or_assoc (sends_lack r v x) (sends_some r xs v) (sends_lack r v lack))
+    ap (λ b. is_this_missing_send r v x || b) (any_one r xs lack v) ∙ sym (or_assoc (is_this_missing_send r v x) (sends_some r xs v) (is_this_missing_send r v lack))
   where
     or_assoc : (a b c : Bool) → ((a || b) || c) ≡ (a || (b || c))
     or_assoc true b c = refl
     or_assoc false b c = refl
 
 -- so each is a further event of a history that has them all
-many_sends : (r : PlainRecording) (w : History) → ((lack : Lack) → IsLackOf r lack → 1 ≤ count (λ v. sends_lack r v lack) w)
-    → (n : ℕ) → length (lacks_below r n) ≤ count (sends_some r (lacks_below r n)) w
-unfolding lacks_below
+many_sends : (r : PlainRecording) (w : History) → ((lack : MissingSend) → IsLackOf r lack → 1 ≤ count (λ v. is_this_missing_send r v lack) w)
+    → (n : ℕ) → length (missing_sends_below r n) ≤ count (sends_some r (missing_sends_below r n)) w
+unfolding missing_sends_below
 many_sends r w has zero = omega arith
 many_sends r w has (suc n) =
-    let xs : List Lack = lacks_below r n in
+    let xs : List MissingSend = missing_sends_below r n in
     let before : length xs ≤ count (sends_some r xs) w = many_sends r w has n in
     elim (missing_at r n) as (λ o. missing_at r n ≡ o
-    → length (xs ++ option_to_list (option_map (lack_by n) o)) ≤ count (sends_some r (xs ++ option_to_list (option_map (lack_by n) o))) w) [
+    → length (xs ++ option_to_list (option_map (missing_send_by n) o)) ≤ count (sends_some r (xs ++ option_to_list (option_map (missing_send_by n) o))) w) [
       | None ↦ λ _. subst (λ ys. length ys ≤ count (sends_some r ys) w) (sym (append-nil xs)) before
       | Some m ↦ λ is.
-          let lack : Lack = lack_by n m in
+          let lack : MissingSend = missing_send_by n m in
           let of : IsLackOf r lack = record { is = is; lacking = lacking r n m is } in
-          let parts : count (sends_some r (xs ++ lack ∷ [])) w ≡ count (sends_some r xs) w + count (λ v. sends_lack r v lack) w =
-          count_same (sends_some r (xs ++ lack ∷ [])) (λ v. sends_some r xs v || sends_lack r v lack) (any_one r xs lack) w
-          ∙ count_or (sends_some r xs) (λ v. sends_lack r v lack) (first_apart r n lack of refl xs (all_lacks r n) (lacks_rise r n)) w in
-          let one : 1 ≤ count (λ v. sends_lack r v lack) w = has lack of in
+          let parts : count (sends_some r (xs ++ lack ∷ [])) w ≡ count (sends_some r xs) w + count (λ v. is_this_missing_send r v lack) w =
+          count_same (sends_some r (xs ++ lack ∷ [])) (λ v. sends_some r xs v || is_this_missing_send r v lack) (any_one r xs lack) w
+          ∙ count_or (sends_some r xs) (λ v. is_this_missing_send r v lack) (first_apart r n lack of refl xs (all_lacks r n) (lacks_rise r n)) w in
+          let one : 1 ≤ count (λ v. is_this_missing_send r v lack) w = has lack of in
           let longer : length (xs ++ lack ∷ []) ≡ length xs + 1 = length-append xs (lack ∷ []) in
           omega (arith, before, parts, one, longer)
     ] refl
@@ -299,23 +299,23 @@ some_event f (v ∷ h) e =
     let found = some_event f h there in (found.0, found.1, (v ∷ found.2.0, ap (λ k. v ∷ k) found.2.1), found.3))
     (or_cases _ _ e)
 
-pub some_lack : (r : PlainRecording) (P : Lack → Type 0) (xs : List Lack) (v : Event) → Every P xs → sends_some r xs v ≡ true
-    → (lack : Lack) × P lack × (sends_lack r v lack ≡ true)
+pub some_lack : (r : PlainRecording) (P : MissingSend → Type 0) (xs : List MissingSend) (v : Event) → Every P xs → sends_some r xs v ≡ true
+    → (lack : MissingSend) × P lack × (is_this_missing_send r v lack ≡ true)
 some_lack r P [] v all e = absurd (cc)
 some_lack r P (x ∷ xs) v all e =
     ⊎_elim
-    (λ (here : sends_lack r v x ≡ true). (x, all.0, here))
+    (λ (here : is_this_missing_send r v x ≡ true). (x, all.0, here))
     (λ (there : sends_some r xs v ≡ true). some_lack r P xs v all.1 there)
     (or_cases _ _ e)
 
-none_here : (r : PlainRecording) (s : ℕ) → list_any (sends_some r (lacks_of r)) (log_of r s) ≡ false
+none_here : (r : PlainRecording) (s : ℕ) → list_any (sends_some r (missing_sends r)) (log_of r s) ≡ false
 none_here r s =
-    elim (list_any (sends_some r (lacks_of r)) (log_of r s)) as (λ b. list_any (sends_some r (lacks_of r)) (log_of r s) ≡ b → b ≡ false) [
+    elim (list_any (sends_some r (missing_sends r)) (log_of r s)) as (λ b. list_any (sends_some r (missing_sends r)) (log_of r s) ≡ b → b ≡ false) [
       | false ↦ λ _. refl
       | true ↦ λ some.
-          let found = some_event (sends_some r (lacks_of r)) (log_of r s) some in
+          let found = some_event (sends_some r (missing_sends r)) (log_of r s) some in
           let v : Event = found.0 in
-          let by = some_lack r (IsLackOf r) (lacks_of r) v (all_lacks r (length r.entries)) found.3 in
+          let by = some_lack r (IsLackOf r) (missing_sends r) v (all_lacks r (length r.entries)) found.3 in
           let t : ℕ = by.0.missing.sender in
           let b : List ℕ = by.1.lacking.bytes in
           let is : v ≡ Send t b = is_send t (bytes_at r by.0.entry) v by.2 ∙ ap (Send t) (bytes_there r by.0 by.1) in
@@ -328,22 +328,22 @@ none_here r s =
 
 -- NO FEWER ENTRIES DO
 pub fewer_do_not : (r wide : PlainRecording) (h : History) → IsRecording r → IsRecording wide → IsWider r wide → Explains wide h
-    → length r.entries + length (lacks_of r) ≤ length wide.entries
+    → length r.entries + length (missing_sends r) ≤ length wide.entries
 unfolding log_of
 fewer_do_not r wide h limits good wider explains =
     let w : History = past wide.entries in
-    let f : Event → Bool = sends_some r (lacks_of r) in
-    let has : (lack : Lack) → IsLackOf r lack → 1 ≤ count (λ v. sends_lack r v lack) w =
+    let f : Event → Bool = sends_some r (missing_sends r) in
+    let has : (lack : MissingSend) → IsLackOf r lack → 1 ≤ count (λ v. is_this_missing_send r v lack) w =
     λ lack of.
     let need = needed r wide h lack.entry lack.missing good wider explains of.is in
-    let bytes : need.bytes ≡ bytes_at r lack.entry = sym (bytes_got r lack.entry need.station need.stamp need.bytes need.got) in
+    let bytes : need.bytes ≡ bytes_at r lack.entry = sym (bytes_received r lack.entry need.station need.stamp need.bytes need.got) in
     let t : ℕ = lack.missing.sender in
     let sent : HasSend wide t (bytes_at r lack.entry) = subst (HasSend wide t) bytes need.sent in
-    let one : 1 ≤ count (λ v. sends_lack r v lack) (log_at t w) =
-    subst (λ l. 1 ≤ count (λ v. sends_lack r v lack) l) sent.1.1
-    (count_in (λ v. sends_lack r v lack) sent.1.0 sent.0 (Send t (bytes_at r lack.entry)) (send_is t (bytes_at r lack.entry))) in
-    omega (arith, one, count_log (λ v. sends_lack r v lack) t w) in
-    let many : length (lacks_of r) ≤ count f w = many_sends r w has (length r.entries) in
+    let one : 1 ≤ count (λ v. is_this_missing_send r v lack) (log_at t w) =
+    subst (λ l. 1 ≤ count (λ v. is_this_missing_send r v lack) l) sent.1.1
+    (count_in (λ v. is_this_missing_send r v lack) sent.1.0 sent.0 (Send t (bytes_at r lack.entry)) (send_is t (bytes_at r lack.entry))) in
+    omega (arith, one, count_log (λ v. is_this_missing_send r v lack) t w) in
+    let many : length (missing_sends r) ≤ count f w = many_sends r w has (length r.entries) in
     let logs : (s : ℕ) → length (log_at s (past r.entries)) ≤ length (log_at s (filter (λ v. not (f v)) w)) =
     λ s. subst (λ l. length (log_at s (past r.entries)) ≤ length l) (sym (log_filtered s (λ v. not (f v)) w))
     (adds_beside anything f (log_at s (past r.entries)) (log_at s w) (wider.logs s) (none_here r s)) in

@@ -5,9 +5,9 @@ use Rattle.exercise_model.specs.declared.cause.Cause.{Cause}
 use Rattle.exercise_model.specs.Recording.{PlainRecording}
 use Rattle.exercise_conflict.specs.declared.clash.Clash.{Clash}
 use Rattle.exercise_conflict.specs.declared.clash.Clash.TheVariants as clashes
-use Rattle.exercise_conflict.specs.declared.fault.Fault.{Fault}
-use Rattle.exercise_conflict.specs.declared.field.Field.{Field}
-use Rattle.exercise_conflict.specs.declared.lacks.Lack.{Lack}
+use Rattle.exercise_conflict.specs.declared.blame.Blame.{Blame}
+use Rattle.exercise_conflict.specs.declared.field.PduField.{PduField}
+use Rattle.exercise_conflict.specs.declared.lacks.MissingSend.{MissingSend}
 use Rattle.exercise_conflict.specs.declared.repair.Repair.{Repair}
 use Rattle.exercise_conflict.specs.declared.step_clash.StepClash.{StepClash}
 use Rattle.exercise_conflict.specs.declared.step_clash.StepClash.TheVariants as steps
@@ -27,7 +27,7 @@ state_key : (key : List ℕ) (o : Option EntityState) → keys_under key (state_
 state_key key None = refl
 state_key key (Some y) = refl
 
-difference_key : (key : List ℕ) (o : Option Field) → keys_under key (difference_value o) ≡ key ∷ []
+difference_key : (key : List ℕ) (o : Option PduField) → keys_under key (difference_value o) ≡ key ∷ []
 difference_key key None = refl
 difference_key key (Some field) = refl
 
@@ -56,10 +56,10 @@ final_apart entry = refl
 pub also_apart : (r : PlainRecording) (entry s : ℕ) (cause : Cause) → has_no_key_twice (also_line r entry s cause) ≡ true
 also_apart r entry s cause = refl
 
-pub missing_apart : (r : PlainRecording) (lack : Lack) → has_no_key_twice (missing_line r lack) ≡ true
+pub missing_apart : (r : PlainRecording) (lack : MissingSend) → has_no_key_twice (missing_line r lack) ≡ true
 missing_apart r lack = rw (entry_key (codes "after") lack.missing.after) refl
 
-pub fault_apart : (fault : Fault) → has_no_key_twice (fault_line fault) ≡ true
+pub fault_apart : (fault : Blame) → has_no_key_twice (fault_line fault) ≡ true
 fault_apart fault = refl
 
 pub cycle_apart : (r : PlainRecording) (stations : List ℕ) → has_no_key_twice (cycle_line r stations) ≡ true

@@ -21,10 +21,10 @@ use Rattle.exercise_model.specs.Cause.{first_cause, tell_rows, send_cause, get_c
 use Rattle.exercise_model.specs.Place.{own_event, log_before, entry_taken_up}
 use Rattle.exercise_model.specs.Run.{IsRun, Explains, Contains, IsBeginning, IsStuck}
 use Rattle.exercise_model.proofs.Offered.{beginning_length, get_where_sent, log_at-append, log_before-all, log_before-more, log_before-none, same_beginnings}
-use Rattle.exercise_conflict.specs.declared.lacks.Lack.{Lack}
-use Rattle.exercise_conflict.specs.Further.{bytes_at, sends_lack, sends_missing, HasMissingSends}
-use Rattle.exercise_conflict.specs.Lacks.{lacks_of}
-use Rattle.exercise_conflict.specs.Repair.{Every, slotted, kept, made, is_first, is_after, slots_below, repaired, is_too_long, lacks_able, shown_by}
+use Rattle.exercise_conflict.specs.declared.lacks.MissingSend.{MissingSend}
+use Rattle.exercise_conflict.specs.Further.{bytes_at, is_this_missing_send, is_missing_send, HasMissingSends}
+use Rattle.exercise_conflict.specs.Lacks.{missing_sends}
+use Rattle.exercise_conflict.specs.Repair.{Every, slot_entry, kept, made, is_first, is_after, slots_below, repaired, is_too_long, is_able_missing, slots_recording}
 use Rattle.exercise_conflict.specs.Wider.{AddsTo, sends_no_able}
 use Rattle.exercise_conflict.proofs.Additions.{taken_same, impossible_same, state_same}
 use Rattle.exercise_conflict.proofs.Compatible.{was_allowed}
@@ -70,27 +70,27 @@ sent_by b (v ∷ h) e =
 
 -- ---- a missing send among those of its place
 
-abbrev StandsAmong : PlainRecording → (Lack → Bool) → List Lack → Lack → Type 0
-StandsAmong r t xs x = t x ≡ true → IsIn (event_of (slotted r (made x))) (shown_log r x.missing.sender (map made (filter t xs)))
+abbrev StandsAmong : PlainRecording → (MissingSend → Bool) → List MissingSend → MissingSend → Type 0
+StandsAmong r t xs x = t x ≡ true → IsIn (event_of (slot_entry r (made x))) (shown_log r x.missing.sender (map made (filter t xs)))
 
-among_more : (r : PlainRecording) (t : Lack → Bool) (x : Lack) (xs ys : List Lack) → Every (StandsAmong r t xs) ys → Every (StandsAmong r t (x ∷ xs)) ys
+among_more : (r : PlainRecording) (t : MissingSend → Bool) (x : MissingSend) (xs ys : List MissingSend) → Every (StandsAmong r t xs) ys → Every (StandsAmong r t (x ∷ xs)) ys
 among_more r t x xs [] all = tt
 among_more r t x xs (y ∷ ys) all = (
   λ on.
       let found = all.0 on in
-      elim (t x) as (λ b. IsIn (event_of (slotted r (made y))) (shown_log r y.missing.sender (map made (cond b (x ∷ filter t xs) (filter t xs))))) [
-        | true ↦ subst (IsIn (event_of (slotted r (made y)))) (sym (shown_log-cons r y.missing.sender (made x) (map made (filter t xs))))
-            (in_front (event_of (slotted r (made y))) (shown_log r y.missing.sender (map made (filter t xs))) (shown_log r y.missing.sender (made x ∷ [])) found)
+      elim (t x) as (λ b. IsIn (event_of (slot_entry r (made y))) (shown_log r y.missing.sender (map made (cond b (x ∷ filter t xs) (filter t xs))))) [
+        | true ↦ subst (IsIn (event_of (slot_entry r (made y)))) (sym (shown_log-cons r y.missing.sender (made x) (map made (filter t xs))))
+            (in_front (event_of (slot_entry r (made y))) (shown_log r y.missing.sender (map made (filter t xs))) (shown_log r y.missing.sender (made x ∷ [])) found)
         | false ↦ found
       ],
   among_more r t x xs ys all.1,
 )
 
-made_among : (r : PlainRecording) (t : Lack → Bool) (xs : List Lack) → Every (StandsAmong r t xs) xs
+made_among : (r : PlainRecording) (t : MissingSend → Bool) (xs : List MissingSend) → Every (StandsAmong r t xs) xs
 made_among r t [] = tt
 made_among r t (x ∷ xs) = (
   λ on.
-      let v : Event = event_of (slotted r (made x)) in
+      let v : Event = event_of (slot_entry r (made x)) in
       let s : ℕ = x.missing.sender in
       let one : shown_log r s (made x ∷ []) ≡ v ∷ [] = shown_log-one r s (made x) ∙ ap (λ b. cond b (v ∷ []) []) (eq-eqb s s refl) in
       subst (λ b. IsIn v (shown_log r s (map made (cond b (x ∷ filter t xs) (filter t xs))))) (sym on)
@@ -99,18 +99,18 @@ made_among r t (x ∷ xs) = (
   among_more r t x xs xs (made_among r t xs),
 )
 
-all_standing : (r : PlainRecording) (whole xs : List Lack) → Every (Lacked r) xs → Every (StandsAmong r is_first whole) xs
+all_standing : (r : PlainRecording) (whole xs : List MissingSend) → Every (Lacked r) xs → Every (StandsAmong r is_first whole) xs
     → ((j : ℕ) → Every (StandsAmong r (is_after j) whole) xs)
     → Every (λ lack. Lacked r lack × StandsAmong r is_first whole lack × ((j : ℕ) → StandsAmong r (is_after j) whole lack)) xs
 all_standing r whole [] is first after = tt
 all_standing r whole (x ∷ xs) is first after =
     ((is.0, first.0, λ j. (after j).0), all_standing r whole xs is.1 first.1 (λ j. (after j).1))
 
-abbrev Stands : PlainRecording → Lack → Type 0
-Stands r lack = Lacked r lack × StandsAmong r is_first (lacks_of r) lack × ((j : ℕ) → StandsAmong r (is_after j) (lacks_of r) lack)
+abbrev Stands : PlainRecording → MissingSend → Type 0
+Stands r lack = Lacked r lack × StandsAmong r is_first (missing_sends r) lack × ((j : ℕ) → StandsAmong r (is_after j) (missing_sends r) lack)
 
-standing : (r : PlainRecording) → lacks_able r ≡ false → Every (Stands r) (lacks_of r)
-standing r off = all_standing r (lacks_of r) (lacks_of r) (lacked r off) (made_among r is_first (lacks_of r)) (λ j. made_among r (is_after j) (lacks_of r))
+standing : (r : PlainRecording) → is_able_missing r ≡ false → Every (Stands r) (missing_sends r)
+standing r off = all_standing r (missing_sends r) (missing_sends r) (lacked r off) (made_among r is_first (missing_sends r)) (λ j. made_among r (is_after j) (missing_sends r))
 
 -- ---- what was sent before in the run was sent at the end
 
@@ -133,20 +133,20 @@ sent_old r wide h end t b part given begins follow found =
     (in_added (sends_no_able r.setting.exercise) (Send t b) (log_before r t (suc entry.0)) (upto r t (suc entry.0)) gone.adds there))
 
 -- or as a missing send
-sent_first : (r wide : PlainRecording) (h end : History) (lack : Lack) (part : History) → Given r wide h end → Stands r lack
+sent_first : (r wide : PlainRecording) (h end : History) (lack : MissingSend) (part : History) → Given r wide h end → Stands r lack
     → AllFollow r wide end lack.missing.sender part → is_first lack ≡ true → was_sent (bytes_at r lack.entry) end ≡ true
 sent_first r wide h end lack part given is follow first =
     let t : ℕ = lack.missing.sender in
     let gone = reach r wide h end t part given follow 0 (omega arith) (subst (λ l. IsBeginning l part) (sym (log_before-none r t)) (part, append-nil part)) in
     sent_end (bytes_at r lack.entry) t end (in_whole (Send t (bytes_at r lack.entry)) (upto r t 0) (log_at t end) gone.begins
-    (subst (λ v. IsIn v (upto r t 0)) (made_is r lack) (subst (IsIn (event_of (slotted r (made lack)))) (sym (upto_none r t)) (is.1 first))))
+    (subst (λ v. IsIn v (upto r t 0)) (made_is r lack) (subst (IsIn (event_of (slot_entry r (made lack)))) (sym (upto_none r t)) (is.1 first))))
 
 asks_first : (a : Bool) (o : Option ℕ) (k : ℕ) → (if a then o else None) ≡ Some k → (a ≡ true) × (o ≡ Some k)
 asks_first true o k e = (refl, e)
 asks_first false o k e = absurd (cc)
 
-sent_after : (r wide : PlainRecording) (h end g : History) (lack : Lack) (k : ℕ) → (given : Given r wide h end) → Stands r lack
-    → (part : Part (sends_missing r) (log_of r lack.missing.sender) (log_at lack.missing.sender g))
+sent_after : (r wide : PlainRecording) (h end g : History) (lack : MissingSend) (k : ℕ) → (given : Given r wide h end) → Stands r lack
+    → (part : Part (is_missing_send r) (log_of r lack.missing.sender) (log_at lack.missing.sender g))
     → AllFollow r wide end lack.missing.sender part.part → IsBeginning (log_at lack.missing.sender g) (log_of wide lack.missing.sender)
     → IsIn (Send lack.missing.sender (bytes_at r lack.entry)) (log_at lack.missing.sender g)
     → lack.missing.after ≡ Some k → was_sent (bytes_at r lack.entry) end ≡ true
@@ -160,10 +160,10 @@ sent_after r wide h end g lack k given is part follow begins found after =
     let asks = asks_first (is_answer_body p.body) (entry_taken_up r t p (length r.entries)) k (sym of.lacking.place ∙ after) in
     let within : IsBeginning (Send t b ∷ found.0) (log_of wide t) = begins_on (Send t b ∷ found.0) (log_at t g) (log_of wide t) found.1 begins in
     let was = was_allowed r wide h t b p found.0 given.further.setting given.explains meant within in
-    let before = part_before (sends_missing r) (found.1.0 ++ Send t b ∷ []) found.0 part.part
-    (subst (AddsTo (sends_missing r) part.part) (sym (append_assoc found.1.0 (Send t b ∷ []) found.0 ∙ found.1.1)) part.adds) in
+    let before = part_before (is_missing_send r) (found.1.0 ++ Send t b ∷ []) found.0 part.part
+    (subst (AddsTo (is_missing_send r) part.part) (sym (append_assoc found.1.0 (Send t b ∷ []) found.0 ∙ found.1.1)) part.adds) in
     let adds : AddsTo (sends_no_able x) before.part found.0 =
-    adds_weaker (sends_missing r) (sends_no_able x) (missing_no_able r given.no_able) before.part found.0 before.adds in
+    adds_weaker (is_missing_send r) (sends_no_able x) (missing_no_able r given.no_able) before.part found.0 before.adds in
     let up = took r t p found.0 before.part (begins_on before.part part.part (log_of r t) before.begins part.begins) adds was asks.0 in
     let less : up.entry < length r.entries = omega (arith, up.below, up.within) in
     let same : up.entry ≡ k = same_Some up.entry k (sym (taken_from r t p up.place up.entry (length r.entries) up.taken less) ∙ asks.1) in
@@ -175,13 +175,13 @@ sent_after r wide h end g lack k given is part follow begins found after =
     (own_within r t up.entry up.place up.event up.own up.below))) before.begins in
     let gone = reach r wide h end t part.part given follow (suc k) (omega (arith, same, less)) (subst (λ m. IsBeginning (log_before r t (suc m)) part.part) same event) in
     let on : is_after k lack ≡ true = ap (λ (o : Option ℕ). option_map_or (λ m. nat_eq m k) o false) after ∙ eq-eqb k k refl in
-    let sends : History = shown_log r t (map made (filter (is_after k) (lacks_of r))) in
+    let sends : History = shown_log r t (map made (filter (is_after k) (missing_sends r))) in
     sent_end b t end (in_whole (Send t b) (upto r t (suc k)) (log_at t end) gone.begins
     (subst (IsIn (Send t b)) (sym (upto_more r t k))
     (in_front (Send t b) sends (shown_log r t (kept k ∷ []) ++ upto r t k) (subst (λ v. IsIn v sends) (made_is r lack) (is.2 k on)))))
 
-sent_new : (r wide : PlainRecording) (h end g : History) (lack : Lack) → (given : Given r wide h end) → Stands r lack
-    → (part : Part (sends_missing r) (log_of r lack.missing.sender) (log_at lack.missing.sender g))
+sent_new : (r wide : PlainRecording) (h end g : History) (lack : MissingSend) → (given : Given r wide h end) → Stands r lack
+    → (part : Part (is_missing_send r) (log_of r lack.missing.sender) (log_at lack.missing.sender g))
     → AllFollow r wide end lack.missing.sender part.part → IsBeginning (log_at lack.missing.sender g) (log_of wide lack.missing.sender)
     → IsIn (Send lack.missing.sender (bytes_at r lack.entry)) (log_at lack.missing.sender g)
     → was_sent (bytes_at r lack.entry) end ≡ true
@@ -202,7 +202,7 @@ bytes_sent (Get s b) = []
 bytes_sent (Tell s e y) = []
 
 sent_on : (r wide : PlainRecording) (h end g : History) → (given : Given r wide h end) → ((s : ℕ) → IsBeginning (log_at s g) (log_of wide s))
-    → (parts : (s : ℕ) → Part (sends_missing r) (log_of r s) (log_at s g)) → ((s : ℕ) → AllFollow r wide end s (parts s).part)
+    → (parts : (s : ℕ) → Part (is_missing_send r) (log_of r s) (log_at s g)) → ((s : ℕ) → AllFollow r wide end s (parts s).part)
     → (b : List ℕ) → was_sent b g ≡ true → was_sent b end ≡ true
 unfolding station_sent bytes_sent
 sent_on r wide h end g given begins parts follow b sent =
@@ -210,8 +210,8 @@ sent_on r wide h end g given begins parts follow b sent =
     let t : ℕ = by.0 in
     ⊎_elim
     (λ (old : IsIn (Send t b) (parts t).part). sent_old r wide h end t b (parts t).part given (parts t).begins (follow t) old)
-    (λ (new : sends_missing r (Send t b) ≡ true).
-    let found = some_lack r (Stands r) (lacks_of r) (Send t b) (standing r given.no_able) new in
+    (λ (new : is_missing_send r (Send t b) ≡ true).
+    let found = some_lack r (Stands r) (missing_sends r) (Send t b) (standing r given.no_able) new in
     let s : ℕ = found.0.missing.sender in
     let c : List ℕ = bytes_at r found.0.entry in
     let is : Send t b ≡ Send s c = is_send s c (Send t b) found.2 in
@@ -220,7 +220,7 @@ sent_on r wide h end g given begins parts follow b sent =
     let there : IsIn (Send s c) (log_at s g) =
     subst (λ d. IsIn (Send s d) (log_at s g)) bytes (subst (λ u. IsIn (Send u b) (log_at u g)) station by.1) in
     ap (λ d. was_sent d end) bytes ∙ sent_new r wide h end g found.0 given found.1 (parts s) (follow s) (begins s) there)
-    (old_or_new (sends_missing r) (Send t b) (parts t).part (log_at t g) (parts t).adds by.1)
+    (old_or_new (is_missing_send r) (Send t b) (parts t).part (log_at t g) (parts t).adds by.1)
 
 -- ---- an event of the run may follow
 
@@ -237,7 +237,7 @@ get_on w h k b p on none = rows (may_be_heard w p) (is_recorded w p) (was_sent b
 
 -- what follows in the run after g may follow at the end
 may_follow : (r wide : PlainRecording) (h end g : History) (s i : ℕ) (v : Event) → (given : Given r wide h end) → station_of v ≡ s
-    → IsAllowed r.setting g v → Contains (log_of wide s) (log_at s g) v → AddsTo (sends_missing r) (log_before r s i) (log_at s g)
+    → IsAllowed r.setting g v → Contains (log_of wide s) (log_at s g) v → AddsTo (is_missing_send r) (log_before r s i) (log_at s g)
     → ((b : List ℕ) → was_sent b g ≡ true → was_sent b end ≡ true) → MayFollow r wide end s i v
 unfolding cause_of
 may_follow r wide h end g s i (Send t b) given own allowed within adds on gone same =
@@ -247,7 +247,7 @@ may_follow r wide h end g s i (Send t b) given own allowed within adds on gone s
       | None ↦ λ _. refl
       | Some p ↦ λ meant.
           let weak : AddsTo (sends_no_able x) (log_before r s i) (log_at s g) =
-          adds_weaker (sends_missing r) (sends_no_able x) (missing_no_able r given.no_able) (log_before r s i) (log_at s g) adds in
+          adds_weaker (is_missing_send r) (sends_no_able x) (missing_no_able r given.no_able) (log_before r s i) (log_at s g) adds in
           let within_s : Contains (log_of wide s) (log_at s g) (Send s b) = subst (λ u. Contains (log_of wide s) (log_at s g) (Send u b)) own within in
           let none : send_cause x (station_at r s) k p ≡ None =
           may_send r wide h s b p (log_at s g) k given.further.setting given.explains meant within_s gone.members
@@ -263,7 +263,7 @@ may_follow r wide h end g s i (Get t b) given own allowed within adds on gone sa
 may_follow r wide h end g s i (Tell t e y) given own allowed within adds on gone same =
     let x : ℕ = r.setting.exercise in
     let weak : AddsTo (sends_no_able x) (log_before r s i) (log_at s g) =
-    adds_weaker (sends_missing r) (sends_no_able x) (missing_no_able r given.no_able) (log_before r s i) (log_at s g) adds in
+    adds_weaker (is_missing_send r) (sends_no_able x) (missing_no_able r given.no_able) (log_before r s i) (log_at s g) adds in
     let states : state_after x (station_at r s) (log_at s end) e ≡ state_after x (station_at r s) (log_at s g) e =
     ap (λ l. state_after x (station_at r s) l e) same ∙ sym (state_same x (station_at r s) e (log_before r s i) (upto r s i) gone.adds)
     ∙ state_same x (station_at r s) e (log_before r s i) (log_at s g) weak in
@@ -274,18 +274,18 @@ may_follow r wide h end g s i (Tell t e y) given own allowed within adds on gone
 
 -- the part of a log before one event more
 record Back (r : PlainRecording) (s : ℕ) (v : Event) (g part : History) : Type 0 where
-  pub before : Part (sends_missing r) (log_of r s) (log_at s g)
+  pub before : Part (is_missing_send r) (log_of r s) (log_at s g)
   pub step : (part ≡ before.part) ⊎ ((station_of v ≡ s) × (part ≡ v ∷ before.part))
 
-back : (r : PlainRecording) (s : ℕ) (v : Event) (g : History) → (part : Part (sends_missing r) (log_of r s) (log_at s (v ∷ g))) → Back r s v g part.part
+back : (r : PlainRecording) (s : ℕ) (v : Event) (g : History) → (part : Part (is_missing_send r) (log_of r s) (log_at s (v ∷ g))) → Back r s v g part.part
 unfolding log_at
 back r s v g part =
-    elim (nat_eq (station_of v) s) as (λ b. nat_eq (station_of v) s ≡ b → AddsTo (sends_missing r) part.part (cond b (v ∷ log_at s g) (log_at s g)) → Back r s v g part.part) [
+    elim (nat_eq (station_of v) s) as (λ b. nat_eq (station_of v) s ≡ b → AddsTo (is_missing_send r) part.part (cond b (v ∷ log_at s g) (log_at s g)) → Back r s v g part.part) [
       | false ↦ λ _ adds. record { before = record { part = part.part; begins = part.begins; adds = adds }; step = inl refl }
       | true ↦ λ own adds. ⊎_elim
-          (λ (new : (sends_missing r v ≡ true) × AddsTo (sends_missing r) part.part (log_at s g)).
+          (λ (new : (is_missing_send r v ≡ true) × AddsTo (is_missing_send r) part.part (log_at s g)).
           record { before = record { part = part.part; begins = part.begins; adds = new.1 }; step = inl refl })
-          (λ (old : (l : History) × (part.part ≡ v ∷ l) × AddsTo (sends_missing r) l (log_at s g)).
+          (λ (old : (l : History) × (part.part ≡ v ∷ l) × AddsTo (is_missing_send r) l (log_at s g)).
           record {
             before = record {
               part = old.0;
@@ -306,7 +306,7 @@ no_event v (x ∷ later) l e = absurd (cc)
 
 -- EACH ENTRY THAT THE RUN CAME TO MAY FOLLOW
 all_follow : (r wide : PlainRecording) (h end : History) → (given : Given r wide h end) → (g : History) → IsRun r.setting g → IsBeginning g h
-    → (parts : (s : ℕ) → Part (sends_missing r) (log_of r s) (log_at s g)) → (s : ℕ) → AllFollow r wide end s (parts s).part
+    → (parts : (s : ℕ) → Part (is_missing_send r) (log_of r s) (log_at s g)) → (s : ℕ) → AllFollow r wide end s (parts s).part
 unfolding log_at
 all_follow r wide h end given [] run begins parts s i u within own begun = absurd (no_event u begun.0 (log_before r s i) (begun.1 ∙ (parts s).adds))
 all_follow r wide h end given (v ∷ g) run begins parts s i u within own begun =
@@ -326,7 +326,7 @@ all_follow r wide h end given (v ∷ g) run begins parts s i u within own begun 
     of_later : (r wide : PlainRecording) (h end : History) → (given : Given r wide h end) → (v : Event) (g : History) (s i : ℕ) (u : Event) → i < length r.entries
         → own_event r s i ≡ Some u → IsAllowed r.setting g v → station_of v ≡ s → IsBeginning (v ∷ g) h
         → ((b : List ℕ) → was_sent b g ≡ true → was_sent b end ≡ true)
-        → (before : Part (sends_missing r) (log_of r s) (log_at s g)) → AllFollow r wide end s before.part
+        → (before : Part (is_missing_send r) (log_of r s) (log_at s g)) → AllFollow r wide end s before.part
         → (later : History) → later ++ u ∷ log_before r s i ≡ v ∷ before.part → MayFollow r wide end s i u
     of_later r wide h end given v g s i u within own allowed station begins on before rest [] e =
         let event : u ≡ v = ap (λ xs. get_or xs 0 u) e in
@@ -335,7 +335,7 @@ all_follow r wide h end given (v ∷ g) run begins parts s i u within own begun 
         subst (λ l. IsBeginning (v ∷ log_at s g) l) (given.explains.logs s)
         (subst (λ l. IsBeginning l (log_at s h)) (subst (λ t. log_at t (v ∷ g) ≡ v ∷ log_at t g) station (own_first v g)) (log_begins (v ∷ g) h s begins)) in
         subst (MayFollow r wide end s i) (sym event)
-        (may_follow r wide h end g s i v given station allowed within_log (subst (λ l. AddsTo (sends_missing r) l (log_at s g)) (sym log) before.adds) on)
+        (may_follow r wide h end g s i v given station allowed within_log (subst (λ l. AddsTo (is_missing_send r) l (log_at s g)) (sym log) before.adds) on)
     of_later r wide h end given v g s i u within own allowed station begins on before rest (x ∷ later) e =
         rest i u within own (later, ap (drop 1) e)
 
@@ -344,11 +344,11 @@ all_follow r wide h end given (v ∷ g) run begins parts s i u within own begun 
 pub ends_explain : (r wide : PlainRecording) (h end : History) → Given r wide h end → Explains (repaired r) end
 ends_explain r wide h end given =
     let run : IsRun r.setting h = subst (λ w. IsRun w h) given.further.setting given.explains.run in
-    let parts : (s : ℕ) → Part (sends_missing r) (log_of r s) (log_at s h) =
+    let parts : (s : ℕ) → Part (is_missing_send r) (log_of r s) (log_at s h) =
     λ s. record {
       part = log_of r s;
       begins = begins_itself (log_of r s);
-      adds = subst (AddsTo (sends_missing r) (log_of r s)) (sym (given.explains.logs s)) (given.further.logs s);
+      adds = subst (AddsTo (is_missing_send r) (log_of r s)) (sym (given.explains.logs s)) (given.further.logs s);
     } in
     record {
       run = given.stuck.covers.run;
@@ -365,15 +365,15 @@ ends_explain r wide h end given =
 pub repaired_limits : (r : PlainRecording) → IsRecording r → is_too_long r ≡ false → IsRecording (repaired r)
 unfolding repaired is_too_long
 repaired_limits r limits fits =
-    let slots = slots_below (lacks_of r) (length r.entries) in
-    (are_slots r slots limits (all_slots r (lacks_of r) (length r.entries) (omega arith) (all_lacks r (length r.entries)))
-    (omega (arith, length-map slots (slotted r), not_less MOST_ENTRIES (length slots) fits))).limits
+    let slots = slots_below (missing_sends r) (length r.entries) in
+    (are_slots r slots limits (all_slots r (missing_sends r) (length r.entries) (omega arith) (all_lacks r (length r.entries)))
+    (omega (arith, length-map slots (slot_entry r), not_less MOST_ENTRIES (length slots) fits))).limits
   where
     not_less : (a b : ℕ) → nat_lt a b ≡ false → b ≤ a
     not_less a b e = grind (arith, nat_tests)
 
 -- NOWHERE ELSE: where the repaired recording is not explained and none of its sends is an Able, no recording with missing sends is
-pub nowhere_explained : (r wide : PlainRecording) (h : History) → IsRecording r → IsRecording wide → is_too_long r ≡ false → lacks_able r ≡ false
+pub nowhere_explained : (r wide : PlainRecording) (h : History) → IsRecording r → IsRecording wide → is_too_long r ≡ false → is_able_missing r ≡ false
     → ((k : History) → Explains (repaired r) k → ⊥) → HasMissingSends r wide → Explains wide h → ⊥
 nowhere_explained r wide h limits good fits no_able unexplained further explains =
     let end = some_end (repaired r) (repaired_limits r limits fits) in

@@ -32,14 +32,14 @@ use Rattle.exercise_findings.specs.Tables.{event_own_cause, own_cause}
 use Rattle.exercise_findings.specs.Source.{first_send, source_of_pdu, source_of}
 use Rattle.exercise_findings.proofs.Offered.{source_here}
 use Rattle.exercise_findings.specs.State.{state_before}
-use Rattle.exercise_conflict.specs.declared.field.Field.{Field}
-use Rattle.exercise_conflict.specs.declared.field.Field.TheVariants as fields
+use Rattle.exercise_conflict.specs.declared.field.PduField.{PduField}
+use Rattle.exercise_conflict.specs.declared.field.PduField.TheVariants as fields
 use Rattle.exercise_conflict.specs.declared.clash.Clash.TheVariants as clashes
 use Rattle.exercise_conflict.specs.Difference.{unless_same, same_request, or_else, time_difference, number_difference, fixed_datums_of, fixed_ids_of, same_datums_if, same_ids_if, inner_difference, order_difference}
-use Rattle.exercise_conflict.specs.Clash.{meant_by_get, got_pdu, reused_at, unfit_of, wrong_at, all_entities, state_told, hopeless_for, hopeless_by, impossible_at, clash_sent, near_of, differs_at, clash_got, clash_by, clash_of_entry, clash_of}
+use Rattle.exercise_conflict.specs.Clash.{meant_by_get, got_pdu, reused_clash, answer_mismatch, wrong_answer_clash, all_entities, state_found, hopeless_scope_clash, hopeless_clash, impossible_clash, send_clash, near_of, differs_at, receipt_clash, clash_by, clash_of_entry, clash_of}
 use Rattle.exercise_conflict.specs.Conflict.{IsMadeBy, ClashesByOrder, ClashesByAnswer, ClashesByOpposite, ClashesByChange, ClashesByState, ClashesBySend}
 use Rattle.exercise_conflict.specs.Earlier.{sent_pdu, sends_other_at, earlier_sent, earlier_by, earlier_of_entry, earlier_of}
-use Rattle.exercise_conflict.specs.Since.{made_since}
+use Rattle.exercise_conflict.specs.Since.{last_change_entry}
 use Rattle.exercise_conflict.proofs.Rows.{chain}
 use Rattle.exercise_conflict.proofs.Stands.{accused}
 use Rattle.exercise_conflict.proofs.Lacking.{unsent_there}
@@ -48,26 +48,26 @@ use Rattle.exercise_conflict.proofs.Contradicting.{both, off, SentFor, sent_for,
 
 -- ---- two orders that are not the same differ in something
 
-some_unless : (b : Bool) (f : Field) (o : Option Field) → is_some o ≡ true → is_some (unless_same b f o) ≡ true
+some_unless : (b : Bool) (f : PduField) (o : Option PduField) → is_some o ≡ true → is_some (unless_same b f o) ≡ true
 some_unless true f o e = e
 some_unless false f o e = refl
 
-some_else : (o q : Option Field) → is_some q ≡ true → is_some (or_else o q) ≡ true
+some_else : (o q : Option PduField) → is_some q ≡ true → is_some (or_else o q) ≡ true
 some_else None q e = e
 some_else (Some f) q e = refl
 
 somewhere : (p q : Pdu) → is_same_order p q ≡ false → is_some (order_difference p q) ≡ true
 unfolding order_difference inner_difference
 somewhere p q apart =
-    let variable : Option Field = unless_same (is_same_order p q) fields.Variable None in
-    let ids : Option Field = unless_same (same_ids_if (fixed_ids_of p.body) (fixed_ids_of q.body)) fields.Fixed variable in
-    let datums : Option Field = unless_same (same_datums_if (fixed_datums_of p.body) (fixed_datums_of q.body)) fields.Fixed ids in
-    let numbers : Option Field = or_else (number_difference p.body q.body) datums in
-    let times : Option Field = or_else (time_difference p.body q.body) numbers in
-    let body : Option Field = unless_same (same_request (request_id_of p.body) (request_id_of q.body)) fields.Request times in
-    let to : Option Field = unless_same (same_entity p.target q.target) fields.To body in
-    let from : Option Field = unless_same (same_entity p.origin q.origin) fields.From to in
-    let kind : Option Field = unless_same (nat_eq (kind_code (body_kind p.body)) (kind_code (body_kind q.body))) fields.Kind from in
+    let variable : Option PduField = unless_same (is_same_order p q) fields.Variable None in
+    let ids : Option PduField = unless_same (same_ids_if (fixed_ids_of p.body) (fixed_ids_of q.body)) fields.Fixed variable in
+    let datums : Option PduField = unless_same (same_datums_if (fixed_datums_of p.body) (fixed_datums_of q.body)) fields.Fixed ids in
+    let numbers : Option PduField = or_else (number_difference p.body q.body) datums in
+    let times : Option PduField = or_else (time_difference p.body q.body) numbers in
+    let body : Option PduField = unless_same (same_request (request_id_of p.body) (request_id_of q.body)) fields.Request times in
+    let to : Option PduField = unless_same (same_entity p.target q.target) fields.To body in
+    let from : Option PduField = unless_same (same_entity p.origin q.origin) fields.From to in
+    let kind : Option PduField = unless_same (nat_eq (kind_code (body_kind p.body)) (kind_code (body_kind q.body))) fields.Kind from in
     some_unless (same_version p.version q.version) fields.Version kind
     (some_unless (nat_eq (kind_code (body_kind p.body)) (kind_code (body_kind q.body))) fields.Kind from
     (some_unless (same_entity p.origin q.origin) fields.From to
@@ -81,12 +81,12 @@ somewhere p q apart =
 
 -- ---- the clash of what is sent
 
-pub sent_clash : (r : PlainRecording) (j : ℕ) (cause : Cause) (for : SentFor r j cause) → clash_of r j ≡ clash_sent r j for.station cause for.pdu
+pub sent_clash : (r : PlainRecording) (j : ℕ) (cause : Cause) (for : SentFor r j cause) → clash_of r j ≡ send_clash r j for.station cause for.pdu
 unfolding clash_of
 sent_clash r j cause for =
     ap (option_and_then (clash_of_entry r j)) for.sent.sent
     ∙ ap (option_and_then (clash_by r j (Sent for.station for.sent.stamp for.sent.bytes))) for.own
-    ∙ ap (option_and_then (clash_sent r j for.station cause)) for.sent.meant
+    ∙ ap (option_and_then (send_clash r j for.station cause)) for.sent.meant
 
 sent_earlier : (r : PlainRecording) (j : ℕ) (cause : Cause) (for : SentFor r j cause) → earlier_of r j ≡ earlier_sent r j for.station cause for.pdu
 unfolding earlier_of
@@ -129,7 +129,7 @@ clashes_by_order r j own =
       earlier = k;
       field = field.0;
       told = sent_clash r j ReusedIdentifier for
-          ∙ ap (option_and_then (reused_at r s p)) at
+          ∙ ap (option_and_then (reused_clash r s p)) at
           ∙ ap (λ o. option_map (clashes.ReusedIdentifier k) (option_and_then (order_difference p) o)) other.1
           ∙ ap (option_map (clashes.ReusedIdentifier k)) field.1;
       conflict = found.2;
@@ -186,10 +186,10 @@ clashes_by_answer r j own =
     let got : got_pdu r s found.0 ≡ Some up.request = ap (got_pdu r s) (sym same) ∙ taken_got r s j p up in
     record {
       earlier = found.0;
-      why = unfit_of p up.request;
+      why = answer_mismatch p up.request;
       told = sent_clash r j WrongAnswer for
-          ∙ ap (option_and_then (wrong_at r s p)) (sym (sent_earlier r j WrongAnswer for) ∙ found.1)
-          ∙ ap (option_map (λ q. clashes.WrongAnswer found.0 (unfit_of p q))) got;
+          ∙ ap (option_and_then (wrong_answer_clash r s p)) (sym (sent_earlier r j WrongAnswer for) ∙ found.1)
+          ∙ ap (option_map (λ q. clashes.WrongAnswer found.0 (answer_mismatch p q))) got;
       conflict = found.2;
     }
 
@@ -206,9 +206,9 @@ clashes_by_opposite r j own =
 
 -- ---- states
 
-made_by : (r : PlainRecording) (s n j : ℕ) → IsMadeBy r s n j (made_since r s n j)
+made_by : (r : PlainRecording) (s n j : ℕ) → IsMadeBy r s n j (last_change_entry r s n j)
 made_by r s n j =
-    elim (made_since r s n j) as (λ o. made_since r s n j ≡ o → IsMadeBy r s n j o) [
+    elim (last_change_entry r s n j) as (λ o. last_change_entry r s n j ≡ o → IsMadeBy r s n j o) [
       | Some k ↦ λ is. since_made r s n j k is
       | None ↦ λ none. since_start r s n j none
     ] refl
@@ -233,25 +233,25 @@ clashes_by_change r j own =
     turned_answer (is_answer_to p up.request) (ap (λ o. not (option_map_or (is_answer_to p) o false)) (sym up.is)
     ∙ off (is_answer_body p.body) (not (option_map_or (is_answer_to p) taken false)) answer row.1) in
     let change : carried_out p up.request ≡ Some (change_of p up.request) = ap (λ b. if b then Some (change_of p up.request) else None) answers in
-    let told : clash_of r j ≡ Some (hopeless_for r s j up.entry (change_of p up.request).scope) =
+    let told : clash_of r j ≡ Some (hopeless_scope_clash r s j up.entry (change_of p up.request).scope) =
     sent_clash r j Impossible for
-    ∙ ap (option_and_then (impossible_at r s j p)) (pair_here r s j p up answer)
-    ∙ ap (option_and_then (hopeless_by r s j p up.entry)) (taken_got r s j p up)
-    ∙ ap (option_map (λ (c : Change). hopeless_for r s j up.entry c.scope)) change in
+    ∙ ap (option_and_then (impossible_clash r s j p)) (pair_here r s j p up answer)
+    ∙ ap (option_and_then (hopeless_clash r s j p up.entry)) (taken_got r s j p up)
+    ∙ ap (option_map (λ (c : Change). hopeless_scope_clash r s j up.entry c.scope)) change in
     of_scope s up.entry (change_of p up.request).scope told
   where
-    of_scope : (s k : ℕ) (scope : Scope) → clash_of r j ≡ Some (hopeless_for r s j k scope) → ClashesByChange r j
+    of_scope : (s k : ℕ) (scope : Scope) → clash_of r j ≡ Some (hopeless_scope_clash r s j k scope) → ClashesByChange r j
     of_scope s k (One n) told = record {
       earlier = k;
       station = s;
       entity = n;
-      state = state_told r s n j;
-      change = made_since r s n j;
+      state = state_found r s n j;
+      change = last_change_entry r s n j;
       told = told;
       has = λ y is. (state_is s n y is, made_by r s n j);
     }
       where
-        state_is : (s n : ℕ) (y : EntityState) → state_told r s n j ≡ Some y → state_before r s n j ≡ y
+        state_is : (s n : ℕ) (y : EntityState) → state_found r s n j ≡ Some y → state_before r s n j ≡ y
         state_is s n y is =
             elim (is_entity n) as (λ b. (if b then Some (state_before r s n j) else None) ≡ Some y → state_before r s n j ≡ y) [
               | true ↦ λ e. same_Some _ _ e
@@ -317,7 +317,7 @@ told_state r j s n y at own is =
         said = y;
         tells = at;
         state = state_before r s n j;
-        change = made_since r s n j;
+        change = last_change_entry r s n j;
         told = ap (option_and_then (clash_of_entry r j)) at ∙ ap (option_and_then (clash_by r j (Told s n y))) own;
         has = refl;
         other = λ same. absurd (cc (sym apart ∙ same_state_where y (state_before r s n j) same));
@@ -357,7 +357,7 @@ got_unsent r j s stamp b p at meant own = record {
   sent = source_of r j;
   near = near_of r p;
   differs = option_and_then (differs_at r b p) (near_of r p);
-  told = ap (option_and_then (clash_of_entry r j)) at ∙ ap (option_and_then (clash_by r j (Received s stamp b))) own ∙ ap (option_and_then (clash_got r j b NeverSent)) meant;
+  told = ap (option_and_then (clash_of_entry r j)) at ∙ ap (option_and_then (clash_by r j (Received s stamp b))) own ∙ ap (option_and_then (receipt_clash r j b NeverSent)) meant;
   lacks = λ none t sender. unsent_there r b t
       (sym (ap (option_and_then (first_send r b)) sender) ∙ sym (ap (option_and_then (source_of_pdu r b)) meant)
       ∙ sym (source_here r j (Received s stamp b) at) ∙ none);

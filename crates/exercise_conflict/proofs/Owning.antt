@@ -15,9 +15,9 @@ use Rattle.exercise_model.proofs.Offered.{log_before-more}
 use Rattle.exercise_findings.specs.Column.{IsColumn}
 use Rattle.exercise_check.proofs.Offered.{replaced}
 use Rattle.exercise_findings.specs.State.{state_before}
-use Rattle.exercise_conflict.specs.declared.own.Own.{Own}
+use Rattle.exercise_conflict.specs.declared.own.StationChains.{StationChains}
 use Rattle.exercise_conflict.specs.Own.{LeavesOutNone, IsFollowerFrom, AreOwnFrom}
-use Rattle.exercise_conflict.specs.Since.{made_since}
+use Rattle.exercise_conflict.specs.Since.{last_change_entry}
 use Rattle.exercise_conflict.proofs.Entities.{since_still}
 use Rattle.exercise_conflict.proofs.Steps.{first_still}
 
@@ -48,7 +48,7 @@ one_back r s i m none leaves = record {
 }
 
 -- one entry back
-pub gone_back : (r : PlainRecording) (i : ℕ) (e : Entry) (s follower : ℕ) (old : Own) (followers first : List ℕ) → slice_get r.entries i ≡ Some e
+pub gone_back : (r : PlainRecording) (i : ℕ) (e : Entry) (s follower : ℕ) (old : StationChains) (followers first : List ℕ) → slice_get r.entries i ≡ Some e
     → s ≡ station_of (event_of e) → s < length r.setting.stations
     → follower ≡ slice_index_or old.first.items s 0 → length followers ≡ length old.followers.items
     → ((j : ℕ) → slice_index_or followers j 0 ≡ (if j == i then follower else slice_index_or old.followers.items j 0))
@@ -75,7 +75,7 @@ gone_back r i e s follower old followers first at here below is count_f each_f c
         (cases_lt i j)
 
 -- what follows an entry at its station
-pub follows : (r : PlainRecording) (own : Own) (s j : ℕ) (e : Entry) → AreOwnFrom r 0 own → j < length r.entries → slice_get r.entries j ≡ Some e
+pub follows : (r : PlainRecording) (own : StationChains) (s j : ℕ) (e : Entry) → AreOwnFrom r 0 own → j < length r.entries → slice_get r.entries j ≡ Some e
     → station_of (event_of e) ≡ s → LeavesOutNone r s (j + 1) (slice_index_or own.followers.items j 0)
 follows r own s j e from within at here =
     let there = from.followers.each j within (omega arith) in
@@ -116,11 +116,11 @@ quiet r s n (suc k) none =
     ∙ ap (λ o. option_map_or (λ v. v ∷ log_before r s (k + n)) o (log_before r s (k + n))) (none (k + n) (omega arith) (omega arith))
     ∙ quiet r s n k (λ i up down. none i up (omega (arith, down)))
 
-still : (r : PlainRecording) (s e n k : ℕ) → ((i : ℕ) → n ≤ i → i < k + n → own_event r s i ≡ None) → made_since r s e (k + n) ≡ made_since r s e n
-still r s e n zero none = let same : 0 + n ≡ n = omega arith in ap (made_since r s e) same
+still : (r : PlainRecording) (s e n k : ℕ) → ((i : ℕ) → n ≤ i → i < k + n → own_event r s i ≡ None) → last_change_entry r s e (k + n) ≡ last_change_entry r s e n
+still r s e n zero none = let same : 0 + n ≡ n = omega arith in ap (last_change_entry r s e) same
 still r s e n (suc k) none =
     let next : suc k + n ≡ suc (k + n) = omega arith in
-    ap (made_since r s e) next
+    ap (last_change_entry r s e) next
     ∙ since_still r s e (k + n) (one_state (k + n) (none (k + n) (omega arith) (omega arith)))
     ∙ still r s e n k (λ i up down. none i up (omega (arith, down)))
   where
@@ -136,7 +136,7 @@ state_skipped r s e n m leaves =
     ap (λ l. entity_state r.setting.exercise (station_at r s) l e)
     (sym (quiet r s n (m - n) (λ i up down. leaves.none i up (omega (arith, down, from)))) ∙ ap (log_before r s) from)
 
-pub since_skipped : (r : PlainRecording) (s e n m : ℕ) → LeavesOutNone r s n m → made_since r s e n ≡ made_since r s e m
+pub since_skipped : (r : PlainRecording) (s e n m : ℕ) → LeavesOutNone r s n m → last_change_entry r s e n ≡ last_change_entry r s e m
 since_skipped r s e n m leaves =
     let from : m - n + n ≡ m = omega (arith, leaves.on) in
-    sym (still r s e n (m - n) (λ i up down. leaves.none i up (omega (arith, down, from)))) ∙ ap (made_since r s e) from
+    sym (still r s e n (m - n) (λ i up down. leaves.none i up (omega (arith, down, from)))) ∙ ap (last_change_entry r s e) from

@@ -21,18 +21,18 @@ use Rattle.exercise_model.specs.Place.{own_event, log_before, first_below, bring
 use Rattle.exercise_model.specs.Run.{IsRun, Explains, Contains, IsBeginning, IsStuck}
 use Rattle.exercise_model.proofs.Offered.{beginning_length, first_found, get_where_sent, log_at-append, log_before-all, log_before-beginning, log_before-more, log_before-next, log_before-none, same_beginnings}
 use Rattle.exercise_findings.specs.Missing.{place_of}
-use Rattle.exercise_conflict.specs.declared.lacks.Lack.{Lack}
-use Rattle.exercise_conflict.specs.declared.repaired.Slot.{Slot}
-use Rattle.exercise_conflict.specs.Further.{bytes_at, sends_lack, sends_missing, HasMissingSends}
-use Rattle.exercise_conflict.specs.Lacks.{lacks_of}
+use Rattle.exercise_conflict.specs.declared.lacks.MissingSend.{MissingSend}
+use Rattle.exercise_conflict.specs.declared.repaired.RepairedEntry.{RepairedEntry}
+use Rattle.exercise_conflict.specs.Further.{bytes_at, is_this_missing_send, is_missing_send, HasMissingSends}
+use Rattle.exercise_conflict.specs.Lacks.{missing_sends}
 use Rattle.exercise_conflict.specs.Needed.{HasSend}
-use Rattle.exercise_conflict.specs.Repair.{Every, bytes_of, no_entry, slotted, kept, made, is_first, is_after, slots_below, repaired, is_able, is_able_at, lacks_able}
+use Rattle.exercise_conflict.specs.Repair.{Every, bytes_of, no_entry, slot_entry, kept, made, is_first, is_after, slots_below, repaired, is_able, is_able_at, is_able_missing}
 use Rattle.exercise_conflict.specs.Wider.{AddsTo, anything, sends_no_able, IsWider}
 use Rattle.exercise_conflict.proofs.Additions.{taken_same, impossible_same, state_same}
 use Rattle.exercise_conflict.proofs.Blocks.{own_entry}
 use Rattle.exercise_conflict.proofs.Compatible.{WasAllowed, was_allowed}
 use Rattle.exercise_conflict.proofs.Contradicting.{by_entry, brought, takes_up}
-use Rattle.exercise_conflict.proofs.Fewer.{bytes_got, bytes_there, is_send, some_lack}
+use Rattle.exercise_conflict.proofs.Fewer.{bytes_received, bytes_there, is_send, some_lack}
 use Rattle.exercise_conflict.proofs.Lacking.{needed}
 use Rattle.exercise_conflict.proofs.Members.{IsIn, Part, adds_weaker, begins_itself, begins_on, begins_tail, in_added, in_here, in_later, in_whole, old_or_new, part_before, shorter}
 use Rattle.exercise_conflict.proofs.Places.{in_log}
@@ -47,44 +47,44 @@ pub record Given (r wide : PlainRecording) (h end : History) : Type 0 where
   pub good : IsRecording wide
   pub further : HasMissingSends r wide
   pub explains : Explains wide h
-  pub no_able : lacks_able r ≡ false
+  pub no_able : is_able_missing r ≡ false
   pub stuck : IsStuck (repaired r) end
 
 -- what is known of each send that is missing
-pub record Lacked (r : PlainRecording) (lack : Lack) : Type 0 where
+pub record Lacked (r : PlainRecording) (lack : MissingSend) : Type 0 where
   pub of : IsLackOf r lack
   pub no_able : MadePasses r (sends_no_able r.setting.exercise) lack
 
-all_lacked : (r : PlainRecording) (xs : List Lack) → Every (IsLackOf r) xs → Every (MadePasses r (sends_no_able r.setting.exercise)) xs → Every (Lacked r) xs
+all_lacked : (r : PlainRecording) (xs : List MissingSend) → Every (IsLackOf r) xs → Every (MadePasses r (sends_no_able r.setting.exercise)) xs → Every (Lacked r) xs
 all_lacked r [] of able = tt
 all_lacked r (x ∷ xs) of able = (record { of = of.0; no_able = able.0 }, all_lacked r xs of.1 able.1)
 
-pub lacked : (r : PlainRecording) → lacks_able r ≡ false → Every (Lacked r) (lacks_of r)
-unfolding lacks_able
-lacked r off = all_lacked r (lacks_of r) (all_lacks r (length r.entries)) (none_able r (lacks_of r) (all_lacks r (length r.entries)) off)
+pub lacked : (r : PlainRecording) → is_able_missing r ≡ false → Every (Lacked r) (missing_sends r)
+unfolding is_able_missing
+lacked r off = all_lacked r (missing_sends r) (all_lacks r (length r.entries)) (none_able r (missing_sends r) (all_lacks r (length r.entries)) off)
 
 -- the event of a missing send
-pub made_is : (r : PlainRecording) (lack : Lack) → event_of (slotted r (made lack)) ≡ Send lack.missing.sender (bytes_at r lack.entry)
+pub made_is : (r : PlainRecording) (lack : MissingSend) → event_of (slot_entry r (made lack)) ≡ Send lack.missing.sender (bytes_at r lack.entry)
 unfolding bytes_at
 made_is r lack = refl
 
-pub missing_no_able : (r : PlainRecording) → lacks_able r ≡ false → (v : Event) → sends_missing r v ≡ true → sends_no_able r.setting.exercise v ≡ true
+pub missing_no_able : (r : PlainRecording) → is_able_missing r ≡ false → (v : Event) → is_missing_send r v ≡ true → sends_no_able r.setting.exercise v ≡ true
 missing_no_able r off v e =
-    let found = some_lack r (Lacked r) (lacks_of r) v (lacked r off) e in
+    let found = some_lack r (Lacked r) (missing_sends r) v (lacked r off) e in
     ap (sends_no_able r.setting.exercise) (is_send found.0.missing.sender (bytes_at r found.0.entry) v found.2 ∙ sym (made_is r found.0)) ∙ found.1.no_able
 
 wider : (r wide : PlainRecording) → HasMissingSends r wide → IsWider r wide
 wider r wide further = record {
   setting = further.setting;
-  logs = λ s. adds_weaker (sends_missing r) anything (λ v _. refl) (log_of r s) (log_of wide s) (further.logs s);
+  logs = λ s. adds_weaker (is_missing_send r) anything (λ v _. refl) (log_of r s) (log_of wide s) (further.logs s);
 }
 
 -- each of them stands in the log of its station
-made_in : (r wide : PlainRecording) (h end : History) → Given r wide h end → (lack : Lack) → IsLackOf r lack
+made_in : (r wide : PlainRecording) (h end : History) → Given r wide h end → (lack : MissingSend) → IsLackOf r lack
     → HasSend wide lack.missing.sender (bytes_at r lack.entry)
 made_in r wide h end given lack of =
     let need = needed r wide h lack.entry lack.missing given.good (wider r wide given.further) given.explains of.is in
-    subst (HasSend wide lack.missing.sender) (sym (bytes_got r lack.entry need.station need.stamp need.bytes need.got)) need.sent
+    subst (HasSend wide lack.missing.sender) (sym (bytes_received r lack.entry need.station need.stamp need.bytes need.got)) need.sent
 
 -- ---- growing
 
@@ -115,7 +115,7 @@ begins_back a k whole p = (p.0 ++ a, append_assoc p.0 a k ∙ p.1)
 -- ---- the place of a missing send
 
 -- it belongs at the start, or behind an entry below i
-abbrev pub IsPlaced : ℕ → Lack → Type 0
+abbrev pub IsPlaced : ℕ → MissingSend → Type 0
 IsPlaced i lack = (is_first lack ≡ true) ⊎ ((j : ℕ) × (is_after j lack ≡ true) × (j < i))
 
 -- a beginning of a log is what stands before some entry
@@ -186,13 +186,13 @@ took r s p log part begins adds was answer =
     record { place = at.0; within = at.1; is = at.2; entry = up.entry; taken = up.taken; below = up.earlier; event = up.event; own = up.own; request = same }
 
 -- where a missing answer belongs
-after_is : (r : PlainRecording) (lack : Lack) (of : IsLackOf r lack) (k : ℕ) → is_answer_body of.lacking.pdu.body ≡ true
+after_is : (r : PlainRecording) (lack : MissingSend) (of : IsLackOf r lack) (k : ℕ) → is_answer_body of.lacking.pdu.body ≡ true
     → entry_taken_up r lack.missing.sender of.lacking.pdu (length r.entries) ≡ Some k → lack.missing.after ≡ Some k
 after_is r lack of k answer is =
     of.lacking.place ∙ ap (λ (b : Bool). if b then entry_taken_up r lack.missing.sender of.lacking.pdu (length r.entries) else None) answer ∙ is
 
 -- a placed answer has what it takes up before it
-placed_after : (r : PlainRecording) (lack : Lack) (i k : ℕ) → IsPlaced i lack → lack.missing.after ≡ Some k → k < i
+placed_after : (r : PlainRecording) (lack : MissingSend) (i k : ℕ) → IsPlaced i lack → lack.missing.after ≡ Some k → k < i
 placed_after r lack i k placed after =
     ⊎_elim
     (λ (first : is_first lack ≡ true). absurd (cc (sym (ap is_none after) ∙ first)))
@@ -210,7 +210,7 @@ never_change x o p q log off =
     let c = change_of p q in
     ap (λ t. (t && option_map_or (λ k. not (was_acknowledged x able k log)) (key_of p) false) && is_hopeless c.kind c.scope (state_after x o log)) off
 
-no_able_pdu : (r : PlainRecording) (lack : Lack) (of : IsLackOf r lack) → MadePasses r (sends_no_able r.setting.exercise) lack → responds able of.lacking.pdu ≡ false
+no_able_pdu : (r : PlainRecording) (lack : MissingSend) (of : IsLackOf r lack) → MadePasses r (sends_no_able r.setting.exercise) lack → responds able of.lacking.pdu ≡ false
 no_able_pdu r lack of passes =
     turned (responds able of.lacking.pdu)
     (sym (ap (λ v. sends_no_able r.setting.exercise v) (made_is r lack ∙ ap (Send lack.missing.sender) (bytes_there r lack of))
@@ -227,7 +227,7 @@ send_allowed r end s b p k meant same none =
     ap (option_and_then (send_cause r.setting.exercise (station_at r s) (log_at s end))) meant
     ∙ ap (λ l. send_cause r.setting.exercise (station_at r s) l p) same ∙ none
 
-made_allowed : (r wide : PlainRecording) (h end : History) (i : ℕ) (k : History) → Given r wide h end → (lack : Lack) → Lacked r lack → IsPlaced i lack
+made_allowed : (r wide : PlainRecording) (h end : History) (i : ℕ) (k : History) → Given r wide h end → (lack : MissingSend) → Lacked r lack → IsPlaced i lack
     → Gone r wide end lack.missing.sender i k → log_at lack.missing.sender end ≡ k
     → cause_of r.setting end (Send lack.missing.sender (bytes_at r lack.entry)) ≡ None
 made_allowed r wide h end i k given lack is placed gone same =
@@ -239,7 +239,7 @@ made_allowed r wide h end i k given lack is placed gone same =
     let sent = made_in r wide h end given lack is.of in
     let was = was_allowed r wide h s b p sent.0 given.further.setting given.explains meant sent.1 in
     let adds : AddsTo (sends_no_able x) (log_of r s) (log_of wide s) =
-    adds_weaker (sends_missing r) (sends_no_able x) (missing_no_able r given.no_able) (log_of r s) (log_of wide s) (given.further.logs s) in
+    adds_weaker (is_missing_send r) (sends_no_able x) (missing_no_able r given.no_able) (log_of r s) (log_of wide s) (given.further.logs s) in
     let part = part_before (sends_no_able x) (sent.1.0 ++ Send s b ∷ []) sent.0 (log_of r s)
     (subst (AddsTo (sends_no_able x) (log_of r s)) (sym (append_assoc sent.1.0 (Send s b ∷ []) sent.0 ∙ sent.1.1)) adds) in
     let taken : is_answer_body p.body ≡ true → request_taken_up x (station_at r s).address p k ≡ request_taken_up x (station_at r s).address p sent.0 =
@@ -256,11 +256,11 @@ made_allowed r wide h end i k given lack is placed gone same =
 
 -- ---- the sends at one place
 
-one_grows : (r wide : PlainRecording) (h end : History) (s i : ℕ) (k : History) → Given r wide h end → (lack : Lack) → Lacked r lack → IsPlaced i lack
+one_grows : (r wide : PlainRecording) (h end : History) (s i : ℕ) (k : History) → Given r wide h end → (lack : MissingSend) → Lacked r lack → IsPlaced i lack
     → Gone r wide end s i k → IsBeginning (shown_log r s (made lack ∷ []) ++ k) (log_of (repaired r) s)
     → Gone r wide end s i (shown_log r s (made lack ∷ []) ++ k)
 one_grows r wide h end s i k given lack is placed gone begins =
-    let v : Event = event_of (slotted r (made lack)) in
+    let v : Event = event_of (slot_entry r (made lack)) in
     subst (λ l. Gone r wide end s i (l ++ k)) (sym (shown_log-one r s (made lack)))
     (elim (nat_eq (station_of v) s) as (λ b. nat_eq (station_of v) s ≡ b → IsBeginning (cond b (v ∷ []) [] ++ k) (log_of (repaired r) s)
     → Gone r wide end s i (cond b (v ∷ []) [] ++ k)) [
@@ -280,11 +280,11 @@ one_grows r wide h end s i k given lack is placed gone begins =
     ] refl (subst (λ l. IsBeginning (l ++ k) (log_of (repaired r) s)) (shown_log-one r s (made lack)) begins))
 
 -- a send that is missing and has its place
-pub record Put (r : PlainRecording) (i : ℕ) (lack : Lack) : Type 0 where
+pub record Put (r : PlainRecording) (i : ℕ) (lack : MissingSend) : Type 0 where
   pub is : Lacked r lack
   pub placed : IsPlaced i lack
 
-sends_grow : (r wide : PlainRecording) (h end : History) (s i : ℕ) (k : History) → Given r wide h end → (xs : List Lack) → Every (Put r i) xs
+sends_grow : (r wide : PlainRecording) (h end : History) (s i : ℕ) (k : History) → Given r wide h end → (xs : List MissingSend) → Every (Put r i) xs
     → Gone r wide end s i k → IsBeginning (shown_log r s (map made xs) ++ k) (log_of (repaired r) s) → Gone r wide end s i (shown_log r s (map made xs) ++ k)
 sends_grow r wide h end s i k given [] all gone begins = subst (λ l. Gone r wide end s i (l ++ k)) (sym (shown_log-none r s)) gone
 sends_grow r wide h end s i k given (x ∷ xs) all gone begins =
@@ -297,7 +297,7 @@ sends_grow r wide h end s i k given (x ∷ xs) all gone begins =
     (one_grows r wide h end s i k given x all.0.is all.0.placed gone
     (begins_back (shown_log r s (map made xs)) (shown_log r s (made x ∷ []) ++ k) (log_of (repaired r) s) next)) next)
 
-filtered : (r : PlainRecording) (i : ℕ) (t : Lack → Bool) → ((lack : Lack) → t lack ≡ true → IsPlaced i lack) → (xs : List Lack) → Every (Lacked r) xs
+filtered : (r : PlainRecording) (i : ℕ) (t : MissingSend → Bool) → ((lack : MissingSend) → t lack ≡ true → IsPlaced i lack) → (xs : List MissingSend) → Every (Lacked r) xs
     → Every (Put r i) (filter t xs)
 filtered r i t place [] all = tt
 filtered r i t place (x ∷ xs) all =
@@ -309,18 +309,18 @@ filtered r i t place (x ∷ xs) all =
 -- ---- the log of a repaired recording, up to an entry
 
 abbrev pub upto : PlainRecording → ℕ → ℕ → History
-upto r s i = shown_log r s (slots_below (lacks_of r) i)
+upto r s i = shown_log r s (slots_below (missing_sends r) i)
 
-pub upto_none : (r : PlainRecording) (s : ℕ) → upto r s 0 ≡ shown_log r s (map made (filter is_first (lacks_of r)))
+pub upto_none : (r : PlainRecording) (s : ℕ) → upto r s 0 ≡ shown_log r s (map made (filter is_first (missing_sends r)))
 unfolding slots_below
 upto_none r s = refl
 
 pub upto_more : (r : PlainRecording) (s i : ℕ)
-    → upto r s (suc i) ≡ shown_log r s (map made (filter (is_after i) (lacks_of r))) ++ (shown_log r s (kept i ∷ []) ++ upto r s i)
+    → upto r s (suc i) ≡ shown_log r s (map made (filter (is_after i) (missing_sends r))) ++ (shown_log r s (kept i ∷ []) ++ upto r s i)
 unfolding slots_below
 upto_more r s i =
-    let after : List Slot = map made (filter (is_after i) (lacks_of r)) in
-    shown_log-append r s (slots_below (lacks_of r) i) (kept i ∷ after)
+    let after : List RepairedEntry = map made (filter (is_after i) (missing_sends r)) in
+    shown_log-append r s (slots_below (missing_sends r) i) (kept i ∷ after)
     ∙ ap (λ k. k ++ upto r s i) (shown_log-cons r s (kept i) after)
     ∙ append_assoc (shown_log r s after) (shown_log r s (kept i ∷ [])) (upto r s i)
 
@@ -331,7 +331,7 @@ upto_on r s i (suc d) =
     subst (λ m. IsBeginning (upto r s i) (upto r s m)) same
     (begins_on (upto r s i) (upto r s (d + i)) (upto r s (suc (d + i))) (upto_on r s i d)
     (begins_back (shown_log r s (kept (d + i) ∷ [])) (upto r s (d + i)) (upto r s (suc (d + i)))
-    (shown_log r s (map made (filter (is_after (d + i)) (lacks_of r))), sym (upto_more r s (d + i)))))
+    (shown_log r s (map made (filter (is_after (d + i)) (missing_sends r))), sym (upto_more r s (d + i)))))
 
 pub upto_begins : (r : PlainRecording) (s i : ℕ) → i ≤ length r.entries → IsBeginning (upto r s i) (log_of (repaired r) s)
 upto_begins r s i le =
@@ -367,7 +367,7 @@ entry_grows r wide h end s i part given follow within begins gone next =
           let there : IsIn u (log_of r s) = (log_before r s i, log_before-next r s i u own) in
           record {
             adds = subst (λ l. AddsTo (sends_no_able r.setting.exercise) l (u ∷ upto r s i)) log (inr (log_before r s i, refl, gone.adds));
-            members = (in_added (sends_missing r) u (log_of r s) (log_of wide s) (given.further.logs s) there, gone.members);
+            members = (in_added (is_missing_send r) u (log_of r s) (log_of wide s) (given.further.logs s) there, gone.members);
             begins = grow r end s u (upto r s i) given.stuck (own_entry r s i u own).station gone.begins next
                 (follow i u within own (subst (λ l. IsBeginning l part) (sym log) begins) gone);
           }
@@ -377,11 +377,11 @@ entry_grows r wide h end s i part given follow within begins gone next =
 pub reach : (r wide : PlainRecording) (h end : History) (s : ℕ) (part : History) → Given r wide h end → AllFollow r wide end s part
     → (i : ℕ) → i ≤ length r.entries → IsBeginning (log_before r s i) part → Gone r wide end s i (upto r s i)
 reach r wide h end s part given follow zero le begins =
-    let sends : History = shown_log r s (map made (filter is_first (lacks_of r))) in
+    let sends : History = shown_log r s (map made (filter is_first (missing_sends r))) in
     let is : sends ++ [] ≡ upto r s 0 = append-nil sends ∙ sym (upto_none r s) in
     subst (Gone r wide end s 0) is
-    (sends_grow r wide h end s 0 [] given (filter is_first (lacks_of r))
-    (filtered r 0 is_first (λ lack first. inl first) (lacks_of r) (lacked r given.no_able))
+    (sends_grow r wide h end s 0 [] given (filter is_first (missing_sends r))
+    (filtered r 0 is_first (λ lack first. inl first) (missing_sends r) (lacked r given.no_able))
     (record {
       adds = subst (λ l. AddsTo (sends_no_able r.setting.exercise) l []) (sym (log_before-none r s)) refl;
       members = tt;
@@ -389,15 +389,15 @@ reach r wide h end s part given follow zero le begins =
     })
     (subst (λ l. IsBeginning l (log_of (repaired r) s)) (sym is) (upto_begins r s 0 le)))
 reach r wide h end s part given follow (suc i) le begins =
-    let sends : History = shown_log r s (map made (filter (is_after i) (lacks_of r))) in
+    let sends : History = shown_log r s (map made (filter (is_after i) (missing_sends r))) in
     let is : sends ++ (shown_log r s (kept i ∷ []) ++ upto r s i) ≡ upto r s (suc i) = sym (upto_more r s i) in
     let whole : IsBeginning (sends ++ (shown_log r s (kept i ∷ []) ++ upto r s i)) (log_of (repaired r) s) =
     subst (λ l. IsBeginning l (log_of (repaired r) s)) (sym is) (upto_begins r s (suc i) le) in
     let before : IsBeginning (log_before r s i) part = earlier begins in
     let gone = reach r wide h end s part given follow i (omega (arith, le)) before in
     subst (Gone r wide end s (suc i)) is
-    (sends_grow r wide h end s (suc i) (shown_log r s (kept i ∷ []) ++ upto r s i) given (filter (is_after i) (lacks_of r))
-    (filtered r (suc i) (is_after i) (λ lack after. inr (i, after, omega arith)) (lacks_of r) (lacked r given.no_able))
+    (sends_grow r wide h end s (suc i) (shown_log r s (kept i ∷ []) ++ upto r s i) given (filter (is_after i) (missing_sends r))
+    (filtered r (suc i) (is_after i) (λ lack after. inr (i, after, omega arith)) (missing_sends r) (lacked r given.no_able))
     (entry_grows r wide h end s i part given follow (omega (arith, le)) begins gone (begins_back sends (shown_log r s (kept i ∷ []) ++ upto r s i) (log_of (repaired r) s) whole))
     whole)
   where

@@ -21,53 +21,53 @@ use Rattle.exercise_model.specs.Account.{sender_of}
 use Rattle.exercise_model.proofs.Offered.{all_at, first_found, log_at-append, log_before-all, log_before-more, log_before-none, past-append}
 use Rattle.exercise_findings.proofs.Offered.{entry_within}
 use Rattle.exercise_findings.specs.Missing.{missing_at}
-use Rattle.exercise_conflict.specs.declared.lacks.Lack.{Lack}
-use Rattle.exercise_conflict.specs.declared.repaired.Slot.{Slot}
-use Rattle.exercise_conflict.specs.Lacks.{lack_by, lack_at, lacks_below, lacks_of}
+use Rattle.exercise_conflict.specs.declared.lacks.MissingSend.{MissingSend}
+use Rattle.exercise_conflict.specs.declared.repaired.RepairedEntry.{RepairedEntry}
+use Rattle.exercise_conflict.specs.Lacks.{missing_send_by, missing_send_at, missing_sends_below, missing_sends}
 use Rattle.exercise_conflict.specs.Wider.{AddsTo, sends_no_able, HasFurtherSends}
-use Rattle.exercise_conflict.specs.Repair.{Every, Places, slots_after, bytes_of, shown_as, no_entry, slotted, kept, made, is_first, is_after, slots_below, repaired, IsSlot, AreSlots, is_able, is_able_at, lacks_able}
+use Rattle.exercise_conflict.specs.Repair.{Every, Places, slots_after, bytes_of, entry_or_send, no_entry, slot_entry, kept, made, is_first, is_after, slots_below, repaired, IsSlot, AreSlots, is_able, is_able_at, is_able_missing}
 use Rattle.exercise_conflict.proofs.Every.{every-append, every-filter}
 use Rattle.exercise_conflict.proofs.Lacking.{IsLacking, lacking}
 
 -- ---- what the logs lack
 
 -- a send that a log lacks: its entry receives the datagram, and its station is there
-pub record IsLackOf (r : PlainRecording) (lack : Lack) : Type 0 where
+pub record IsLackOf (r : PlainRecording) (lack : MissingSend) : Type 0 where
   pub is : missing_at r lack.entry ≡ Some lack.missing
   pub lacking : IsLacking r lack.entry lack.missing
 
-lack_here : (r : PlainRecording) (n : ℕ) → Every (IsLackOf r) (option_to_list (lack_at r n))
+lack_here : (r : PlainRecording) (n : ℕ) → Every (IsLackOf r) (option_to_list (missing_send_at r n))
 lack_here r n =
-    elim (missing_at r n) as (λ o. missing_at r n ≡ o → Every (IsLackOf r) (option_to_list (option_map (lack_by n) o))) [
+    elim (missing_at r n) as (λ o. missing_at r n ≡ o → Every (IsLackOf r) (option_to_list (option_map (missing_send_by n) o))) [
       | None ↦ λ _. tt
       | Some m ↦ λ is. (record { is = is; lacking = lacking r n m is }, tt)
     ] refl
 
-pub all_lacks : (r : PlainRecording) (n : ℕ) → Every (IsLackOf r) (lacks_below r n)
-unfolding lacks_below
+pub all_lacks : (r : PlainRecording) (n : ℕ) → Every (IsLackOf r) (missing_sends_below r n)
+unfolding missing_sends_below
 all_lacks r zero = tt
-all_lacks r (suc n) = every-append (IsLackOf r) (lacks_below r n) (option_to_list (lack_at r n)) (all_lacks r n) (lack_here r n)
+all_lacks r (suc n) = every-append (IsLackOf r) (missing_sends_below r n) (option_to_list (missing_send_at r n)) (all_lacks r n) (lack_here r n)
 
-pub sender_there : (r : PlainRecording) (lack : Lack) → IsLackOf r lack → lack.missing.sender < length r.setting.stations
+pub sender_there : (r : PlainRecording) (lack : MissingSend) → IsLackOf r lack → lack.missing.sender < length r.setting.stations
 unfolding sender_of
 sender_there r lack of =
     (first_found (λ t. is_from (station_at r t).address of.lacking.pdu) (length r.setting.stations) lack.missing.sender of.lacking.sender).below
 
 -- ---- what slots show
 
-pub made_slot : (r : PlainRecording) (lack : Lack) → IsLackOf r lack → IsSlot r (made lack)
+pub made_slot : (r : PlainRecording) (lack : MissingSend) → IsLackOf r lack → IsSlot r (made lack)
 made_slot r lack of =
     record { entry = slice_get_within r.entries lack.entry _ of.lacking.got; sender = sender_there r lack of }
 
-all_made : (r : PlainRecording) (t : Lack → Bool) (xs : List Lack) → Every (IsLackOf r) xs → Every (IsSlot r) (map made (filter t xs))
+all_made : (r : PlainRecording) (t : MissingSend → Bool) (xs : List MissingSend) → Every (IsLackOf r) xs → Every (IsSlot r) (map made (filter t xs))
 all_made r t xs all = each (filter t xs) (every-filter t (IsLackOf r) xs all)
   where
-    each : (xs : List Lack) → Every (IsLackOf r) xs → Every (IsSlot r) (map made xs)
+    each : (xs : List MissingSend) → Every (IsLackOf r) xs → Every (IsSlot r) (map made xs)
     each [] all = tt
     each (x ∷ xs) all = (made_slot r x all.0, each xs all.1)
 
 -- each slot shows an entry that is there, as that of a station that is there
-pub all_slots : (r : PlainRecording) (xs : List Lack) (n : ℕ) → n ≤ length r.entries → Every (IsLackOf r) xs → Every (IsSlot r) (slots_below xs n)
+pub all_slots : (r : PlainRecording) (xs : List MissingSend) (n : ℕ) → n ≤ length r.entries → Every (IsLackOf r) xs → Every (IsSlot r) (slots_below xs n)
 unfolding slots_below
 all_slots r xs zero le all = all_made r is_first xs all
 all_slots r xs (suc n) le all =
@@ -84,22 +84,22 @@ short_bytes stations (Received s stamp b) is = (both _ _ is).1
 short_bytes stations (Told s e y) is = refl
 
 slot_is_entry : (stations : ℕ) (e : Entry) (sender : Option ℕ) → IfSome sender (λ t. t < stations) → is_entry stations e ≡ true
-    → is_entry stations (shown_as e sender) ≡ true
+    → is_entry stations (entry_or_send e sender) ≡ true
 slot_is_entry stations e None there is = is
 slot_is_entry stations e (Some t) there is =
     ap (λ b. b && nat_le (length (bytes_of e)) LARGEST_DATAGRAM) (lt-ltb t stations there) ∙ short_bytes stations e is
 
-slot_is_stamped : (e : Entry) (sender : Option ℕ) → is_stamped e ≡ true → is_stamped (shown_as e sender) ≡ true
+slot_is_stamped : (e : Entry) (sender : Option ℕ) → is_stamped e ≡ true → is_stamped (entry_or_send e sender) ≡ true
 slot_is_stamped e None is = is
 slot_is_stamped e (Some t) is = refl
 
-all_shown : (r : PlainRecording) (test : Entry → Bool) → ((slot : Slot) → IsSlot r slot → test (slotted r slot) ≡ true)
-    → (slots : List Slot) → Every (IsSlot r) slots → list_all test (map (slotted r) slots) ≡ true
+all_shown : (r : PlainRecording) (test : Entry → Bool) → ((slot : RepairedEntry) → IsSlot r slot → test (slot_entry r slot) ≡ true)
+    → (slots : List RepairedEntry) → Every (IsSlot r) slots → list_all test (map (slot_entry r) slots) ≡ true
 all_shown r test each [] all = refl
-all_shown r test each (x ∷ slots) all = ap (λ b. b && list_all test (map (slotted r) slots)) (each x all.0) ∙ all_shown r test each slots all.1
+all_shown r test each (x ∷ slots) all = ap (λ b. b && list_all test (map (slot_entry r) slots)) (each x all.0) ∙ all_shown r test each slots all.1
 
 -- what slots show keeps the limits
-pub are_slots : (r : PlainRecording) (slots : List Slot) → IsRecording r → Every (IsSlot r) slots → length (map (slotted r) slots) ≤ MOST_ENTRIES → AreSlots r slots
+pub are_slots : (r : PlainRecording) (slots : List RepairedEntry) → IsRecording r → Every (IsSlot r) slots → length (map (slot_entry r) slots) ≤ MOST_ENTRIES → AreSlots r slots
 are_slots r slots limits all few =
     record {
       each = all;
@@ -118,25 +118,25 @@ are_slots r slots limits all few =
 -- ---- the log of a station
 
 -- the events of a station among those that slots show
-abbrev pub shown_log : PlainRecording → ℕ → List Slot → History
-shown_log r s slots = log_at s (past (map (slotted r) slots))
+abbrev pub shown_log : PlainRecording → ℕ → List RepairedEntry → History
+shown_log r s slots = log_at s (past (map (slot_entry r) slots))
 
-pub shown_log-append : (r : PlainRecording) (s : ℕ) (xs ys : List Slot) → shown_log r s (xs ++ ys) ≡ shown_log r s ys ++ shown_log r s xs
+pub shown_log-append : (r : PlainRecording) (s : ℕ) (xs ys : List RepairedEntry) → shown_log r s (xs ++ ys) ≡ shown_log r s ys ++ shown_log r s xs
 shown_log-append r s xs ys =
-    ap (λ es. log_at s (past es)) (map-append (slotted r) xs ys)
-    ∙ ap (log_at s) (past-append (map (slotted r) xs) (map (slotted r) ys))
-    ∙ log_at-append s (past (map (slotted r) ys)) (past (map (slotted r) xs))
+    ap (λ es. log_at s (past es)) (map-append (slot_entry r) xs ys)
+    ∙ ap (log_at s) (past-append (map (slot_entry r) xs) (map (slot_entry r) ys))
+    ∙ log_at-append s (past (map (slot_entry r) ys)) (past (map (slot_entry r) xs))
 
 pub shown_log-none : (r : PlainRecording) (s : ℕ) → shown_log r s [] ≡ []
 unfolding past log_at
 shown_log-none r s = refl
 
-pub shown_log-one : (r : PlainRecording) (s : ℕ) (slot : Slot)
-    → shown_log r s (slot ∷ []) ≡ cond (nat_eq (station_of (event_of (slotted r slot))) s) (event_of (slotted r slot) ∷ []) []
+pub shown_log-one : (r : PlainRecording) (s : ℕ) (slot : RepairedEntry)
+    → shown_log r s (slot ∷ []) ≡ cond (nat_eq (station_of (event_of (slot_entry r slot))) s) (event_of (slot_entry r slot) ∷ []) []
 unfolding past log_at
 shown_log-one r s slot = refl
 
-pub shown_log-cons : (r : PlainRecording) (s : ℕ) (x : Slot) (xs : List Slot) → shown_log r s (x ∷ xs) ≡ shown_log r s xs ++ shown_log r s (x ∷ [])
+pub shown_log-cons : (r : PlainRecording) (s : ℕ) (x : RepairedEntry) (xs : List RepairedEntry) → shown_log r s (x ∷ xs) ≡ shown_log r s xs ++ shown_log r s (x ∷ [])
 shown_log-cons r s x xs = shown_log-append r s (x ∷ []) xs
 
 -- ---- further sends alone
@@ -155,18 +155,18 @@ adds_front may h g [] passes adds = adds
 adds_front may h g (v ∷ k) passes adds = inl (passes.0, adds_front may h g k passes.1 adds)
 
 -- what is made of a lack passes a test of events
-abbrev pub MadePasses : PlainRecording → (Event → Bool) → Lack → Type 0
-MadePasses r may lack = may (event_of (slotted r (made lack))) ≡ true
+abbrev pub MadePasses : PlainRecording → (Event → Bool) → MissingSend → Type 0
+MadePasses r may lack = may (event_of (slot_entry r (made lack))) ≡ true
 
-pub one_passes : (r : PlainRecording) (s : ℕ) (may : Event → Bool) (lack : Lack) → MadePasses r may lack → Passes may (shown_log r s (made lack ∷ []))
+pub one_passes : (r : PlainRecording) (s : ℕ) (may : Event → Bool) (lack : MissingSend) → MadePasses r may lack → Passes may (shown_log r s (made lack ∷ []))
 one_passes r s may lack passes =
     subst (Passes may) (sym (shown_log-one r s (made lack)))
-    (elim (nat_eq (station_of (event_of (slotted r (made lack)))) s) as (λ b. Passes may (cond b (event_of (slotted r (made lack)) ∷ []) [])) [
+    (elim (nat_eq (station_of (event_of (slot_entry r (made lack)))) s) as (λ b. Passes may (cond b (event_of (slot_entry r (made lack)) ∷ []) [])) [
       | true ↦ (passes, tt)
       | false ↦ tt
     ])
 
-pub sends_pass : (r : PlainRecording) (s : ℕ) (may : Event → Bool) (xs : List Lack) → Every (MadePasses r may) xs → Passes may (shown_log r s (map made xs))
+pub sends_pass : (r : PlainRecording) (s : ℕ) (may : Event → Bool) (xs : List MissingSend) → Every (MadePasses r may) xs → Passes may (shown_log r s (map made xs))
 sends_pass r s may [] all = subst (Passes may) (sym (shown_log-none r s)) tt
 sends_pass r s may (x ∷ xs) all =
     subst (Passes may) (sym (shown_log-cons r s (made x) (map made xs)))
@@ -195,7 +195,7 @@ kept_adds r s n may g within adds =
       | None ↦ adds
     ]))
 
-slots_add : (r : PlainRecording) (s : ℕ) (may : Event → Bool) (xs : List Lack) (n : ℕ) → n ≤ length r.entries → Every (MadePasses r may) xs
+slots_add : (r : PlainRecording) (s : ℕ) (may : Event → Bool) (xs : List MissingSend) (n : ℕ) → n ≤ length r.entries → Every (MadePasses r may) xs
     → AddsTo may (log_before r s n) (shown_log r s (slots_below xs n))
 unfolding slots_below
 slots_add r s may xs zero le all =
@@ -204,7 +204,7 @@ slots_add r s may xs zero le all =
     (adds_front may [] [] (shown_log r s (map made (filter is_first xs)))
     (sends_pass r s may (filter is_first xs) (every-filter is_first (MadePasses r may) xs all)) refl))
 slots_add r s may xs (suc n) le all =
-    let after : List Slot = map made (filter (is_after n) xs) in
+    let after : List RepairedEntry = map made (filter (is_after n) xs) in
     let before = slots_add r s may xs n (omega (arith, le)) all in
     subst (AddsTo may (log_before r s (suc n)))
     (sym (shown_log-append r s (slots_below xs n) (kept n ∷ after)
@@ -214,7 +214,7 @@ slots_add r s may xs (suc n) le all =
     (sends_pass r s may (filter (is_after n) xs) (every-filter (is_after n) (MadePasses r may) xs all))
     (kept_adds r s n may (shown_log r s (slots_below xs n)) (omega (arith, le)) before))
 
-pub repaired_log : (r : PlainRecording) (s : ℕ) → log_of (repaired r) s ≡ shown_log r s (slots_below (lacks_of r) (length r.entries))
+pub repaired_log : (r : PlainRecording) (s : ℕ) → log_of (repaired r) s ≡ shown_log r s (slots_below (missing_sends r) (length r.entries))
 unfolding repaired log_of
 repaired_log r s = refl
 
@@ -223,11 +223,11 @@ unfolding repaired
 repaired_setting r = refl
 
 -- a repaired recording adds what was made to each log
-pub repaired_adds : (r : PlainRecording) (may : Event → Bool) → Every (MadePasses r may) (lacks_of r) → (s : ℕ) → AddsTo may (log_of r s) (log_of (repaired r) s)
+pub repaired_adds : (r : PlainRecording) (may : Event → Bool) → Every (MadePasses r may) (missing_sends r) → (s : ℕ) → AddsTo may (log_of r s) (log_of (repaired r) s)
 repaired_adds r may all s =
     subst (AddsTo may (log_of r s)) (sym (repaired_log r s))
-    (subst (λ l. AddsTo may l (shown_log r s (slots_below (lacks_of r) (length r.entries)))) (log_before-all r s)
-    (slots_add r s may (lacks_of r) (length r.entries) (omega arith) all))
+    (subst (λ l. AddsTo may l (shown_log r s (slots_below (missing_sends r) (length r.entries)))) (log_before-all r s)
+    (slots_add r s may (missing_sends r) (length r.entries) (omega arith) all))
 
 -- ---- where none is an Able
 
@@ -235,46 +235,46 @@ or_off : (a b : Bool) → (a || b) ≡ false → (a ≡ false) × (b ≡ false)
 or_off true b e = absurd (cc)
 or_off false b e = (refl, e)
 
-no_able_passes : (r : PlainRecording) (lack : Lack) → IsLackOf r lack → is_able_at r lack.entry ≡ false → MadePasses r (sends_no_able r.setting.exercise) lack
+no_able_passes : (r : PlainRecording) (lack : MissingSend) → IsLackOf r lack → is_able_at r lack.entry ≡ false → MadePasses r (sends_no_able r.setting.exercise) lack
 no_able_passes r lack of off =
     let e : Entry = Received of.lacking.station of.lacking.stamp of.lacking.bytes in
     let same : slice_index_or r.entries lack.entry no_entry ≡ e = get_or_from_slice_get r.entries lack.entry e no_entry of.lacking.got in
     ap (λ x. not (option_map_or (responds able) (meaning r.setting.exercise (bytes_of x)) false)) same
     ∙ ap not (sym (ap (λ o. option_map_or (is_able r.setting.exercise) o false) of.lacking.got) ∙ off)
 
-pub none_able : (r : PlainRecording) (xs : List Lack) → Every (IsLackOf r) xs → list_any (λ (lack : Lack). is_able_at r lack.entry) xs ≡ false
+pub none_able : (r : PlainRecording) (xs : List MissingSend) → Every (IsLackOf r) xs → list_any (λ (lack : MissingSend). is_able_at r lack.entry) xs ≡ false
     → Every (MadePasses r (sends_no_able r.setting.exercise)) xs
 none_able r [] all off = tt
 none_able r (x ∷ xs) all off =
-    let parts = or_off (is_able_at r x.entry) (list_any (λ (lack : Lack). is_able_at r lack.entry) xs) off in
+    let parts = or_off (is_able_at r x.entry) (list_any (λ (lack : MissingSend). is_able_at r lack.entry) xs) off in
     (no_able_passes r x all.0 parts.0, none_able r xs all.1 parts.1)
 
 -- A REPAIRED RECORDING HAS FURTHER SENDS ALONE, where none of them is an Able
-pub repaired_further : (r : PlainRecording) → lacks_able r ≡ false → HasFurtherSends r (repaired r)
-unfolding lacks_able
+pub repaired_further : (r : PlainRecording) → is_able_missing r ≡ false → HasFurtherSends r (repaired r)
+unfolding is_able_missing
 repaired_further r off =
     record {
       setting = repaired_setting r;
-      logs = repaired_adds r (sends_no_able r.setting.exercise) (none_able r (lacks_of r) (all_lacks r (length r.entries)) off);
+      logs = repaired_adds r (sends_no_able r.setting.exercise) (none_able r (missing_sends r) (all_lacks r (length r.entries)) off);
     }
 
 -- ---- how the places are kept
 
-abbrev listed : Option (Vec Slot) → List Slot
-listed o = option_map_or (λ (slots : Vec Slot). slots.items) o []
+abbrev listed : Option (Vec RepairedEntry) → List RepairedEntry
+listed o = option_map_or (λ (slots : Vec RepairedEntry). slots.items) o []
 
-listed_or : (o : Option (Vec Slot)) (none : Vec Slot) → none.items ≡ [] → (unwrap_or o none).items ≡ listed o
+listed_or : (o : Option (Vec RepairedEntry)) (none : Vec RepairedEntry) → none.items ≡ [] → (unwrap_or o none).items ≡ listed o
 listed_or None none e = e
 listed_or (Some w) none e = refl
 
 -- where a send is put behind those that belong after an entry
-pub put_behind : (old new : Places) (entry : ℕ) (o : Option (Vec Slot)) (none was : Vec Slot) (more : Vec Slot) (slot : Slot) → Updates nat_eq old new entry (Some more)
+pub put_behind : (old new : Places) (entry : ℕ) (o : Option (Vec RepairedEntry)) (none was : Vec RepairedEntry) (more : Vec RepairedEntry) (slot : RepairedEntry) → Updates nat_eq old new entry (Some more)
     → none.items ≡ [] → o ≡ get nat_eq old entry → was ≡ unwrap_or o none → more.items ≡ was.items ++ slot ∷ [] → (p : ℕ)
     → slots_after new p ≡ slots_after old p ++ (if nat_eq entry p then slot ∷ [] else [])
 unfolding slots_after
 put_behind old new entry o none was more slot updates empty found value items p =
     let before : was.items ≡ listed (get nat_eq old entry) =
-    ap (λ (v : Vec Slot). v.items) value ∙ ap (λ (q : Option (Vec Slot)). (unwrap_or q none).items) found ∙ listed_or (get nat_eq old entry) none empty in
+    ap (λ (v : Vec RepairedEntry). v.items) value ∙ ap (λ (q : Option (Vec RepairedEntry)). (unwrap_or q none).items) found ∙ listed_or (get nat_eq old entry) none empty in
     ap listed (updates.0 p)
     ∙ elim (nat_eq entry p) as (λ t. nat_eq entry p ≡ t → listed (cond t (Some more) (get nat_eq old p)) ≡ listed (get nat_eq old p) ++ cond t (slot ∷ []) []) [
       | true ↦ λ same. items ∙ ap (λ ys. ys ++ slot ∷ []) before ∙ ap (λ k. listed (get nat_eq old k) ++ slot ∷ []) (eqb-true entry p same)
@@ -282,10 +282,10 @@ put_behind old new entry o none was more slot updates empty found value items p 
     ] refl
 
 -- the slots of a whole recording keep the limits, where they are few enough
-pub whole_slots : (r : PlainRecording) → IsRecording r → (xs : List Lack) (n : ℕ) (slots : List Slot) → xs ≡ lacks_of r → n ≡ length r.entries
+pub whole_slots : (r : PlainRecording) → IsRecording r → (xs : List MissingSend) (n : ℕ) (slots : List RepairedEntry) → xs ≡ missing_sends r → n ≡ length r.entries
     → slots ≡ slots_below xs n → length slots ≤ MOST_ENTRIES → AreSlots r slots
 whole_slots r limits xs n slots all whole is few =
-    let same : slots ≡ slots_below (lacks_of r) (length r.entries) = is ∙ ap (λ ys. slots_below ys n) all ∙ ap (slots_below (lacks_of r)) whole in
+    let same : slots ≡ slots_below (missing_sends r) (length r.entries) = is ∙ ap (λ ys. slots_below ys n) all ∙ ap (slots_below (missing_sends r)) whole in
     are_slots r slots limits
-    (subst (Every (IsSlot r)) (sym same) (all_slots r (lacks_of r) (length r.entries) (omega arith) (all_lacks r (length r.entries))))
-    (omega (arith, few, length-map slots (slotted r)))
+    (subst (Every (IsSlot r)) (sym same) (all_slots r (missing_sends r) (length r.entries) (omega arith) (all_lacks r (length r.entries))))
+    (omega (arith, few, length-map slots (slot_entry r)))

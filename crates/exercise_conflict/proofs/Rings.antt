@@ -10,7 +10,7 @@ use Rattle.exercise_model.specs.Recording.{PlainRecording, IsRecording}
 use Rattle.exercise_model.specs.History.{Event, Send, Get, Tell, History, event_of, station_of, log_at}
 use Rattle.exercise_model.specs.Cause.{sends}
 use Rattle.exercise_model.specs.Place.{own_event, log_before, first_below}
-use Rattle.exercise_model.specs.Run.{Explains, IsBeginning, Contains, StandsFor}
+use Rattle.exercise_model.specs.Run.{Explains, IsBeginning, Contains, Represents}
 use Rattle.exercise_model.specs.Alike.{HasPlace}
 use Rattle.exercise_model.proofs.Offered.{always_as_said, explained_holds, first_found, log_before-all, log_before-more, sender_found}
 use Rattle.exercise_findings.specs.Source.{sends_here, first_send}
@@ -18,7 +18,7 @@ use Rattle.exercise_findings.proofs.Offered.{bytes_same}
 use Rattle.exercise_model.specs.declared.station.TheConstants.{MOST_STATIONS}
 use Rattle.exercise_conflict.specs.declared.waits.Wait.{Wait}
 use Rattle.exercise_conflict.specs.Waits.{IsWait}
-use Rattle.exercise_conflict.specs.Cycles.{wait_at, way_back, cycle_at, AreWaits}
+use Rattle.exercise_conflict.specs.Cycles.{wait_at, waiting_path, cycle_at, AreWaits}
 use Rattle.exercise_conflict.proofs.Places.{in_log, own_here}
 use Rattle.exercise_conflict.proofs.Blocks.{own_entry}
 use Rattle.exercise_conflict.proofs.Lacking.{none_passes, contains_on, in_own_log, recorded_where_found}
@@ -157,21 +157,21 @@ AtEntry r h waits most t = (u : Wait) → wait_at waits t ≡ Some u → IsPlace
 
 -- the way leads back to its station, ever earlier in the run
 way_leads : (r : PlainRecording) (h : History) (waits : List Wait) (s most : ℕ) → IsRecording r → Explains r h → AreWaits r waits → (n t : ℕ) (way : List ℕ)
-    → way_back waits s t n ≡ Some way → AtEntry r h waits most t → AtEntry r h waits most s
-unfolding way_back AtEntry
+    → waiting_path waits s t n ≡ Some way → AtEntry r h waits most t → AtEntry r h waits most s
+unfolding waiting_path AtEntry
 way_leads r h waits s most limits explains hold zero t way is at = absurd (cc)
 way_leads r h waits s most limits explains hold (suc n) t way is at =
     elim (nat_eq t s) as (λ q. nat_eq t s ≡ q
-    → cond q (Some []) (cond (nat_lt s t) (option_and_then (λ w. option_map (λ way. t ∷ way) (way_back waits s w.on n)) (wait_at waits t)) None) ≡ Some way
+    → cond q (Some []) (cond (nat_lt s t) (option_and_then (λ w. option_map (λ way. t ∷ way) (waiting_path waits s w.on n)) (wait_at waits t)) None) ≡ Some way
     → AtEntry r h waits most s) [
       | true ↦ λ own _. subst (AtEntry r h waits most) (eqb-true t s own) at
-      | false ↦ λ _. elim (nat_lt s t) as (λ q. cond q (option_and_then (λ w. option_map (λ way. t ∷ way) (way_back waits s w.on n)) (wait_at waits t)) None ≡ Some way
+      | false ↦ λ _. elim (nat_lt s t) as (λ q. cond q (option_and_then (λ w. option_map (λ way. t ∷ way) (waiting_path waits s w.on n)) (wait_at waits t)) None ≡ Some way
           → AtEntry r h waits most s) [
             | false ↦ λ e. absurd (cc)
-            | true ↦ elim (wait_at waits t) as (λ o. wait_at waits t ≡ o → option_and_then (λ w. option_map (λ way. t ∷ way) (way_back waits s w.on n)) o ≡ Some way
+            | true ↦ elim (wait_at waits t) as (λ o. wait_at waits t ≡ o → option_and_then (λ w. option_map (λ way. t ∷ way) (waiting_path waits s w.on n)) o ≡ Some way
                 → AtEntry r h waits most s) [
                   | None ↦ λ _ e. absurd (cc)
-                  | Some w ↦ λ waits_here. elim (way_back waits s w.on n) as (λ o. way_back waits s w.on n ≡ o → option_map (λ way. t ∷ way) o ≡ Some way → AtEntry r h waits most s) [
+                  | Some w ↦ λ waits_here. elim (waiting_path waits s w.on n) as (λ o. waiting_path waits s w.on n ≡ o → option_map (λ way. t ∷ way) o ≡ Some way → AtEntry r h waits most s) [
                     | None ↦ λ _ e. absurd (cc)
                     | Some rest ↦ λ back _. way_leads r h waits s most limits explains hold n w.on rest back (onward w waits_here)
                   ] refl
@@ -190,15 +190,15 @@ pub rings_block : (r : PlainRecording) (waits : List Wait) (s : ℕ) (cycle : Li
     → cycle_at waits s ≡ Some cycle → Explains r h → ⊥
 unfolding cycle_at AtEntry
 rings_block r waits s cycle h limits hold is explains =
-    elim (wait_at waits s) as (λ o. wait_at waits s ≡ o → option_and_then (λ w. option_map (λ way. s ∷ way) (way_back waits s w.on MOST_STATIONS)) o ≡ Some cycle → ⊥) [
+    elim (wait_at waits s) as (λ o. wait_at waits s ≡ o → option_and_then (λ w. option_map (λ way. s ∷ way) (waiting_path waits s w.on MOST_STATIONS)) o ≡ Some cycle → ⊥) [
       | None ↦ λ _ e. absurd (cc)
-      | Some w ↦ λ here. elim (way_back waits s w.on MOST_STATIONS) as (λ o. way_back waits s w.on MOST_STATIONS ≡ o → option_map (λ way. s ∷ way) o ≡ Some cycle → ⊥) [
+      | Some w ↦ λ here. elim (waiting_path waits s w.on MOST_STATIONS) as (λ o. waiting_path waits s w.on MOST_STATIONS ≡ o → option_map (λ way. s ∷ way) o ≡ Some cycle → ⊥) [
         | None ↦ λ _ e. absurd (cc)
         | Some way ↦ λ back _. around w here way back
       ] refl
     ] refl is
   where
-    around : (w : Wait) → wait_at waits s ≡ Some w → (way : List ℕ) → way_back waits s w.on MOST_STATIONS ≡ Some way → ⊥
+    around : (w : Wait) → wait_at waits s ≡ Some w → (way : List ℕ) → waiting_path waits s w.on MOST_STATIONS ≡ Some way → ⊥
     around w here way back =
         let is = hold.each s w here in
         let v : Event = Get w.station is.bytes in
@@ -213,5 +213,5 @@ rings_block r waits s cycle h limits hold is explains =
         let there = own_entry r w.station w.entry v own in
         let event : again.event ≡ v = sym at.is ∙ ap event_of (same_Some at.entry there.entry (sym at.at ∙ there.at)) ∙ there.is in
         let same : again.place.before ≡ place.before =
-        place.only again.place.before (subst (Contains h again.place.before) event again.place.within) (subst (StandsFor r w.entry again.place.before) event again.place.stands) in
+        place.only again.place.before (subst (Contains h again.place.before) event again.place.within) (subst (Represents r w.entry again.place.before) event again.place.stands) in
         omega (arith, again.less, ap length same)

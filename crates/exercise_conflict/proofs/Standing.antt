@@ -32,20 +32,20 @@ use Rattle.exercise_audit.specs.Audit.{AreBlocks, IsBlocked}
 use Rattle.exercise_conflict.specs.declared.way.Also.{Also}
 use Rattle.exercise_conflict.specs.declared.clash.Clash.{Clash}
 use Rattle.exercise_conflict.specs.declared.conflict.Conflict.{Conflict}
-use Rattle.exercise_conflict.specs.declared.lacks.Lack.{Lack}
+use Rattle.exercise_conflict.specs.declared.lacks.MissingSend.{MissingSend}
 use Rattle.exercise_conflict.specs.declared.step_clash.StepClash.{StepClash}
 use Rattle.exercise_conflict.specs.declared.verdict.Refusal.{Refusal}
 use Rattle.exercise_conflict.specs.declared.waits.Wait.{Wait}
 use Rattle.exercise_conflict.specs.declared.way.Way.{Way}
 use Rattle.exercise_conflict.specs.declared.way.Way.TheVariants.{Waits}
-use Rattle.exercise_conflict.specs.Cycles.{wait_at, way_back, cycle_at}
-use Rattle.exercise_conflict.specs.Also.{also_at}
-use Rattle.exercise_conflict.specs.Clash.{hopeless_for, hopeless_by, impossible_at, reused_at, wrong_at, got_pdu, clash_sent, clash_got, clash_told, clash_by, clash_of_entry, clash_of}
+use Rattle.exercise_conflict.specs.Cycles.{wait_at, waiting_path, cycle_at}
+use Rattle.exercise_conflict.specs.Also.{further_cause_at}
+use Rattle.exercise_conflict.specs.Clash.{hopeless_scope_clash, hopeless_clash, impossible_clash, reused_clash, wrong_answer_clash, got_pdu, send_clash, receipt_clash, told_state_clash, clash_by, clash_of_entry, clash_of}
 use Rattle.exercise_conflict.specs.Earlier.{earlier_sent}
-use Rattle.exercise_conflict.specs.Lacks.{lack_by, lack_at, lacks_below, lacks_of}
-use Rattle.exercise_conflict.specs.StepClash.{disordered_by, barred_by, barred, step_clash, step_clash_of}
+use Rattle.exercise_conflict.specs.Lacks.{missing_send_by, missing_send_at, missing_sends_below, missing_sends}
+use Rattle.exercise_conflict.specs.StepClash.{out_of_order_by, event_clash_by, event_clash, step_clash, step_clash_of}
 use Rattle.exercise_conflict.specs.Waits.{block_of, waits_on, wait_by, wait_for, wait_of, waits_of}
-use Rattle.exercise_conflict.specs.Ways.{clashes_by, way_of, ways_of, cycles_below, cycles_of, also_by, also_below, all_also}
+use Rattle.exercise_conflict.specs.Ways.{clashes_by, way_of, ways_of, cycles_below, cycles_of, further_cause, further_causes_below, further_causes}
 use Rattle.exercise_conflict.specs.Whole.{IsConflictOf, IsRefusalOf}
 use Rattle.exercise_conflict.specs.Lines.{IsOfStations, IsOfStepStations, IsOfWayStations}
 use Rattle.exercise_conflict.specs.Told.{AreOfStations}
@@ -105,32 +105,32 @@ within : (r : PlainRecording) → IsRecording r → (i : ℕ) (e : Entry) → sl
 within r limits i e at = entry_station (length r.setting.stations) r.entries i e limits.each_entry at
 
 -- what is made of a clash of the station is one
-hopeless_stands : (r : PlainRecording) (s j k : ℕ) (scope : Scope) → s < length r.setting.stations → IsOfStations r (hopeless_for r s j k scope)
+hopeless_stands : (r : PlainRecording) (s j k : ℕ) (scope : Scope) → s < length r.setting.stations → IsOfStations r (hopeless_scope_clash r s j k scope)
 hopeless_stands r s j k (One n) h = h
 hopeless_stands r s j k AllOf h = h
 
-impossible_stands : (r : PlainRecording) (s j : ℕ) (p : Pdu) (k : ℕ) (clash : Clash) → s < length r.setting.stations → impossible_at r s j p k ≡ Some clash → IsOfStations r clash
+impossible_stands : (r : PlainRecording) (s j : ℕ) (p : Pdu) (k : ℕ) (clash : Clash) → s < length r.setting.stations → impossible_clash r s j p k ≡ Some clash → IsOfStations r clash
 impossible_stands r s j p k clash h e =
-    let one = behind (hopeless_by r s j p k) (got_pdu r s k) clash e in
-    let two = mapped (λ (c : Change). hopeless_for r s j k c.scope) _ clash one.2 in
+    let one = behind (hopeless_clash r s j p k) (got_pdu r s k) clash e in
+    let two = mapped (λ (c : Change). hopeless_scope_clash r s j k c.scope) _ clash one.2 in
     subst (IsOfStations r) two.2 (hopeless_stands r s j k two.0.scope h)
 
-reused_stands : (r : PlainRecording) (s : ℕ) (p : Pdu) (k : ℕ) (clash : Clash) → reused_at r s p k ≡ Some clash → IsOfStations r clash
+reused_stands : (r : PlainRecording) (s : ℕ) (p : Pdu) (k : ℕ) (clash : Clash) → reused_clash r s p k ≡ Some clash → IsOfStations r clash
 reused_stands r s p k clash e = let one = mapped _ _ clash e in subst (IsOfStations r) one.2 tt
 
-wrong_stands : (r : PlainRecording) (s : ℕ) (p : Pdu) (k : ℕ) (clash : Clash) → wrong_at r s p k ≡ Some clash → IsOfStations r clash
+wrong_stands : (r : PlainRecording) (s : ℕ) (p : Pdu) (k : ℕ) (clash : Clash) → wrong_answer_clash r s p k ≡ Some clash → IsOfStations r clash
 wrong_stands r s p k clash e = let one = mapped _ _ clash e in subst (IsOfStations r) one.2 tt
 
 here : (r : PlainRecording) (known clash : Clash) → IsOfStations r known → Some known ≡ Some clash → IsOfStations r clash
 here r known clash is e = subst (IsOfStations r) (same_Some known clash e) is
 
-sent_stands : (r : PlainRecording) (j s : ℕ) (cause : Cause) (p : Pdu) (clash : Clash) → s < length r.setting.stations → clash_sent r j s cause p ≡ Some clash → IsOfStations r clash
+sent_stands : (r : PlainRecording) (j s : ℕ) (cause : Cause) (p : Pdu) (clash : Clash) → s < length r.setting.stations → send_clash r j s cause p ≡ Some clash → IsOfStations r clash
 sent_stands r j s causes.WrongSender p clash h e = here r _ clash h e
-sent_stands r j s causes.ReusedIdentifier p clash h e = let one = behind (reused_at r s p) _ clash e in reused_stands r s p one.0 clash one.2
+sent_stands r j s causes.ReusedIdentifier p clash h e = let one = behind (reused_clash r s p) _ clash e in reused_stands r s p one.0 clash one.2
 sent_stands r j s causes.NoRequest p clash h e = here r _ clash tt e
-sent_stands r j s causes.WrongAnswer p clash h e = let one = behind (wrong_at r s p) _ clash e in wrong_stands r s p one.0 clash one.2
+sent_stands r j s causes.WrongAnswer p clash h e = let one = behind (wrong_answer_clash r s p) _ clash e in wrong_stands r s p one.0 clash one.2
 sent_stands r j s causes.ChangedAnswer p clash h e = let one = mapped _ _ clash e in subst (IsOfStations r) one.2 tt
-sent_stands r j s causes.Impossible p clash h e = let one = behind (impossible_at r s j p) _ clash e in impossible_stands r s j p one.0 clash h one.2
+sent_stands r j s causes.Impossible p clash h e = let one = behind (impossible_clash r s j p) _ clash e in impossible_stands r s j p one.0 clash h one.2
 sent_stands r j s causes.CountDiffers p clash h e = absurd (cc)
 sent_stands r j s causes.NoSuchRecord p clash h e = absurd (cc)
 sent_stands r j s causes.OutOfOrder p clash h e = absurd (cc)
@@ -139,7 +139,7 @@ sent_stands r j s causes.Stranger p clash h e = absurd (cc)
 sent_stands r j s causes.NeverSent p clash h e = absurd (cc)
 sent_stands r j s causes.WrongState p clash h e = absurd (cc)
 
-got_stands : (r : PlainRecording) (j : ℕ) (b : List ℕ) (cause : Cause) (p : Pdu) (clash : Clash) → clash_got r j b cause p ≡ Some clash → IsOfStations r clash
+got_stands : (r : PlainRecording) (j : ℕ) (b : List ℕ) (cause : Cause) (p : Pdu) (clash : Clash) → receipt_clash r j b cause p ≡ Some clash → IsOfStations r clash
 got_stands r j b causes.Stranger p clash e = here r _ clash tt e
 got_stands r j b causes.NeverSent p clash e = here r _ clash tt e
 got_stands r j b causes.CountDiffers p clash e = absurd (cc)
@@ -154,7 +154,7 @@ got_stands r j b causes.ChangedAnswer p clash e = absurd (cc)
 got_stands r j b causes.Impossible p clash e = absurd (cc)
 got_stands r j b causes.WrongState p clash e = absurd (cc)
 
-told_stands : (r : PlainRecording) (j s n : ℕ) (cause : Cause) (clash : Clash) → s < length r.setting.stations → clash_told r j s n cause ≡ Some clash → IsOfStations r clash
+told_stands : (r : PlainRecording) (j s n : ℕ) (cause : Cause) (clash : Clash) → s < length r.setting.stations → told_state_clash r j s n cause ≡ Some clash → IsOfStations r clash
 told_stands r j s n causes.WrongState clash h e = here r _ clash h e
 told_stands r j s n causes.CountDiffers clash h e = absurd (cc)
 told_stands r j s n causes.NoSuchRecord clash h e = absurd (cc)
@@ -171,8 +171,8 @@ told_stands r j s n causes.NeverSent clash h e = absurd (cc)
 
 by_stands : (r : PlainRecording) (j : ℕ) (e : Entry) (cause : Cause) (clash : Clash) → station_of (event_of e) < length r.setting.stations
     → clash_by r j e cause ≡ Some clash → IsOfStations r clash
-by_stands r j (Sent s stamp b) cause clash h is = let one = behind (clash_sent r j s cause) _ clash is in sent_stands r j s cause one.0 clash h one.2
-by_stands r j (Received s stamp b) cause clash h is = let one = behind (clash_got r j b cause) _ clash is in got_stands r j b cause one.0 clash one.2
+by_stands r j (Sent s stamp b) cause clash h is = let one = behind (send_clash r j s cause) _ clash is in sent_stands r j s cause one.0 clash h one.2
+by_stands r j (Received s stamp b) cause clash h is = let one = behind (receipt_clash r j b cause) _ clash is in got_stands r j b cause one.0 clash one.2
 by_stands r j (Told s n y) cause clash h is = told_stands r j s n cause clash h is
 
 pub clash_stands : (r : PlainRecording) → IsRecording r → (j : ℕ) (clash : Clash) → clash_of r j ≡ Some clash → IsOfStations r clash
@@ -239,19 +239,19 @@ abbrev Within : PlainRecording → List ℕ → Type 0
 Within r stations = AllByRecursion (λ s. s < length r.setting.stations) stations
 
 back_stands : (r : PlainRecording) (waits : List Wait) (s t n : ℕ) (ring : List ℕ) → AllByRecursion (IsOfWait r) waits → t < length r.setting.stations
-    → way_back waits s t n ≡ Some ring → Within r ring
-unfolding way_back
+    → waiting_path waits s t n ≡ Some ring → Within r ring
+unfolding waiting_path
 back_stands r waits s t zero ring all h is = absurd (cc)
 back_stands r waits s t (suc n) ring all h is =
-    elim (nat_eq t s) as (λ q. cond q (Some []) (cond (nat_lt s t) (option_and_then (λ (w : Wait). option_map (λ way. t ∷ way) (way_back waits s w.on n)) (wait_at waits t)) None) ≡ Some ring
+    elim (nat_eq t s) as (λ q. cond q (Some []) (cond (nat_lt s t) (option_and_then (λ (w : Wait). option_map (λ way. t ∷ way) (waiting_path waits s w.on n)) (wait_at waits t)) None) ≡ Some ring
     → Within r ring) [
       | true ↦ λ e. subst (Within r) (same_Some [] ring e) tt
-      | false ↦ λ e. elim (nat_lt s t) as (λ q. cond q (option_and_then (λ (w : Wait). option_map (λ way. t ∷ way) (way_back waits s w.on n)) (wait_at waits t)) None ≡ Some ring
+      | false ↦ λ e. elim (nat_lt s t) as (λ q. cond q (option_and_then (λ (w : Wait). option_map (λ way. t ∷ way) (waiting_path waits s w.on n)) (wait_at waits t)) None ≡ Some ring
           → Within r ring) [
             | false ↦ λ e. absurd (cc)
             | true ↦ λ e.
-                let one = behind (λ (w : Wait). option_map (λ way. t ∷ way) (way_back waits s w.on n)) (wait_at waits t) ring e in
-                let two = mapped (λ way. t ∷ way) (way_back waits s one.0.on n) ring one.2 in
+                let one = behind (λ (w : Wait). option_map (λ way. t ∷ way) (waiting_path waits s w.on n)) (wait_at waits t) ring e in
+                let two = mapped (λ way. t ∷ way) (waiting_path waits s one.0.on n) ring one.2 in
                 subst (Within r) two.2 (h, back_stands r waits s one.0.on n two.0 all (wait_found (IsOfWait r) waits t one.0 all one.1).1 two.1)
           ] e
     ] is
@@ -260,8 +260,8 @@ cycle_stands : (r : PlainRecording) (waits : List Wait) (s : ℕ) (ring : List �
     → cycle_at waits s ≡ Some ring → Within r ring
 unfolding cycle_at
 cycle_stands r waits s ring all h is =
-    let one = behind (λ (w : Wait). option_map (λ way. s ∷ way) (way_back waits s w.on MOST_STATIONS)) (wait_at waits s) ring is in
-    let two = mapped (λ way. s ∷ way) (way_back waits s one.0.on MOST_STATIONS) ring one.2 in
+    let one = behind (λ (w : Wait). option_map (λ way. s ∷ way) (waiting_path waits s w.on MOST_STATIONS)) (wait_at waits s) ring is in
+    let two = mapped (λ way. s ∷ way) (waiting_path waits s one.0.on MOST_STATIONS) ring one.2 in
     subst (Within r) two.2 (h, back_stands r waits s one.0.on MOST_STATIONS two.0 all (wait_found (IsOfWait r) waits s one.0 all one.1).1 two.1)
 
 cycles_stand : (r : PlainRecording) (waits : List Wait) (n : ℕ) → AllByRecursion (IsOfWait r) waits → n ≤ length r.setting.stations → All (Within r) (cycles_below waits n)
@@ -272,13 +272,13 @@ cycles_stand r waits (suc n) all h =
 
 -- ---- what else stands against entries, and what is missing
 
-also_stands : (r : PlainRecording) (blocks : List Block) (n : ℕ) → All (λ (a : Also). a.entry < n) (also_below r blocks n)
-unfolding also_below
+also_stands : (r : PlainRecording) (blocks : List Block) (n : ℕ) → All (λ (a : Also). a.entry < n) (further_causes_below r blocks n)
+unfolding further_causes_below
 also_stands r blocks zero = All-nil (λ (a : Also). a.entry < 0)
 also_stands r blocks (suc n) =
-    push_if (λ (a : Also). a.entry < suc n) (also_below r blocks n) (option_map (also_by n) (also_at r blocks n))
-    (All-weaker (λ (a : Also). a.entry < n) (λ (a : Also). a.entry < suc n) (λ a h. omega (arith, h)) (also_below r blocks n) (also_stands r blocks n))
-    (λ a is. let one = mapped (also_by n) (also_at r blocks n) a is in subst (λ (x : Also). x.entry < suc n) one.2 (omega arith))
+    push_if (λ (a : Also). a.entry < suc n) (further_causes_below r blocks n) (option_map (further_cause n) (further_cause_at r blocks n))
+    (All-weaker (λ (a : Also). a.entry < n) (λ (a : Also). a.entry < suc n) (λ a h. omega (arith, h)) (further_causes_below r blocks n) (also_stands r blocks n))
+    (λ a is. let one = mapped (further_cause n) (further_cause_at r blocks n) a is in subst (λ (x : Also). x.entry < suc n) one.2 (omega arith))
 
 sender_stands : (r : PlainRecording) (p : Pdu) (t : ℕ) → sender_of r p ≡ Some t → t < length r.setting.stations
 unfolding sender_of
@@ -306,13 +306,13 @@ missing_stands r i m is =
       | true ↦ λ e. let one = behind (missing_entry r i) (slice_get r.entries i) m e in entry_stands r i one.0 m one.2
     ] is
 
-lacks_stand : (r : PlainRecording) (n : ℕ) → All (λ (l : Lack). l.missing.sender < length r.setting.stations) (lacks_below r n)
-unfolding lacks_below
-lacks_stand r zero = All-nil (λ (l : Lack). l.missing.sender < length r.setting.stations)
+lacks_stand : (r : PlainRecording) (n : ℕ) → All (λ (l : MissingSend). l.missing.sender < length r.setting.stations) (missing_sends_below r n)
+unfolding missing_sends_below
+lacks_stand r zero = All-nil (λ (l : MissingSend). l.missing.sender < length r.setting.stations)
 lacks_stand r (suc n) =
-    push_if (λ (l : Lack). l.missing.sender < length r.setting.stations) (lacks_below r n) (lack_at r n) (lacks_stand r n)
-    (λ l is. let one = mapped (lack_by n) (missing_at r n) l is in
-    subst (λ (x : Lack). x.missing.sender < length r.setting.stations) one.2 (missing_stands r n one.0 one.1))
+    push_if (λ (l : MissingSend). l.missing.sender < length r.setting.stations) (missing_sends_below r n) (missing_send_at r n) (lacks_stand r n)
+    (λ l is. let one = mapped (missing_send_by n) (missing_at r n) l is in
+    subst (λ (x : MissingSend). x.missing.sender < length r.setting.stations) one.2 (missing_stands r n one.0 one.1))
 
 -- ---- all of it
 
@@ -335,22 +335,22 @@ conflict_stands r c limits is =
       ways = All-same (IsOfWayStations r) c.ways.items (ways_of r c.blocks.items) is.ways (ways_stand r limits c.blocks.items blocks);
       cycles = of_items r c.cycles.items (cycles_of r c.blocks.items) is.cycles
           (cycles_stand r (waits_of r c.blocks.items) (length r.setting.stations) (waits_stand r limits c.blocks.items blocks) (omega arith));
-      also = All-same (λ (a : Also). a.entry < length r.entries) c.also.items (all_also r c.blocks.items) is.also (also_stands r c.blocks.items (length r.entries));
-      lacks = All-same (λ (l : Lack). l.missing.sender < length r.setting.stations) c.lacks.items (lacks_of r) is.lacks (lacks_stand r (length r.entries));
+      also = All-same (λ (a : Also). a.entry < length r.entries) c.also.items (further_causes r c.blocks.items) is.also (also_stands r c.blocks.items (length r.entries));
+      lacks = All-same (λ (l : MissingSend). l.missing.sender < length r.setting.stations) c.lacks.items (missing_sends r) is.lacks (lacks_stand r (length r.entries));
     }
 
 -- ---- of a certificate
 
-event_stands : (r : PlainRecording) → IsRecording r → (steps : List Step) (place : ℕ) (clash : StepClash) → barred r steps place ≡ Some clash → IsOfStepStations r clash
+event_stands : (r : PlainRecording) → IsRecording r → (steps : List Step) (place : ℕ) (clash : StepClash) → event_clash r steps place ≡ Some clash → IsOfStepStations r clash
 event_stands r limits steps place clash is =
-    let one = mapped (barred_by steps place) (clash_of r place) clash is in
+    let one = mapped (event_clash_by steps place) (clash_of r place) clash is in
     subst (IsOfStepStations r) one.2 (clash_stands r limits place one.0 one.1)
 
 step_stands : (r : PlainRecording) → IsRecording r → (steps : List Step) (k : ℕ) (cause : Cause) (step : Step) (clash : StepClash) → step_clash r steps k cause step ≡ Some clash
     → IsOfStepStations r clash
 step_stands r limits steps k causes.NoSuchRecord step clash is = subst (IsOfStepStations r) (same_Some _ clash is) tt
 step_stands r limits steps k causes.OutOfOrder step clash is =
-    let one = mapped (disordered_by r steps k step.place) (slice_get r.entries step.place) clash is in
+    let one = mapped (out_of_order_by r steps k step.place) (slice_get r.entries step.place) clash is in
     subst (IsOfStepStations r) one.2 tt
 step_stands r limits steps k causes.BadLink step clash is = subst (IsOfStepStations r) (same_Some _ clash is) tt
 step_stands r limits steps k causes.CountDiffers step clash is = event_stands r limits steps step.place clash is

@@ -22,10 +22,10 @@ use Rattle.exercise_model.proofs.Offered.{first_found}
 use Rattle.exercise_findings.specs.Source.{source_of_bytes, source_of}
 use Rattle.exercise_findings.proofs.Offered.{source_here, same_first, no_first}
 use Rattle.exercise_findings.specs.Missing.{got_bytes, gets_bytes, missing_entry, missing_at}
-use Rattle.exercise_conflict.specs.declared.asks.Ask.{Ask}
+use Rattle.exercise_conflict.specs.declared.asks.ReceivedKey.{ReceivedKey}
 use Rattle.exercise_conflict.specs.declared.receipts.Datagram.{Datagram}
 use Rattle.exercise_conflict.specs.Clash.{meant_by_get, got_pdu}
-use Rattle.exercise_conflict.specs.Lacks.{same_datagram, Receipts, IsUnsent, AreReceipts, same_ask, ask_under, ask_of, ask_by, ask_at, has_ask, Asks, AreAsks, asked_under, lack_at, lacks_below}
+use Rattle.exercise_conflict.specs.Lacks.{same_datagram, Receipts, IsUnsent, AreReceipts, same_request_key, request_key_under, request_key_of, request_key_by, request_key_at, has_request_key, Asks, AreRequestKeys, asked_under, missing_send_at, missing_sends_below}
 use Rattle.exercise_conflict.proofs.Asking.{brings_is}
 
 -- ---- the first entry that passes
@@ -151,57 +151,57 @@ none_left (Some x) e = absurd (cc)
 pub nat_eq-comm : (a b : ℕ) → nat_eq a b ≡ nat_eq b a
 nat_eq-comm a b = grind (arith, nat_tests)
 
-ask_fields : (k l : Ask) → k.station ≡ l.station → k.request ≡ l.request → k.site ≡ l.site → k.application ≡ l.application → k ≡ l
+ask_fields : (k l : ReceivedKey) → k.station ≡ l.station → k.request ≡ l.request → k.site ≡ l.site → k.application ≡ l.application → k ≡ l
 ask_fields k l a b c d = rw (a, b, c, d) refl
 
 pub both : (a b : Bool) → (a && b) ≡ true → (a ≡ true) × (b ≡ true)
 both true b e = (refl, e)
 both false b e = absurd (cc)
 
-ask_equal : (k l : Ask) → same_ask k l ≡ true → k ≡ l
+ask_equal : (k l : ReceivedKey) → same_request_key k l ≡ true → k ≡ l
 ask_equal k l e =
     let one = both _ _ e in
     let two = both _ _ one.1 in
     let three = both _ _ two.1 in
     ask_fields k l (eqb-true _ _ one.0) (eqb-true _ _ two.0) (eqb-true _ _ three.0) (eqb-true _ _ three.1)
 
-ask-comm : (k l : Ask) → same_ask k l ≡ same_ask l k
+ask-comm : (k l : ReceivedKey) → same_request_key k l ≡ same_request_key l k
 ask-comm k l =
     ap (λ b. b && (nat_eq k.request l.request && (nat_eq k.site l.site && nat_eq k.application l.application))) (nat_eq-comm k.station l.station)
     ∙ ap (λ b. nat_eq l.station k.station && (b && (nat_eq k.site l.site && nat_eq k.application l.application))) (nat_eq-comm k.request l.request)
     ∙ ap (λ b. nat_eq l.station k.station && (nat_eq l.request k.request && (b && nat_eq k.application l.application))) (nat_eq-comm k.site l.site)
     ∙ ap (λ b. nat_eq l.station k.station && (nat_eq l.request k.request && (nat_eq l.site k.site && b))) (nat_eq-comm k.application l.application)
 
-pub no_asks : (r : PlainRecording) (asks : Asks) → ((k : Ask) → get same_ask asks k ≡ None) → AreAsks r 0 asks
-no_asks r asks none k = none k ∙ sym (none_kept (has_ask r k))
+pub no_request_keys : (r : PlainRecording) (asks : Asks) → ((k : ReceivedKey) → get same_request_key asks k ≡ None) → AreRequestKeys r 0 asks
+no_request_keys r asks none k = none k ∙ sym (none_kept (has_request_key r k))
 
-pub asks_still : (r : PlainRecording) (n : ℕ) (asks : Asks) → ask_at r n ≡ None → AreAsks r n asks → AreAsks r (n + 1) asks
-asks_still r n asks none tied k = kept_still (has_ask r k) n _ (ap (λ o. option_map_or (same_ask k) o false) none) (tied k)
+pub asks_still : (r : PlainRecording) (n : ℕ) (asks : Asks) → request_key_at r n ≡ None → AreRequestKeys r n asks → AreRequestKeys r (n + 1) asks
+asks_still r n asks none tied k = kept_still (has_request_key r k) n _ (ap (λ o. option_map_or (same_request_key k) o false) none) (tied k)
 
-pub asks_more : (r : PlainRecording) (n kept : ℕ) (ask : Ask) (old new : Asks) → ask_at r n ≡ Some ask → kept ≡ unwrap_or (get same_ask old ask) n
-    → ((k : Ask) → get same_ask new k ≡ (if same_ask ask k then Some kept else get same_ask old k)) → AreAsks r n old → AreAsks r (n + 1) new
+pub asks_more : (r : PlainRecording) (n kept : ℕ) (ask : ReceivedKey) (old new : Asks) → request_key_at r n ≡ Some ask → kept ≡ unwrap_or (get same_request_key old ask) n
+    → ((k : ReceivedKey) → get same_request_key new k ≡ (if same_request_key ask k then Some kept else get same_request_key old k)) → AreRequestKeys r n old → AreRequestKeys r (n + 1) new
 asks_more r n kept ask old new at first is tied k =
-    let here : has_ask r k n ≡ same_ask ask k = ap (λ o. option_map_or (same_ask k) o false) at ∙ ask-comm k ask in
+    let here : has_request_key r k n ≡ same_request_key ask k = ap (λ o. option_map_or (same_request_key k) o false) at ∙ ask-comm k ask in
     is k
-    ∙ elim (same_ask ask k) as (λ q. same_ask ask k ≡ q → cond q (Some kept) (get same_ask old k) ≡ first_below (has_ask r k) (n + 1)) [
-      | false ↦ λ apart. kept_still (has_ask r k) n _ (here ∙ apart) (tied k)
+    ∙ elim (same_request_key ask k) as (λ q. same_request_key ask k ≡ q → cond q (Some kept) (get same_request_key old k) ≡ first_below (has_request_key r k) (n + 1)) [
+      | false ↦ λ apart. kept_still (has_request_key r k) n _ (here ∙ apart) (tied k)
       | true ↦ λ same.
           ap Some first
-          ∙ kept_here (has_ask r k) n (get same_ask old ask) (here ∙ same) (tied ask ∙ ap (λ x. first_below (has_ask r x) n) (ask_equal ask k same))
+          ∙ kept_here (has_request_key r k) n (get same_request_key old ask) (here ∙ same) (tied ask ∙ ap (λ x. first_below (has_request_key r x) n) (ask_equal ask k same))
     ] refl
 
 -- ---- a request by its key is one that the answer could take up
 
 key_is : (s : ℕ) (a : Pair) (p q : Pdu) (id : ℕ) → request_id_of p.body ≡ Some id
-    → option_map_or (same_ask (asked_under s p id)) (ask_of s a q) false ≡ is_asked a p q
+    → option_map_or (same_request_key (asked_under s p id)) (request_key_of s a q) false ≡ is_asked a p q
 key_is s a p q id e =
-    elim (is_request_body q.body) as (λ t. option_map_or (same_ask (asked_under s p id)) (cond (t && is_addressed q.target a) (option_map (ask_under s q) (request_id_of q.body)) None) false
+    elim (is_request_body q.body) as (λ t. option_map_or (same_request_key (asked_under s p id)) (cond (t && is_addressed q.target a) (option_map (request_key_under s q) (request_id_of q.body)) None) false
     ≡ (t && (is_addressed q.target a && (same_id (Some id) (request_id_of q.body) && same_pair q.origin p.target)))) [
       | false ↦ refl
-      | true ↦ elim (is_addressed q.target a) as (λ t. option_map_or (same_ask (asked_under s p id)) (cond t (option_map (ask_under s q) (request_id_of q.body)) None) false
+      | true ↦ elim (is_addressed q.target a) as (λ t. option_map_or (same_request_key (asked_under s p id)) (cond t (option_map (request_key_under s q) (request_id_of q.body)) None) false
           ≡ (t && (same_id (Some id) (request_id_of q.body) && same_pair q.origin p.target))) [
             | false ↦ refl
-            | true ↦ elim (request_id_of q.body) as (λ o. option_map_or (same_ask (asked_under s p id)) (option_map (ask_under s q) o) false
+            | true ↦ elim (request_id_of q.body) as (λ o. option_map_or (same_request_key (asked_under s p id)) (option_map (request_key_under s q) o) false
                 ≡ (same_id (Some id) o && same_pair q.origin p.target)) [
                   | None ↦ refl
                   | Some j ↦ ap (λ b. b && (nat_eq id j && (nat_eq p.target.site q.origin.site && nat_eq p.target.application q.origin.application))) (eq-eqb s s refl)
@@ -213,20 +213,20 @@ key_is s a p q id e =
     ∙ ap (λ o. is_request_body q.body && (is_addressed q.target a && (same_id o (request_id_of q.body) && same_pair q.origin p.target))) (sym e)
 
 -- at another station none is
-key_apart : (s t : ℕ) (a : Pair) (p q : Pdu) (id : ℕ) → nat_eq t s ≡ false → option_map_or (same_ask (asked_under s p id)) (ask_of t a q) false ≡ false
+key_apart : (s t : ℕ) (a : Pair) (p q : Pdu) (id : ℕ) → nat_eq t s ≡ false → option_map_or (same_request_key (asked_under s p id)) (request_key_of t a q) false ≡ false
 key_apart s t a p q id far =
-    elim (is_request_body q.body && is_addressed q.target a) as (λ c. option_map_or (same_ask (asked_under s p id)) (cond c (option_map (ask_under t q) (request_id_of q.body)) None) false ≡ false) [
+    elim (is_request_body q.body && is_addressed q.target a) as (λ c. option_map_or (same_request_key (asked_under s p id)) (cond c (option_map (request_key_under t q) (request_id_of q.body)) None) false ≡ false) [
       | false ↦ refl
-      | true ↦ elim (request_id_of q.body) as (λ o. option_map_or (same_ask (asked_under s p id)) (option_map (ask_under t q) o) false ≡ false) [
+      | true ↦ elim (request_id_of q.body) as (λ o. option_map_or (same_request_key (asked_under s p id)) (option_map (request_key_under t q) o) false ≡ false) [
         | None ↦ refl
         | Some j ↦ ap (λ b. b && (nat_eq id j && (nat_eq p.target.site q.origin.site && nat_eq p.target.application q.origin.application))) (nat_eq-comm s t ∙ far)
       ]
     ]
 
-brings_ask : (r : PlainRecording) (s : ℕ) (p : Pdu) (id : ℕ) → request_id_of p.body ≡ Some id → (j : ℕ) → has_ask r (asked_under s p id) j ≡ brings_request r s p j
-unfolding ask_at got_pdu own_event
+brings_ask : (r : PlainRecording) (s : ℕ) (p : Pdu) (id : ℕ) → request_id_of p.body ≡ Some id → (j : ℕ) → has_request_key r (asked_under s p id) j ≡ brings_request r s p j
+unfolding request_key_at got_pdu own_event
 brings_ask r s p id e j =
-    elim (slice_get r.entries j) as (λ o. option_map_or (same_ask (asked_under s p id)) (option_and_then (ask_by r) o) false
+    elim (slice_get r.entries j) as (λ o. option_map_or (same_request_key (asked_under s p id)) (option_and_then (request_key_by r) o) false
     ≡ option_map_or (is_asked (station_at r s).address p) (option_and_then (meant_by_get r.setting.exercise) (option_and_then (λ y. event_at s (event_of y)) o)) false) [
       | None ↦ refl
       | Some y ↦ of_entry y
@@ -238,30 +238,30 @@ brings_ask r s p id e j =
     idle true v none = sym (ap (λ o. option_map_or (is_asked (station_at r s).address p) o false) none)
     idle false v none = refl
 
-    of_entry : (y : Entry) → option_map_or (same_ask (asked_under s p id)) (ask_by r y) false
+    of_entry : (y : Entry) → option_map_or (same_request_key (asked_under s p id)) (request_key_by r y) false
         ≡ option_map_or (is_asked (station_at r s).address p) (option_and_then (meant_by_get r.setting.exercise) (event_at s (event_of y))) false
     of_entry (Sent t stamp b) = idle (nat_eq t s) (Send t b) refl
     of_entry (Told t m y) = idle (nat_eq t s) (Tell t m y) refl
     of_entry (Received t stamp b) =
-        elim (nat_eq t s) as (λ c. nat_eq t s ≡ c → option_map_or (same_ask (asked_under s p id)) (option_and_then (ask_of t (station_at r t).address) (meaning r.setting.exercise b)) false
+        elim (nat_eq t s) as (λ c. nat_eq t s ≡ c → option_map_or (same_request_key (asked_under s p id)) (option_and_then (request_key_of t (station_at r t).address) (meaning r.setting.exercise b)) false
         ≡ option_map_or (is_asked (station_at r s).address p) (option_and_then (meant_by_get r.setting.exercise) (cond c (Some (Get t b)) None)) false) [
           | true ↦ λ same.
-              ap (λ k. option_map_or (same_ask (asked_under s p id)) (option_and_then (ask_of k (station_at r k).address) (meaning r.setting.exercise b)) false) (eqb-true t s same)
-              ∙ elim (meaning r.setting.exercise b) as (λ o. option_map_or (same_ask (asked_under s p id)) (option_and_then (ask_of s (station_at r s).address) o) false
+              ap (λ k. option_map_or (same_request_key (asked_under s p id)) (option_and_then (request_key_of k (station_at r k).address) (meaning r.setting.exercise b)) false) (eqb-true t s same)
+              ∙ elim (meaning r.setting.exercise b) as (λ o. option_map_or (same_request_key (asked_under s p id)) (option_and_then (request_key_of s (station_at r s).address) o) false
               ≡ option_map_or (is_asked (station_at r s).address p) o false) [
                 | None ↦ refl
                 | Some q ↦ key_is s (station_at r s).address p q id e
               ]
           | false ↦ λ far. elim (meaning r.setting.exercise b) as
-              (λ o. option_map_or (same_ask (asked_under s p id)) (option_and_then (ask_of t (station_at r t).address) o) false ≡ false) [
+              (λ o. option_map_or (same_request_key (asked_under s p id)) (option_and_then (request_key_of t (station_at r t).address) o) false ≡ false) [
                 | None ↦ refl
                 | Some q ↦ key_apart s t (station_at r t).address p q id far
               ]
         ] refl
 
 -- what is found under the key is what the answer takes up
-pub asked_is : (r : PlainRecording) (s : ℕ) (p : Pdu) (id : ℕ) (asks : Asks) → request_id_of p.body ≡ Some id → AreAsks r (length r.entries) asks
-    → get same_ask asks (asked_under s p id) ≡ entry_taken_up r s p (length r.entries)
+pub asked_is : (r : PlainRecording) (s : ℕ) (p : Pdu) (id : ℕ) (asks : Asks) → request_id_of p.body ≡ Some id → AreRequestKeys r (length r.entries) asks
+    → get same_request_key asks (asked_under s p id) ≡ entry_taken_up r s p (length r.entries)
 unfolding entry_taken_up
 asked_is r s p id asks e tied = tied (asked_under s p id) ∙ same_first _ _ (brings_ask r s p id e) (length r.entries)
 
@@ -283,10 +283,10 @@ unasked_is r s n p e = no_first _ (λ j. brings_is r s p j ∙ none (got_pdu r s
 
 -- ---- all that is missing, one entry more
 
-pub lacks_none : (r : PlainRecording) → lacks_below r 0 ≡ []
-unfolding lacks_below
+pub lacks_none : (r : PlainRecording) → missing_sends_below r 0 ≡ []
+unfolding missing_sends_below
 lacks_none r = refl
 
-pub lacks_more : (r : PlainRecording) (n : ℕ) → lacks_below r (n + 1) ≡ lacks_below r n ++ option_to_list (lack_at r n)
-unfolding lacks_below
-lacks_more r n = ap (lacks_below r) (add-one n)
+pub lacks_more : (r : PlainRecording) (n : ℕ) → missing_sends_below r (n + 1) ≡ missing_sends_below r n ++ option_to_list (missing_send_at r n)
+unfolding missing_sends_below
+lacks_more r n = ap (missing_sends_below r) (add-one n)

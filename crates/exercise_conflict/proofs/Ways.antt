@@ -9,7 +9,7 @@ use Rattle.exercise_model.specs.History.{Event, Send, event_of, station_of}
 use Rattle.exercise_model.specs.Place.{own_event}
 use Rattle.exercise_model.proofs.Offered.{entry_station}
 use Rattle.exercise_conflict.specs.declared.waits.Wait.{Wait}
-use Rattle.exercise_conflict.specs.Cycles.{wait_at, come_to, AreWaits, EndsAt, IsTold}
+use Rattle.exercise_conflict.specs.Cycles.{wait_at, station_reached, AreWaits, EndsAt, IsTold}
 use Rattle.exercise_conflict.proofs.Blocks.{own_entry}
 use Rattle.exercise_conflict.proofs.Rounds.{round_told}
 use Rattle.exercise_conflict.proofs.Twice.{meet}
@@ -17,7 +17,7 @@ use Rattle.exercise_conflict.proofs.Twice.{meet}
 -- so many steps come to a station that there is
 record Comes (r : PlainRecording) (waits : List Wait) (s n : ℕ) : Type 0 where
   pub station : ℕ
-  pub come : come_to waits s n ≡ Some station
+  pub come : station_reached waits s n ≡ Some station
   pub within : station < length r.setting.stations
 
 own_station : (r : PlainRecording) (s i : ℕ) (v : Event) → IsRecording r → own_event r s i ≡ Some v → s < length r.setting.stations
@@ -29,7 +29,7 @@ own_station r s i v limits own =
 -- the first steps come somewhere, or the way ends
 come_far : (r : PlainRecording) (waits : List Wait) (s : ℕ) → IsRecording r → AreWaits r waits → s < length r.setting.stations → (n : ℕ)
     → EndsAt waits s ⊎ ((k : ℕ) → k ≤ n → Comes r waits s k)
-unfolding come_to
+unfolding station_reached
 come_far r waits s limits hold within zero =
     inr (λ k le. let at : 0 ≡ k = omega (arith, le) in subst (Comes r waits s) at (record { station = s; come = refl; within = within }))
 come_far r waits s limits hold within (suc n) =
@@ -64,7 +64,7 @@ ways_end r waits s limits hold within =
     ⊎_elim
     (λ (ends : EndsAt waits s). inl ends)
     (λ (far : (k : ℕ) → k ≤ length r.setting.stations → Comes r waits s k).
-    let f : ℕ → ℕ = λ k. unwrap_or (come_to waits s k) 0 in
+    let f : ℕ → ℕ = λ k. unwrap_or (station_reached waits s k) 0 in
     let is : (k : ℕ) → (le : k ≤ length r.setting.stations) → f k ≡ (far k le).station = λ k le. ap (λ o. unwrap_or o 0) (far k le).come in
     let two = meet f (length r.setting.stations) (λ k le. subst (λ m. m < length r.setting.stations) (sym (is k le)) (far k le).within) in
     let early : two.first ≤ length r.setting.stations = omega (arith, two.later, two.within) in

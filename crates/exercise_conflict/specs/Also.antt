@@ -20,5 +20,5 @@ abbrev pub is_next_of : List Block → ℕ → Bool
 is_next_of blocks j = list_any (λ (b : Block). b.entry == j) blocks
 
 -- THE FURTHER CAUSE AGAINST ENTRY j, unless it is the next one of a blocked station
-unfoldable pub also_at : PlainRecording → List Block → ℕ → Option Cause
-also_at r blocks j = if is_next_of blocks j then None else standing_cause r j
+unfoldable pub further_cause_at : PlainRecording → List Block → ℕ → Option Cause
+further_cause_at r blocks j = if is_next_of blocks j then None else standing_cause r j

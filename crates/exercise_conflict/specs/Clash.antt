@@ -27,15 +27,15 @@ use Rattle.exercise_model.specs.Account.{pair_of_sent, sender_of}
 use Rattle.exercise_findings.specs.Source.{source_of}
 use Rattle.exercise_findings.specs.Tables.{own_cause}
 use Rattle.exercise_findings.specs.State.{state_before}
-use Rattle.exercise_conflict.specs.declared.field.Field.{Field}
-use Rattle.exercise_conflict.specs.declared.field.Field.TheVariants as fields
+use Rattle.exercise_conflict.specs.declared.field.PduField.{PduField}
+use Rattle.exercise_conflict.specs.declared.field.PduField.TheVariants as fields
 use Rattle.exercise_conflict.specs.declared.clash.Clash.{Clash}
 use Rattle.exercise_conflict.specs.declared.clash.Clash.TheVariants as clashes
-use Rattle.exercise_conflict.specs.declared.clash.Unfit.{Unfit}
-use Rattle.exercise_conflict.specs.declared.clash.Unfit.TheVariants as unfit
+use Rattle.exercise_conflict.specs.declared.clash.AnswerMismatch.{AnswerMismatch}
+use Rattle.exercise_conflict.specs.declared.clash.AnswerMismatch.TheVariants as unfit
 use Rattle.exercise_conflict.specs.Difference.{order_difference, pdu_difference}
 use Rattle.exercise_conflict.specs.Earlier.{sent_pdu, earlier_sent}
-use Rattle.exercise_conflict.specs.Since.{made_since}
+use Rattle.exercise_conflict.specs.Since.{last_change_entry}
 
 -- ---- other entries
 
@@ -71,8 +71,8 @@ unfoldable pub asks_at : PlainRecording → Pdu → ℕ → Bool
 asks_at r p i = option_map_or (asks_by r p) (slice_get r.entries i) false
 
 -- the receiver of the answer p is the station at this address
-abbrev pub goes_to : Pair → Pdu → Bool
-goes_to a p = is_from a (record p { origin = p.target })
+abbrev pub is_sent_to : Pair → Pdu → Bool
+is_sent_to a p = is_from a (record p { origin = p.target })
 
 -- the recorded station that p is sent to
 abbrev pub asker_of : PlainRecording → Pdu → Option ℕ
@@ -81,48 +81,48 @@ asker_of r p = sender_of r (record p { origin = p.target })
 -- ---- sends
 
 -- the contradiction of a reused identifier, given the earlier request at entry k
-abbrev pub reused_at : PlainRecording → ℕ → Pdu → ℕ → Option Clash
-reused_at r s p k = option_map (clashes.ReusedIdentifier k) (option_and_then (order_difference p) (sent_pdu r s k))
+abbrev pub reused_clash : PlainRecording → ℕ → Pdu → ℕ → Option Clash
+reused_clash r s p k = option_map (clashes.ReusedIdentifier k) (option_and_then (order_difference p) (sent_pdu r s k))
 
 -- why the answer p does not answer the request q that it takes up
-abbrev pub unfit_of : Pdu → Pdu → Unfit
-unfit_of p q = if matches_kind p.body (body_kind q.body) then unfit.Entity else unfit.Kind
+abbrev pub answer_mismatch : Pdu → Pdu → AnswerMismatch
+answer_mismatch p q = if matches_kind p.body (body_kind q.body) then unfit.Entity else unfit.Kind
 
-abbrev pub wrong_at : PlainRecording → ℕ → Pdu → ℕ → Option Clash
-wrong_at r s p k = option_map (λ q. clashes.WrongAnswer k (unfit_of p q)) (got_pdu r s k)
+abbrev pub wrong_answer_clash : PlainRecording → ℕ → Pdu → ℕ → Option Clash
+wrong_answer_clash r s p k = option_map (λ q. clashes.WrongAnswer k (answer_mismatch p q)) (got_pdu r s k)
 
 -- the entity number of all entities
 abbrev pub all_entities : ℕ
 all_entities = 0xFFFF
 
 -- the state under a number before entry j, if an entity can have the number
-abbrev pub state_told : PlainRecording → ℕ → ℕ → ℕ → Option EntityState
-state_told r s n j = if is_entity n then Some (state_before r s n j) else None
+abbrev pub state_found : PlainRecording → ℕ → ℕ → ℕ → Option EntityState
+state_found r s n j = if is_entity n then Some (state_before r s n j) else None
 
 -- the contradiction of an impossible change of this scope, before entry j of station s
-abbrev pub hopeless_for : PlainRecording → ℕ → ℕ → ℕ → Scope → Clash
-hopeless_for r s j k (One n) = clashes.Impossible k s n (state_told r s n j) (made_since r s n j)
-hopeless_for r s j k All = clashes.Impossible k s all_entities None None
+abbrev pub hopeless_scope_clash : PlainRecording → ℕ → ℕ → ℕ → Scope → Clash
+hopeless_scope_clash r s j k (One n) = clashes.Impossible k s n (state_found r s n j) (last_change_entry r s n j)
+hopeless_scope_clash r s j k All = clashes.Impossible k s all_entities None None
 
-abbrev pub hopeless_by : PlainRecording → ℕ → ℕ → Pdu → ℕ → Pdu → Option Clash
-hopeless_by r s j p k q = option_map (λ (c : Change). hopeless_for r s j k c.scope) (carried_out p q)
+abbrev pub hopeless_clash : PlainRecording → ℕ → ℕ → Pdu → ℕ → Pdu → Option Clash
+hopeless_clash r s j p k q = option_map (λ (c : Change). hopeless_scope_clash r s j k c.scope) (carried_out p q)
 
-abbrev pub impossible_at : PlainRecording → ℕ → ℕ → Pdu → ℕ → Option Clash
-impossible_at r s j p k = option_and_then (hopeless_by r s j p k) (got_pdu r s k)
+abbrev pub impossible_clash : PlainRecording → ℕ → ℕ → Pdu → ℕ → Option Clash
+impossible_clash r s j p k = option_and_then (hopeless_clash r s j p k) (got_pdu r s k)
 
 -- an answer without a request: the first request for it that the station received at any place, that it overheard before, and that the receiver of the answer sent
-abbrev pub unasked_for : PlainRecording → ℕ → ℕ → Pdu → Clash
-unasked_for r s j p = clashes.NoRequest (entry_taken_up r s p (length r.entries)) (first_below (overhears_at r s p) j) (first_below (asks_at r p) (length r.entries))
+abbrev pub unasked_clash : PlainRecording → ℕ → ℕ → Pdu → Clash
+unasked_clash r s j p = clashes.NoRequest (entry_taken_up r s p (length r.entries)) (first_below (overhears_at r s p) j) (first_below (asks_at r p) (length r.entries))
 
 -- the contradiction of p, sent by station s at entry j, for this cause against it
-abbrev pub clash_sent : PlainRecording → ℕ → ℕ → Cause → Pdu → Option Clash
-clash_sent r j s causes.WrongSender p = Some (clashes.WrongSender p.origin s)
-clash_sent r j s causes.ReusedIdentifier p = option_and_then (reused_at r s p) (earlier_sent r j s causes.ReusedIdentifier p)
-clash_sent r j s causes.NoRequest p = Some (unasked_for r s j p)
-clash_sent r j s causes.WrongAnswer p = option_and_then (wrong_at r s p) (earlier_sent r j s causes.WrongAnswer p)
-clash_sent r j s causes.ChangedAnswer p = option_map clashes.ChangedAnswer (earlier_sent r j s causes.ChangedAnswer p)
-clash_sent r j s causes.Impossible p = option_and_then (impossible_at r s j p) (pair_of_sent r s j p)
-clash_sent r j s cause p = None
+abbrev pub send_clash : PlainRecording → ℕ → ℕ → Cause → Pdu → Option Clash
+send_clash r j s causes.WrongSender p = Some (clashes.WrongSender p.origin s)
+send_clash r j s causes.ReusedIdentifier p = option_and_then (reused_clash r s p) (earlier_sent r j s causes.ReusedIdentifier p)
+send_clash r j s causes.NoRequest p = Some (unasked_clash r s j p)
+send_clash r j s causes.WrongAnswer p = option_and_then (wrong_answer_clash r s p) (earlier_sent r j s causes.WrongAnswer p)
+send_clash r j s causes.ChangedAnswer p = option_map clashes.ChangedAnswer (earlier_sent r j s causes.ChangedAnswer p)
+send_clash r j s causes.Impossible p = option_and_then (impossible_clash r s j p) (pair_of_sent r s j p)
+send_clash r j s cause p = None
 
 -- ---- receipts
 
@@ -141,42 +141,42 @@ abbrev pub near_of : PlainRecording → Pdu → Option ℕ
 near_of r p = option_and_then (λ t. first_below (sends_near_at r t p) (length r.entries)) (sender_of r p)
 
 -- the differing field, or Padding if no field differs
-abbrev pub or_padding : Option Field → Field
-or_padding (Some field) = field
-or_padding None = fields.Padding
+abbrev pub field_or_padding : Option PduField → PduField
+field_or_padding (Some field) = field
+field_or_padding None = fields.Padding
 
 -- the first field in which a datagram of the bytes b, which means p, differs from the one that an entry sends; none if the bytes are equal
-abbrev pub differs_from : PlainRecording → List ℕ → Pdu → Entry → Option Field
-differs_from r b p (Sent t stamp c) = if bytes_eq b c then None else option_map (λ q. or_padding (pdu_difference p q)) (meaning r.setting.exercise c)
+abbrev pub differs_from : PlainRecording → List ℕ → Pdu → Entry → Option PduField
+differs_from r b p (Sent t stamp c) = if bytes_eq b c then None else option_map (λ q. field_or_padding (pdu_difference p q)) (meaning r.setting.exercise c)
 differs_from r b p (Received t stamp c) = None
 differs_from r b p (Told t e y) = None
 
-abbrev pub differs_at : PlainRecording → List ℕ → Pdu → ℕ → Option Field
+abbrev pub differs_at : PlainRecording → List ℕ → Pdu → ℕ → Option PduField
 differs_at r b p k = option_and_then (differs_from r b p) (slice_get r.entries k)
 
 -- a datagram that was never sent: its source, its sender's first similar send, and in which field they differ
-abbrev pub unsent_by : PlainRecording → ℕ → List ℕ → Pdu → Clash
-unsent_by r j b p = clashes.NeverSent p.origin (source_of r j) (near_of r p) (option_and_then (differs_at r b p) (near_of r p))
+abbrev pub unsent_clash : PlainRecording → ℕ → List ℕ → Pdu → Clash
+unsent_clash r j b p = clashes.NeverSent p.origin (source_of r j) (near_of r p) (option_and_then (differs_at r b p) (near_of r p))
 
 -- the contradiction of an entry j that receives the bytes b, which mean p, for this cause against it
-abbrev pub clash_got : PlainRecording → ℕ → List ℕ → Cause → Pdu → Option Clash
-clash_got r j b causes.Stranger p = Some (clashes.Stranger p.origin)
-clash_got r j b causes.NeverSent p = Some (unsent_by r j b p)
-clash_got r j b cause p = None
+abbrev pub receipt_clash : PlainRecording → ℕ → List ℕ → Cause → Pdu → Option Clash
+receipt_clash r j b causes.Stranger p = Some (clashes.Stranger p.origin)
+receipt_clash r j b causes.NeverSent p = Some (unsent_clash r j b p)
+receipt_clash r j b cause p = None
 
 -- ---- told states
 
 -- the real state of the entity, and the change that made it
-abbrev pub clash_told : PlainRecording → ℕ → ℕ → ℕ → Cause → Option Clash
-clash_told r j s n causes.WrongState = Some (clashes.WrongState s n (state_before r s n j) (made_since r s n j))
-clash_told r j s n cause = None
+abbrev pub told_state_clash : PlainRecording → ℕ → ℕ → ℕ → Cause → Option Clash
+told_state_clash r j s n causes.WrongState = Some (clashes.WrongState s n (state_before r s n j) (last_change_entry r s n j))
+told_state_clash r j s n cause = None
 
 -- ---- entries
 
 abbrev pub clash_by : PlainRecording → ℕ → Entry → Cause → Option Clash
-clash_by r j (Sent s stamp b) cause = option_and_then (clash_sent r j s cause) (meaning r.setting.exercise b)
-clash_by r j (Received s stamp b) cause = option_and_then (clash_got r j b cause) (meaning r.setting.exercise b)
-clash_by r j (Told s n y) cause = clash_told r j s n cause
+clash_by r j (Sent s stamp b) cause = option_and_then (send_clash r j s cause) (meaning r.setting.exercise b)
+clash_by r j (Received s stamp b) cause = option_and_then (receipt_clash r j b cause) (meaning r.setting.exercise b)
+clash_by r j (Told s n y) cause = told_state_clash r j s n cause
 
 abbrev pub clash_of_entry : PlainRecording → ℕ → Entry → Option Clash
 clash_of_entry r j e = option_and_then (clash_by r j e) (own_cause r j)

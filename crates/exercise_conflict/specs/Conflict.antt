@@ -9,9 +9,9 @@ use Rattle.exercise_model.specs.Recording.{PlainRecording}
 use Rattle.exercise_model.specs.Meaning.{meaning}
 use Rattle.exercise_model.specs.Account.{sender_of}
 use Rattle.exercise_findings.specs.State.{state_before}
-use Rattle.exercise_conflict.specs.declared.field.Field.{Field}
+use Rattle.exercise_conflict.specs.declared.field.PduField.{PduField}
 use Rattle.exercise_conflict.specs.declared.clash.Clash.TheVariants as clashes
-use Rattle.exercise_conflict.specs.declared.clash.Unfit.{Unfit}
+use Rattle.exercise_conflict.specs.declared.clash.AnswerMismatch.{AnswerMismatch}
 use Rattle.exercise_conflict.specs.Clash.{clash_of}
 use Rattle.exercise_conflict.specs.Earlier.{Contradicts, ContradictsAnswer}
 use Rattle.exercise_conflict.specs.Needed.{HasSend}
@@ -25,14 +25,14 @@ IsMadeBy r s n j None = HasOneState r s n 0 j
 -- A REUSED IDENTIFIER: a different request was sent under it earlier, and after that alone the entry has its cause
 pub record ClashesByOrder (r : PlainRecording) (j : ℕ) : Type 0 where
   pub earlier : ℕ
-  pub field : Field
+  pub field : PduField
   pub told : clash_of r j ≡ Some (clashes.ReusedIdentifier earlier field)
   pub conflict : Contradicts r j earlier ReusedIdentifier
 
 -- A WRONG ANSWER: after the request that it takes up alone the entry has its cause
 pub record ClashesByAnswer (r : PlainRecording) (j : ℕ) : Type 0 where
   pub earlier : ℕ
-  pub why : Unfit
+  pub why : AnswerMismatch
   pub told : clash_of r j ≡ Some (clashes.WrongAnswer earlier why)
   pub conflict : Contradicts r j earlier WrongAnswer
 
@@ -76,6 +76,6 @@ pub record ClashesBySend (r : PlainRecording) (j : ℕ) : Type 0 where
   pub from : EntityId
   pub sent : Option ℕ
   pub near : Option ℕ
-  pub differs : Option Field
+  pub differs : Option PduField
   pub told : clash_of r j ≡ Some (clashes.NeverSent from sent near differs)
   pub lacks : sent ≡ None → (t : ℕ) → sender_of r pdu ≡ Some t → HasSend r t bytes → ⊥

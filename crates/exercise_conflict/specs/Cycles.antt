@@ -12,20 +12,20 @@ wait_at (w ∷ waits) s = if w.station == s then Some w else wait_at waits s
 
 -- the stations from t on, each waiting for the next, up to the one that waits for s; none if s is not reached within n steps, or a station before it does
 -- not wait or is below s
-unfoldable pub way_back : List Wait → ℕ → ℕ → ℕ → Option (List ℕ)
-way_back waits s t zero = None
-way_back waits s t (suc n) =
+unfoldable pub waiting_path : List Wait → ℕ → ℕ → ℕ → Option (List ℕ)
+waiting_path waits s t zero = None
+waiting_path waits s t (suc n) =
     if t == s then Some []
-    else (if nat_lt s t then option_and_then (λ w. option_map (λ way. t ∷ way) (way_back waits s w.on n)) (wait_at waits t) else None)
+    else (if nat_lt s t then option_and_then (λ w. option_map (λ way. t ∷ way) (waiting_path waits s w.on n)) (wait_at waits t) else None)
 
 -- THE CYCLE AT A STATION: the stations from s on, each waiting for the next and the last for s, where s is the lowest of them; none if there is no such cycle
 unfoldable pub cycle_at : List Wait → ℕ → Option (List ℕ)
-cycle_at waits s = option_and_then (λ w. option_map (λ way. s ∷ way) (way_back waits s w.on MOST_STATIONS)) (wait_at waits s)
+cycle_at waits s = option_and_then (λ w. option_map (λ way. s ∷ way) (waiting_path waits s w.on MOST_STATIONS)) (wait_at waits s)
 
 -- the path back to s, if it exists, was appended
-abbrev pub IsWayBack : List Wait → ℕ → ℕ → List ℕ → List ℕ → Bool → Type 0
-IsWayBack waits s t old new true = (way : List ℕ) × (way_back waits s t MOST_STATIONS ≡ Some way) × (new ≡ old ++ way)
-IsWayBack waits s t old new false = way_back waits s t MOST_STATIONS ≡ None
+abbrev pub IsWaitingPath : List Wait → ℕ → ℕ → List ℕ → List ℕ → Bool → Type 0
+IsWaitingPath waits s t old new true = (way : List ℕ) × (waiting_path waits s t MOST_STATIONS ≡ Some way) × (new ≡ old ++ way)
+IsWaitingPath waits s t old new false = waiting_path waits s t MOST_STATIONS ≡ None
 
 -- WAITS THAT HOLD: each is true of the logs, and if the station waited for waits too, `next` is the entry of that wait
 pub record AreWaits (r : PlainRecording) (waits : List Wait) : Type 0 where
@@ -35,31 +35,31 @@ pub record AreWaits (r : PlainRecording) (waits : List Wait) : Type 0 where
 -- ---- ends of ways
 
 -- the station reached from s by this many steps, each to the station waited for; none if one of them does not wait
-unfoldable pub come_to : List Wait → ℕ → ℕ → Option ℕ
-come_to waits s zero = Some s
-come_to waits s (suc n) = option_and_then (λ t. option_map (λ (w : Wait). w.on) (wait_at waits t)) (come_to waits s n)
+unfoldable pub station_reached : List Wait → ℕ → ℕ → Option ℕ
+station_reached waits s zero = Some s
+station_reached waits s (suc n) = option_and_then (λ t. option_map (λ (w : Wait). w.on) (wait_at waits t)) (station_reached waits s n)
 
 -- the way from s ends at a station that waits for nobody
 pub record EndsAt (waits : List Wait) (s : ℕ) : Type 0 where
   pub steps : ℕ
   pub station : ℕ
-  pub come : come_to waits s steps ≡ Some station
+  pub come : station_reached waits s steps ≡ Some station
   pub none : wait_at waits station ≡ None
 
 -- the way from s reaches one station twice within MOST_STATIONS steps, and so is circular
-pub record GoesRound (waits : List Wait) (s : ℕ) : Type 0 where
+pub record IsCircular (waits : List Wait) (s : ℕ) : Type 0 where
   pub first : ℕ
   pub second : ℕ
   pub station : ℕ
   pub later : first < second
   pub soon : second ≤ MOST_STATIONS
-  pub come : come_to waits s first ≡ Some station
-  pub again : come_to waits s second ≡ Some station
+  pub come : station_reached waits s first ≡ Some station
+  pub again : station_reached waits s second ≡ Some station
 
 -- the way from s reaches a station with a cycle
 pub record IsTold (waits : List Wait) (s : ℕ) : Type 0 where
   pub steps : ℕ
   pub station : ℕ
-  pub come : come_to waits s steps ≡ Some station
+  pub come : station_reached waits s steps ≡ Some station
   pub cycle : List ℕ
   pub told : cycle_at waits station ≡ Some cycle

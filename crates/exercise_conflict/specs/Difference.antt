@@ -11,11 +11,11 @@ use Rattle.siman_pdus.specs.DatumLists.{same_fixed}
 use Rattle.siman_pdus.specs.Role.{request_id_of}
 use Rattle.siman_pdus.specs.Same.{same_time, same_entity, is_same_order}
 use Rattle.siman_pdus.specs.Spelling.{body_kind}
-use Rattle.exercise_conflict.specs.declared.field.Field.{Field}
-use Rattle.exercise_conflict.specs.declared.field.Field.TheVariants as fields
+use Rattle.exercise_conflict.specs.declared.field.PduField.{PduField}
+use Rattle.exercise_conflict.specs.declared.field.PduField.TheVariants as fields
 
 -- the field if it differs, else the rest
-abbrev pub unless_same : Bool → Field → Option Field → Option Field
+abbrev pub unless_same : Bool → PduField → Option PduField → Option PduField
 unless_same same field rest = if same then rest else Some field
 
 -- two request identifiers are equal, or both are absent
@@ -26,7 +26,7 @@ same_request None (Some other) = false
 same_request (Some id) (Some other) = id == other
 
 -- the first difference in times and in the fields that accompany them
-abbrev pub time_difference : Body → Body → Option Field
+abbrev pub time_difference : Body → Body → Option PduField
 time_difference (StartResume real sim request) (StartResume real' sim' request') =
     unless_same (same_time real real') fields.Real (unless_same (same_time sim sim') fields.Sim None)
 time_difference (StopFreeze real reason behaviour request) (StopFreeze real' reason' behaviour' request') =
@@ -34,7 +34,7 @@ time_difference (StopFreeze real reason behaviour request) (StopFreeze real' rea
 time_difference body other = None
 
 -- the first difference in numbers that only one kind has
-abbrev pub number_difference : Body → Body → Option Field
+abbrev pub number_difference : Body → Body → Option PduField
 number_difference (Acknowledge flag response request) (Acknowledge flag' response' request') =
     unless_same (flag == flag') fields.Flag (unless_same (response == response') fields.Response None)
 number_difference (ActionRequest request action datums) (ActionRequest request' action' datums') = unless_same (action == action') fields.Action None
@@ -67,12 +67,12 @@ same_ids_if (Some d) (Some e) = pointwise ◌==◌ d e
 same_ids_if d e = true
 
 -- the first difference, else the rest
-abbrev pub or_else : Option Field → Option Field → Option Field
+abbrev pub or_else : Option PduField → Option PduField → Option PduField
 or_else (Some field) rest = Some field
 or_else None rest = rest
 
 -- the first difference of two bodies of one kind; if no other field differs and the bodies are not equal, it is the variable datum records
-abbrev pub body_difference : Body → Body → Bool → Option Field
+abbrev pub body_difference : Body → Body → Bool → Option PduField
 body_difference p q same =
     unless_same (same_request (request_id_of p) (request_id_of q)) fields.Request
     (or_else (time_difference p q)
@@ -81,11 +81,11 @@ body_difference p q same =
     (unless_same (same_ids_if (fixed_ids_of p) (fixed_ids_of q)) fields.Fixed
     (unless_same same fields.Variable None)))))
 
-unfoldable pub inner_difference : Pdu → Pdu → Option Field
+unfoldable pub inner_difference : Pdu → Pdu → Option PduField
 inner_difference p q = body_difference p.body q.body (is_same_order p q)
 
 -- THE FIRST DIFFERENCE of two orders: none if they are equal; timestamps and status are ignored
-unfoldable pub order_difference : Pdu → Pdu → Option Field
+unfoldable pub order_difference : Pdu → Pdu → Option PduField
 order_difference p q =
     unless_same (same_version p.version q.version) fields.Version
     (unless_same (kind_code (body_kind p.body) == kind_code (body_kind q.body)) fields.Kind
@@ -94,7 +94,7 @@ order_difference p q =
     (inner_difference p q))))
 
 -- THE FIRST DIFFERENCE of two PDUs, including timestamps and status
-unfoldable pub pdu_difference : Pdu → Pdu → Option Field
+unfoldable pub pdu_difference : Pdu → Pdu → Option PduField
 pdu_difference p q =
     unless_same (same_version p.version q.version) fields.Version
     (unless_same (p.stamp == q.stamp) fields.Time

@@ -1,10 +1,10 @@
 -- The names of the fields in which datagrams can differ (profile).
 use Rattle.std.specs.Prelude.{ℕ, List, codes}
-use Rattle.exercise_conflict.specs.declared.field.Field.{Field}
-use Rattle.exercise_conflict.specs.declared.field.Field.TheVariants as fields
+use Rattle.exercise_conflict.specs.declared.field.PduField.{PduField}
+use Rattle.exercise_conflict.specs.declared.field.PduField.TheVariants as fields
 
 -- the name of a field: the key that it has in the row of a PDU
-abbrev pub field_text : Field → List ℕ
+abbrev pub field_text : PduField → List ℕ
 field_text fields.Version = codes "version"
 field_text fields.Time = codes "time"
 field_text fields.Status = codes "status"

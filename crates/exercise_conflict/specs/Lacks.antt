@@ -16,25 +16,25 @@ use Rattle.exercise_model.specs.Place.{first_below}
 use Rattle.exercise_findings.specs.Source.{source_of_bytes}
 use Rattle.exercise_findings.specs.Missing.{gets_bytes, missing_at}
 use Rattle.exercise_findings.specs.declared.missing.Missing.{Missing}
-use Rattle.exercise_conflict.specs.declared.asks.Ask.{Ask}
-use Rattle.exercise_conflict.specs.declared.lacks.Lack.{Lack}
+use Rattle.exercise_conflict.specs.declared.asks.ReceivedKey.{ReceivedKey}
+use Rattle.exercise_conflict.specs.declared.lacks.MissingSend.{MissingSend}
 use Rattle.exercise_conflict.specs.declared.receipts.Datagram.{Datagram}
 
 -- the missing send that entry i reveals
-abbrev pub lack_by : ℕ → Missing → Lack
-lack_by i m = record { entry = i; missing = m }
+abbrev pub missing_send_by : ℕ → Missing → MissingSend
+missing_send_by i m = record { entry = i; missing = m }
 
-abbrev pub lack_at : PlainRecording → ℕ → Option Lack
-lack_at r i = option_map (lack_by i) (missing_at r i)
+abbrev pub missing_send_at : PlainRecording → ℕ → Option MissingSend
+missing_send_at r i = option_map (missing_send_by i) (missing_at r i)
 
 -- the missing sends that the entries below n reveal
-unfoldable pub lacks_below : PlainRecording → ℕ → List Lack
-lacks_below r zero = []
-lacks_below r (suc n) = lacks_below r n ++ option_to_list (lack_at r n)
+unfoldable pub missing_sends_below : PlainRecording → ℕ → List MissingSend
+missing_sends_below r zero = []
+missing_sends_below r (suc n) = missing_sends_below r n ++ option_to_list (missing_send_at r n)
 
 -- ALL SENDS THAT THE LOGS LACK, each revealed by its first receipt, by rising entries
-abbrev pub lacks_of : PlainRecording → List Lack
-lacks_of r = lacks_below r (length r.entries)
+abbrev pub missing_sends : PlainRecording → List MissingSend
+missing_sends r = missing_sends_below r (length r.entries)
 
 -- ---- index of the first receipt of each datagram
 
@@ -57,37 +57,37 @@ AreReceipts r n receipts = (d : Datagram) → IsUnsent r d → get same_datagram
 -- ---- index of the first receipt of each request
 
 -- two look-up keys are equal: station, identifier, and the sender's site and application
-abbrev pub same_ask : Ask → Ask → Bool
-same_ask k l = (k.station == l.station) && ((k.request == l.request) && ((k.site == l.site) && (k.application == l.application)))
+abbrev pub same_request_key : ReceivedKey → ReceivedKey → Bool
+same_request_key k l = (k.station == l.station) && ((k.request == l.request) && ((k.site == l.site) && (k.application == l.application)))
 
 -- look-up key of q, received by station s at a, if it is a request to the station
-abbrev pub ask_under : ℕ → Pdu → ℕ → Ask
-ask_under s q id = record { station = s; request = id; site = q.origin.site; application = q.origin.application }
+abbrev pub request_key_under : ℕ → Pdu → ℕ → ReceivedKey
+request_key_under s q id = record { station = s; request = id; site = q.origin.site; application = q.origin.application }
 
-abbrev pub ask_of : ℕ → Pair → Pdu → Option Ask
-ask_of s a q = if is_request_body q.body && is_addressed q.target a then option_map (ask_under s q) (request_id_of q.body) else None
+abbrev pub request_key_of : ℕ → Pair → Pdu → Option ReceivedKey
+request_key_of s a q = if is_request_body q.body && is_addressed q.target a then option_map (request_key_under s q) (request_id_of q.body) else None
 
-abbrev pub ask_by : PlainRecording → Entry → Option Ask
-ask_by r (Sent s stamp b) = None
-ask_by r (Received s stamp b) = option_and_then (ask_of s (station_at r s).address) (meaning r.setting.exercise b)
-ask_by r (Told s e y) = None
+abbrev pub request_key_by : PlainRecording → Entry → Option ReceivedKey
+request_key_by r (Sent s stamp b) = None
+request_key_by r (Received s stamp b) = option_and_then (request_key_of s (station_at r s).address) (meaning r.setting.exercise b)
+request_key_by r (Told s e y) = None
 
 -- look-up key of entry i
-unfoldable pub ask_at : PlainRecording → ℕ → Option Ask
-ask_at r i = option_and_then (ask_by r) (slice_get r.entries i)
+unfoldable pub request_key_at : PlainRecording → ℕ → Option ReceivedKey
+request_key_at r i = option_and_then (request_key_by r) (slice_get r.entries i)
 
 -- entry i has look-up key k
-abbrev pub has_ask : PlainRecording → Ask → ℕ → Bool
-has_ask r k i = option_map_or (same_ask k) (ask_at r i) false
+abbrev pub has_request_key : PlainRecording → ReceivedKey → ℕ → Bool
+has_request_key r k i = option_map_or (same_request_key k) (request_key_at r i) false
 
 -- the index of received requests
 abbrev pub Asks : Type 0
-Asks = IndexMap Ask ℕ (BuildHasherDefault DefaultHasher)
+Asks = IndexMap ReceivedKey ℕ (BuildHasherDefault DefaultHasher)
 
 -- THE TIE: the index holds, under each key, the first entry below n with that key
-abbrev pub AreAsks : PlainRecording → ℕ → Asks → Type 0
-AreAsks r n asks = (k : Ask) → get same_ask asks k ≡ first_below (has_ask r k) n
+abbrev pub AreRequestKeys : PlainRecording → ℕ → Asks → Type 0
+AreRequestKeys r n asks = (k : ReceivedKey) → get same_request_key asks k ≡ first_below (has_request_key r k) n
 
 -- look-up key of the requests that the answer p of station s could take up
-abbrev pub asked_under : ℕ → Pdu → ℕ → Ask
+abbrev pub asked_under : ℕ → Pdu → ℕ → ReceivedKey
 asked_under s p id = record { station = s; request = id; site = p.target.site; application = p.target.application }

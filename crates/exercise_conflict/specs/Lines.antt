@@ -11,12 +11,12 @@ use Rattle.exercise_model.specs.Recording.{PlainRecording}
 use Rattle.exercise_model.specs.History.{station_at}
 use Rattle.exercise_conflict.specs.declared.clash.Clash.{Clash}
 use Rattle.exercise_conflict.specs.declared.clash.Clash.TheVariants as clashes
-use Rattle.exercise_conflict.specs.declared.clash.Unfit.{Unfit}
-use Rattle.exercise_conflict.specs.declared.clash.Unfit.TheVariants as unfit
-use Rattle.exercise_conflict.specs.declared.fault.Fault.{Fault}
-use Rattle.exercise_conflict.specs.declared.fault.Fault.TheVariants as faults
-use Rattle.exercise_conflict.specs.declared.field.Field.{Field as Difference}
-use Rattle.exercise_conflict.specs.declared.lacks.Lack.{Lack}
+use Rattle.exercise_conflict.specs.declared.clash.AnswerMismatch.{AnswerMismatch}
+use Rattle.exercise_conflict.specs.declared.clash.AnswerMismatch.TheVariants as unfit
+use Rattle.exercise_conflict.specs.declared.blame.Blame.{Blame}
+use Rattle.exercise_conflict.specs.declared.blame.Blame.TheVariants as faults
+use Rattle.exercise_conflict.specs.declared.field.PduField.{PduField as Difference}
+use Rattle.exercise_conflict.specs.declared.lacks.MissingSend.{MissingSend}
 use Rattle.exercise_conflict.specs.declared.repair.Repair.{Repair}
 use Rattle.exercise_conflict.specs.declared.step_clash.StepClash.{StepClash}
 use Rattle.exercise_conflict.specs.declared.step_clash.StepClash.TheVariants as steps
@@ -58,9 +58,9 @@ abbrev pub difference_value : Option Difference → Value
 difference_value None = Missing
 difference_value (Some field) = Word (field_text field)
 
-abbrev pub unfit_text : Unfit → List ℕ
-unfit_text unfit.Kind = codes "kind"
-unfit_text unfit.Entity = codes "entity"
+abbrev pub mismatch_text : AnswerMismatch → List ℕ
+mismatch_text unfit.Kind = codes "kind"
+mismatch_text unfit.Entity = codes "entity"
 
 -- ---- rows
 
@@ -100,7 +100,7 @@ abbrev pub clash_fields : PlainRecording → Clash → List Field
 clash_fields r (clashes.WrongSender from s) = sender_fields r from s
 clash_fields r (clashes.ReusedIdentifier earlier differs) = differing_fields earlier (field_text differs)
 clash_fields r (clashes.NoRequest later overheard sent) = request_fields later overheard sent
-clash_fields r (clashes.WrongAnswer earlier differs) = differing_fields earlier (unfit_text differs)
+clash_fields r (clashes.WrongAnswer earlier differs) = differing_fields earlier (mismatch_text differs)
 clash_fields r (clashes.ChangedAnswer earlier) = earlier_fields earlier
 clash_fields r (clashes.Impossible earlier s n state change) = earlier_fields earlier ++ state_fields (entity_id r s n) state change
 clash_fields r (clashes.Stranger from) = from_field from ∷ []
@@ -135,8 +135,8 @@ abbrev pub place_fields : ℕ → ℕ → List Field
 place_fields place records = Keyed (codes "place") (Number place) ∷ Keyed (codes "records") (Number records) ∷ []
 
 -- place=ENTRY taken=STEP next=ENTRY
-abbrev pub order_fields : ℕ → Option ℕ → Option ℕ → List Field
-order_fields place taken next =
+abbrev pub out_of_order_fields : ℕ → Option ℕ → Option ℕ → List Field
+out_of_order_fields place taken next =
     Keyed (codes "place") (Number place) ∷ Keyed (codes "taken") (entry_value taken) ∷ Keyed (codes "next") (entry_value next) ∷ []
 
 -- link=N right=ENTRY
@@ -164,7 +164,7 @@ event_line r entry clash step = named_line (codes "clash") (Bare (codes "entry")
 abbrev pub step_clash_line : PlainRecording → StepClash → Line
 step_clash_line r (steps.CountDiffers count records missing twice) = step_line (count_fields count records missing twice)
 step_clash_line r (steps.NoSuchRecord place records) = step_line (place_fields place records)
-step_clash_line r (steps.OutOfOrder place taken next) = step_line (order_fields place taken next)
+step_clash_line r (steps.OutOfOrder place taken next) = step_line (out_of_order_fields place taken next)
 step_clash_line r (steps.BadLink place link right) = link_line place link right
 step_clash_line r (steps.Event entry clash step) = event_line r entry clash step
 
@@ -190,16 +190,16 @@ also_line r entry s cause =
     ∷ Bare (codes "name") (Word (cause_text cause)) ∷ [])
 
 -- missing ENTRY at=ADDRESS after=ENTRY
-abbrev pub missing_line : PlainRecording → Lack → Line
+abbrev pub missing_line : PlainRecording → MissingSend → Line
 missing_line r l =
     named_line (codes "missing") (Bare (codes "entry") (Number l.entry) ∷ station_field r (codes "at") l.missing.sender ∷ Keyed (codes "after") (entry_value l.missing.after) ∷ [])
 
-abbrev pub fault_text : Fault → List ℕ
+abbrev pub fault_text : Blame → List ℕ
 fault_text faults.Certificate = codes "certificate"
 fault_text faults.Recording = codes "recording"
 
 -- fault certificate, or fault recording
-abbrev pub fault_line : Fault → Line
+abbrev pub fault_line : Blame → Line
 fault_line fault = named_line (codes "fault") (Bare (codes "of") (Word (fault_text fault)) ∷ [])
 
 -- the addresses of stations

@@ -14,12 +14,12 @@ use Rattle.exercise_model.specs.History.{History}
 use Rattle.exercise_model.specs.Meaning.{meaning}
 use Rattle.exercise_model.specs.Change.{able, responds}
 use Rattle.exercise_model.specs.Run.{Explains}
-use Rattle.exercise_conflict.specs.declared.lacks.Lack.{Lack}
-use Rattle.exercise_conflict.specs.declared.repaired.Slot.{Slot}
+use Rattle.exercise_conflict.specs.declared.lacks.MissingSend.{MissingSend}
+use Rattle.exercise_conflict.specs.declared.repaired.RepairedEntry.{RepairedEntry}
 use Rattle.exercise_conflict.specs.declared.repair.Enough.{Enough}
 use Rattle.exercise_conflict.specs.declared.repair.Enough.TheVariants as words
 use Rattle.exercise_conflict.specs.declared.repair.Repair.{Repair}
-use Rattle.exercise_conflict.specs.Lacks.{lacks_of}
+use Rattle.exercise_conflict.specs.Lacks.{missing_sends}
 
 -- ---- the repaired recording
 
@@ -30,44 +30,44 @@ bytes_of (Received s stamp b) = b
 bytes_of (Told s e y) = []
 
 -- an entry unchanged, or the send of its datagram by a station, with clock stamp 0
-abbrev pub shown_as : Entry → Option ℕ → Entry
-shown_as e None = e
-shown_as e (Some t) = Sent t 0 (bytes_of e)
+abbrev pub entry_or_send : Entry → Option ℕ → Entry
+entry_or_send e None = e
+entry_or_send e (Some t) = Sent t 0 (bytes_of e)
 
 abbrev pub no_entry : Entry
 no_entry = Told 0 0 Absent
 
 -- the entry of a slot, given the entries of a recording
-abbrev pub slotted : PlainRecording → Slot → Entry
-slotted r slot = shown_as (slice_index_or r.entries slot.entry no_entry) slot.sender
+abbrev pub slot_entry : PlainRecording → RepairedEntry → Entry
+slot_entry r slot = entry_or_send (slice_index_or r.entries slot.entry no_entry) slot.sender
 
 -- the slot of an original entry
-abbrev pub kept : ℕ → Slot
+abbrev pub kept : ℕ → RepairedEntry
 kept i = record { entry = i; sender = None }
 
 -- the slot of a missing send
-abbrev pub made : Lack → Slot
+abbrev pub made : MissingSend → RepairedEntry
 made lack = record { entry = lack.entry; sender = Some lack.missing.sender }
 
 -- it belongs at the start of its log; it belongs right after entry p
-abbrev pub is_first : Lack → Bool
+abbrev pub is_first : MissingSend → Bool
 is_first lack = is_none lack.missing.after
 
-abbrev pub is_after : ℕ → Lack → Bool
+abbrev pub is_after : ℕ → MissingSend → Bool
 is_after p lack = option_map_or (λ k. k == p) lack.missing.after false
 
 -- the slots of the entries below n, each followed by the sends that belong right after it, and all preceded by those that belong at the start
-unfoldable pub slots_below : List Lack → ℕ → List Slot
+unfoldable pub slots_below : List MissingSend → ℕ → List RepairedEntry
 slots_below lacks zero = map made (filter is_first lacks)
 slots_below lacks (suc n) = slots_below lacks n ++ kept n ∷ map made (filter (is_after n) lacks)
 
 -- THE REPAIRED RECORDING: with the sends that its logs lack, each at its place; several at one place are in the order of the entries that reveal them
 unfoldable pub repaired : PlainRecording → PlainRecording
-repaired r = record { setting = r.setting; entries = map (slotted r) (slots_below (lacks_of r) (length r.entries)) }
+repaired r = record { setting = r.setting; entries = map (slot_entry r) (slots_below (missing_sends r) (length r.entries)) }
 
 -- the repaired recording would have too many entries
 unfoldable pub is_too_long : PlainRecording → Bool
-is_too_long r = nat_lt MOST_ENTRIES (length (slots_below (lacks_of r) (length r.entries)))
+is_too_long r = nat_lt MOST_ENTRIES (length (slots_below (missing_sends r) (length r.entries)))
 
 -- ---- representation
 
@@ -77,25 +77,25 @@ Every P [] = Unit {0}
 Every P (x ∷ xs) = P x × Every P xs
 
 -- a slot has an existing entry and, for a send, an existing station
-pub record IsSlot (r : PlainRecording) (slot : Slot) : Type 0 where
+pub record IsSlot (r : PlainRecording) (slot : RepairedEntry) : Type 0 where
   pub entry : slot.entry < length r.entries
   pub sender : IfSome slot.sender (λ t. t < length r.setting.stations)
 
 -- the recording of some slots, given the original
-abbrev pub shown_by : PlainRecording → List Slot → PlainRecording
-shown_by r slots = record { setting = r.setting; entries = map (slotted r) slots }
+abbrev pub slots_recording : PlainRecording → List RepairedEntry → PlainRecording
+slots_recording r slots = record { setting = r.setting; entries = map (slot_entry r) slots }
 
-pub record AreSlots (r : PlainRecording) (slots : List Slot) : Type 0 where
+pub record AreSlots (r : PlainRecording) (slots : List RepairedEntry) : Type 0 where
   pub each : Every (IsSlot r) slots
-  pub limits : IsRecording (shown_by r slots)
+  pub limits : IsRecording (slots_recording r slots)
 
 -- the table of the sends that belong after each entry
 abbrev pub Places : Type 0
-Places = IndexMap ℕ (Vec Slot) (BuildHasherDefault FoldHasher)
+Places = IndexMap ℕ (Vec RepairedEntry) (BuildHasherDefault FoldHasher)
 
 -- THE SENDS that belong right after entry p
-unfoldable pub slots_after : Places → ℕ → List Slot
-slots_after places p = option_map_or (λ (slots : Vec Slot). slots.items) (get ◌==◌ places p) []
+unfoldable pub slots_after : Places → ℕ → List RepairedEntry
+slots_after places p = option_map_or (λ (slots : Vec RepairedEntry). slots.items) (get ◌==◌ places p) []
 
 -- ---- whether it is enough
 
@@ -109,8 +109,8 @@ abbrev pub is_able_at : PlainRecording → ℕ → Bool
 is_able_at r i = option_map_or (is_able r.setting.exercise) (slice_get r.entries i) false
 
 -- one of the sends that the logs lack is an Able
-unfoldable pub lacks_able : PlainRecording → Bool
-lacks_able r = list_any (λ (lack : Lack). is_able_at r lack.entry) (lacks_of r)
+unfoldable pub is_able_missing : PlainRecording → Bool
+is_able_missing r = list_any (λ (lack : MissingSend). is_able_at r lack.entry) (missing_sends r)
 
 abbrev pub IsUnexplained : PlainRecording → Type 0
 IsUnexplained r = (h : History) → Explains r h → ⊥
@@ -119,10 +119,10 @@ IsUnexplained r = (h : History) → Explains r h → ⊥
 -- recording would have too many entries; else no
 abbrev pub IsEnough : PlainRecording → Enough → Type 0
 IsEnough r words.Yes = (is_too_long r ≡ false) × ((h : History) × Explains (repaired r) h)
-IsEnough r words.No = (is_too_long r ≡ false) × (lacks_able r ≡ false) × IsUnexplained (repaired r)
-IsEnough r words.Unknown = (is_too_long r ≡ true) ⊎ ((is_too_long r ≡ false) × (lacks_able r ≡ true) × IsUnexplained (repaired r))
+IsEnough r words.No = (is_too_long r ≡ false) × (is_able_missing r ≡ false) × IsUnexplained (repaired r)
+IsEnough r words.Unknown = (is_too_long r ≡ true) ⊎ ((is_too_long r ≡ false) × (is_able_missing r ≡ true) × IsUnexplained (repaired r))
 
 -- A REPAIR: the number of missing sends, and whether they are enough
 pub record IsRepairOf (r : PlainRecording) (repair : Repair) : Type 0 where
-  pub sends : repair.sends ≡ length (lacks_of r)
+  pub sends : repair.sends ≡ length (missing_sends r)
   pub enough : IsEnough r repair.enough

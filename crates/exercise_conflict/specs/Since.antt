@@ -7,9 +7,9 @@ use Rattle.exercise_model.specs.Account.{change_at}
 use Rattle.exercise_findings.specs.State.{state_before}
 
 -- THE CHANGE THAT MADE A STATE: the last entry before entry n that altered the state of entity e of station s; none if the entity still has its initial state
-unfoldable pub made_since : PlainRecording → ℕ → ℕ → ℕ → Option ℕ
-made_since r s e zero = None
-made_since r s e (suc n) = if same_state (state_before r s e n) (state_before r s e (suc n)) then made_since r s e n else Some n
+unfoldable pub last_change_entry : PlainRecording → ℕ → ℕ → ℕ → Option ℕ
+last_change_entry r s e zero = None
+last_change_entry r s e (suc n) = if same_state (state_before r s e n) (state_before r s e (suc n)) then last_change_entry r s e n else Some n
 
 -- the entity had one state from the place before entry `from` to that before entry n
 abbrev pub HasOneState : PlainRecording → ℕ → ℕ → ℕ → ℕ → Type 0

@@ -10,7 +10,7 @@ use Rattle.exercise_model.specs.History.{event_of, station_of, log_at}
 use Rattle.exercise_model.specs.Place.{own_event, log_before, first_below}
 use Rattle.exercise_check.specs.declared.certificate.TheConstants.{NO_LINK}
 use Rattle.exercise_check.specs.declared.certificate.Step.{Step}
-use Rattle.exercise_check.specs.Order.{order_of, link_of}
+use Rattle.exercise_check.specs.Sequence.{sequence_of, link_of}
 use Rattle.exercise_conflict.specs.declared.clash.Clash.{Clash}
 use Rattle.exercise_conflict.specs.declared.clash.Clash.TheVariants as clashes
 use Rattle.exercise_conflict.specs.declared.step_clash.StepClash.{StepClash}
@@ -30,8 +30,8 @@ abbrev pub is_taken_again : List Step → ℕ → Bool
 is_taken_again steps i = nat_lt 1 (times_taken steps i)
 
 -- A WRONG COUNT, with n entries: the lowest of them that no step names, and the lowest that two steps name
-abbrev pub miscounted : List Step → ℕ → StepClash
-miscounted steps n = told.CountDiffers (length steps) n (first_below (is_left_out steps) n) (first_below (is_taken_again steps) n)
+abbrev pub count_clash : List Step → ℕ → StepClash
+count_clash steps n = told.CountDiffers (length steps) n (first_below (is_left_out steps) n) (first_below (is_taken_again steps) n)
 
 -- ---- an entry out of order
 
@@ -44,55 +44,55 @@ abbrev pub has_rank : PlainRecording → ℕ → ℕ → ℕ → Bool
 has_rank r s k i = is_some (own_event r s i) && (length (log_before r s i) == k)
 
 -- the next entry of station s after these steps: as many of its entries precede it as the steps took
-abbrev pub due_after : PlainRecording → List Step → ℕ → Option ℕ
-due_after r before s = first_below (has_rank r s (length (log_at s (order_of r before)))) (length r.entries)
+abbrev pub next_entry_after : PlainRecording → List Step → ℕ → Option ℕ
+next_entry_after r before s = first_below (has_rank r s (length (log_at s (sequence_of r before)))) (length r.entries)
 
 -- AN ENTRY OUT OF ORDER, which step k names: the first earlier step that names it too, and the next entry of its station
-abbrev pub disordered_by : PlainRecording → List Step → ℕ → ℕ → Entry → StepClash
-disordered_by r steps k place e = told.OutOfOrder place (first_below (takes steps place) k) (due_after r (take k steps) (station_of (event_of e)))
+abbrev pub out_of_order_by : PlainRecording → List Step → ℕ → ℕ → Entry → StepClash
+out_of_order_by r steps k place e = told.OutOfOrder place (first_below (takes steps place) k) (next_entry_after r (take k steps) (station_of (event_of e)))
 
-abbrev pub disordered : PlainRecording → List Step → ℕ → ℕ → Option StepClash
-disordered r steps k place = option_map (disordered_by r steps k place) (slice_get r.entries place)
+abbrev pub out_of_order_clash : PlainRecording → List Step → ℕ → ℕ → Option StepClash
+out_of_order_clash r steps k place = option_map (out_of_order_by r steps k place) (slice_get r.entries place)
 
 -- ---- a bad link
 
 -- the link that a step gives, if it gives one
-abbrev pub link_given : ℕ → Option ℕ
-link_given link = if link == NO_LINK then None else Some link
+abbrev pub step_link : ℕ → Option ℕ
+step_link link = if link == NO_LINK then None else Some link
 
 -- the right link of a step that names this entry after the steps before it
 unfoldable pub right_link : PlainRecording → List Step → ℕ → Option ℕ
 right_link r before place = option_and_then (λ e. link_of r before place (event_of e)) (slice_get r.entries place)
 
 -- A BAD LINK of step k: the given one, and the right one
-abbrev pub misled : PlainRecording → List Step → ℕ → Step → StepClash
-misled r steps k step = told.BadLink step.place (link_given step.link) (right_link r (take k steps) step.place)
+abbrev pub bad_link_clash : PlainRecording → List Step → ℕ → Step → StepClash
+bad_link_clash r steps k step = told.BadLink step.place (step_link step.link) (right_link r (take k steps) step.place)
 
 -- ---- an event that cannot happen
 
 -- the first step that takes the source of a datagram that was not sent yet
-abbrev pub too_late : List Step → Clash → Option ℕ
-too_late steps (clashes.NeverSent from sent near differs) = option_and_then (λ i. first_below (takes steps i) (length steps)) sent
-too_late steps clash = None
+abbrev pub late_step : List Step → Clash → Option ℕ
+late_step steps (clashes.NeverSent from sent near differs) = option_and_then (λ i. first_below (takes steps i) (length steps)) sent
+late_step steps clash = None
 
 -- AN EVENT THAT CANNOT HAPPEN: the contradiction of its entry
-abbrev pub barred_by : List Step → ℕ → Clash → StepClash
-barred_by steps place clash = told.Event place clash (too_late steps clash)
+abbrev pub event_clash_by : List Step → ℕ → Clash → StepClash
+event_clash_by steps place clash = told.Event place clash (late_step steps clash)
 
-abbrev pub barred : PlainRecording → List Step → ℕ → Option StepClash
-barred r steps place = option_map (barred_by steps place) (clash_of r place)
+abbrev pub event_clash : PlainRecording → List Step → ℕ → Option StepClash
+event_clash r steps place = option_map (event_clash_by steps place) (clash_of r place)
 
 -- ---- a step
 
 abbrev pub step_clash : PlainRecording → List Step → ℕ → Cause → Step → Option StepClash
 step_clash r steps k causes.NoSuchRecord step = Some (told.NoSuchRecord step.place (length r.entries))
-step_clash r steps k causes.OutOfOrder step = disordered r steps k step.place
-step_clash r steps k causes.BadLink step = Some (misled r steps k step)
-step_clash r steps k cause step = barred r steps step.place
+step_clash r steps k causes.OutOfOrder step = out_of_order_clash r steps k step.place
+step_clash r steps k causes.BadLink step = Some (bad_link_clash r steps k step)
+step_clash r steps k cause step = event_clash r steps step.place
 
 -- THE CONTRADICTION OF STEP k, for this first cause against it
 unfoldable pub step_clash_of : PlainRecording → List Step → ℕ → Cause → Option StepClash
-step_clash_of r steps k causes.CountDiffers = Some (miscounted steps (length r.entries))
+step_clash_of r steps k causes.CountDiffers = Some (count_clash steps (length r.entries))
 step_clash_of r steps k cause = option_and_then (step_clash r steps k cause) (slice_get steps k)
 
 -- ---- a first bad step

@@ -9,7 +9,7 @@ use Rattle.exercise_conflict.specs.declared.way.Also.{Also}
 use Rattle.exercise_conflict.specs.declared.clash.Clash.{Clash}
 use Rattle.exercise_conflict.specs.declared.clash.Clash.TheVariants as clashes
 use Rattle.exercise_conflict.specs.declared.conflict.Conflict.{Conflict}
-use Rattle.exercise_conflict.specs.declared.lacks.Lack.{Lack}
+use Rattle.exercise_conflict.specs.declared.lacks.MissingSend.{MissingSend}
 use Rattle.exercise_conflict.specs.declared.step_clash.StepClash.{StepClash}
 use Rattle.exercise_conflict.specs.declared.step_clash.StepClash.TheVariants as steps
 use Rattle.exercise_conflict.specs.declared.verdict.Refusal.{Refusal}
@@ -68,14 +68,14 @@ abbrev pub way_entries : Way → List ℕ
 way_entries (ways.Waits w) = w.entry ∷ w.sent ∷ w.next ∷ []
 way_entries (ways.Clash entry clash final) = entry ∷ clash_entries clash
 
-abbrev pub lack_entries : Lack → List ℕ
-lack_entries l = l.entry ∷ option_to_list l.missing.after
+abbrev pub missing_send_entries : MissingSend → List ℕ
+missing_send_entries l = l.entry ∷ option_to_list l.missing.after
 
 -- THE ENTRIES THAT ARE NAMED by the rows of a conflict, and by those of a refused certificate
 unfoldable pub conflict_entries : Conflict → List ℕ
 conflict_entries c =
     map (λ (b : Block). b.entry) c.blocks.items ++ flat_map way_entries c.ways.items ++ map (λ (a : Also). a.entry) c.also.items
-    ++ flat_map lack_entries c.lacks.items
+    ++ flat_map missing_send_entries c.lacks.items
 
 unfoldable pub refusal_entries : Refusal → List ℕ
 refusal_entries f = flat_map step_clash_entries (option_to_list f.clash)
@@ -88,4 +88,4 @@ pub record AreOfStations (r : PlainRecording) (c : Conflict) : Type 0 where
   pub ways : All (IsOfWayStations r) c.ways.items
   pub cycles : All (λ v. All (λ s. s < length r.setting.stations) v.items) c.cycles.items
   pub also : All (λ (a : Also). a.entry < length r.entries) c.also.items
-  pub lacks : All (λ (l : Lack). l.missing.sender < length r.setting.stations) c.lacks.items
+  pub lacks : All (λ (l : MissingSend). l.missing.sender < length r.setting.stations) c.lacks.items

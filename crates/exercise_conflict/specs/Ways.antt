@@ -15,7 +15,7 @@ use Rattle.exercise_conflict.specs.Final.{is_final}
 use Rattle.exercise_conflict.specs.Waits.{wait_of, waits_of}
 use Rattle.exercise_conflict.specs.Cycles.{cycle_at}
 use Rattle.exercise_conflict.specs.Clash.{clash_of}
-use Rattle.exercise_conflict.specs.Also.{also_at}
+use Rattle.exercise_conflict.specs.Also.{further_cause_at}
 
 -- ---- ways
 
@@ -48,14 +48,14 @@ stations_in cycle = cycle.items
 
 -- ---- further causes
 
-abbrev pub also_by : ℕ → Cause → Also
-also_by j cause = record { entry = j; cause = cause }
+abbrev pub further_cause : ℕ → Cause → Also
+further_cause j cause = record { entry = j; cause = cause }
 
 -- the further causes against the entries below n
-unfoldable pub also_below : PlainRecording → List Block → ℕ → List Also
-also_below r blocks zero = []
-also_below r blocks (suc n) = also_below r blocks n ++ option_to_list (option_map (also_by n) (also_at r blocks n))
+unfoldable pub further_causes_below : PlainRecording → List Block → ℕ → List Also
+further_causes_below r blocks zero = []
+further_causes_below r blocks (suc n) = further_causes_below r blocks n ++ option_to_list (option_map (further_cause n) (further_cause_at r blocks n))
 
 -- THE FURTHER CAUSES beside a blocked list, by rising entries
-abbrev pub all_also : PlainRecording → List Block → List Also
-all_also r blocks = also_below r blocks (length r.entries)
+abbrev pub further_causes : PlainRecording → List Block → List Also
+further_causes r blocks = further_causes_below r blocks (length r.entries)

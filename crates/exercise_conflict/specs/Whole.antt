@@ -3,21 +3,21 @@ use Rattle.std.specs.Prelude.{◌≡◌, ℕ, List, map}
 use Rattle.exercise_model.specs.Recording.{PlainRecording}
 use Rattle.exercise_model.specs.History.{History}
 use Rattle.exercise_model.specs.Run.{Explains}
-use Rattle.exercise_findings.specs.Account.{TellsAccount}
+use Rattle.exercise_findings.specs.Account.{IsAccount}
 use Rattle.exercise_check.specs.declared.certificate.Step.{Step}
 use Rattle.exercise_check.specs.declared.checker.CheckFault.TheVariants.{Bad as BadStep}
 use Rattle.exercise_check.specs.Goodness.{IsGood, Refuses}
 use Rattle.exercise_audit.specs.Audit.{IsBlocked}
-use Rattle.exercise_conflict.specs.declared.fault.Fault.TheVariants.{Certificate as OfCertificate, Recording as OfRecording}
+use Rattle.exercise_conflict.specs.declared.blame.Blame.TheVariants.{Certificate as OfCertificate, Recording as OfRecording}
 use Rattle.exercise_conflict.specs.declared.conflict.Conflict.{Conflict}
-use Rattle.exercise_conflict.specs.declared.conflict.Explanation.{Explanation}
-use Rattle.exercise_conflict.specs.declared.conflict.Explanation.TheVariants.{Explained, Contradicted}
+use Rattle.exercise_conflict.specs.declared.conflict.ConflictSearch.{ConflictSearch}
+use Rattle.exercise_conflict.specs.declared.conflict.ConflictSearch.TheVariants.{Explained, Contradicted}
 use Rattle.exercise_conflict.specs.declared.verdict.Refusal.{Refusal}
 use Rattle.exercise_conflict.specs.declared.verdict.Verdict.{Verdict}
 use Rattle.exercise_conflict.specs.declared.verdict.Verdict.TheVariants.{Good, Bad}
 use Rattle.exercise_conflict.specs.StepClash.{step_clash_of}
-use Rattle.exercise_conflict.specs.Lacks.{lacks_of}
-use Rattle.exercise_conflict.specs.Ways.{ways_of, stations_in, cycles_of, all_also}
+use Rattle.exercise_conflict.specs.Lacks.{missing_sends}
+use Rattle.exercise_conflict.specs.Ways.{ways_of, stations_in, cycles_of, further_causes}
 use Rattle.exercise_conflict.specs.Repair.{IsRepairOf}
 
 -- ---- a recording alone
@@ -27,11 +27,11 @@ pub record IsConflictOf (r : PlainRecording) (c : Conflict) : Type 0 where
   pub blocked : IsBlocked r c.blocks.items
   pub ways : c.ways.items ≡ ways_of r c.blocks.items
   pub cycles : map stations_in c.cycles.items ≡ cycles_of r c.blocks.items
-  pub also : c.also.items ≡ all_also r c.blocks.items
-  pub lacks : c.lacks.items ≡ lacks_of r
+  pub also : c.also.items ≡ further_causes r c.blocks.items
+  pub lacks : c.lacks.items ≡ missing_sends r
   pub repair : IsRepairOf r c.repair
 
-abbrev pub IsExplanationOf : PlainRecording → Explanation → Type 0
+abbrev pub IsExplanationOf : PlainRecording → ConflictSearch → Type 0
 IsExplanationOf r (Explained certificate) = IsGood r certificate.steps.items
 IsExplanationOf r (Contradicted c) = IsConflictOf r c
 
@@ -45,5 +45,5 @@ pub record IsRefusalOf (r : PlainRecording) (steps : List Step) (refusal : Refus
   pub recording : refusal.fault ≡ OfRecording → (h : History) → Explains r h → ⊥
 
 abbrev pub IsVerdictOf : PlainRecording → List Step → Verdict → Type 0
-IsVerdictOf r steps (Good account) = IsGood r steps × TellsAccount r account
+IsVerdictOf r steps (Good account) = IsGood r steps × IsAccount r account
 IsVerdictOf r steps (Bad refusal) = IsRefusalOf r steps refusal

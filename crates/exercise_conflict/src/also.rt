@@ -1,7 +1,7 @@
 //! Causes within one station's log, independent of other stations.
 
 ghost use Rattle.std.specs.Prelude.{◌≡◌};
-ghost use Rattle.exercise_conflict.specs.Also.{standing_cause, is_next_of, also_at};
+ghost use Rattle.exercise_conflict.specs.Also.{standing_cause, is_next_of, further_cause_at};
 
 use exercise_audit::Block;
 use exercise_findings::Findings;
@@ -30,13 +30,13 @@ fn is_next_of(blocks: &[Block], entry: usize) -> bool
 /// The further cause against an entry beside a blocked list: its standing cause, unless the entry
 /// is the next one of a blocked station. `None` otherwise and past the last entry. It takes no
 /// memory.
-#[tactic(auto, unfolding(crate::specs::Also::also_at))]
-pub fn also_at<L: ExerciseLog>(
+#[tactic(auto, unfolding(crate::specs::Also::further_cause_at))]
+pub fn further_cause_at<L: ExerciseLog>(
     findings: &Findings<'_, L>,
     blocks: &[Block],
     entry: usize,
 ) -> Option<Cause>
-    ensures { result ≡ also_at findings.now blocks.now entry }
+    ensures { result ≡ further_cause_at findings.now blocks.now entry }
 {
     let cause = standing_cause(findings, entry)?;
     if is_next_of(blocks, entry) {

@@ -4,10 +4,10 @@ ghost use Rattle.std.specs.Prelude.{◌≡◌, ◌+◌, length, None, IfOk, OnOk
 ghost use Rattle.indexmap.specs.IndexMap.{get};
 ghost use Rattle.siman_pdus.specs.Reading.{pdu_of};
 ghost use Rattle.exercise_findings.specs.Missing.{place_of};
-ghost use Rattle.exercise_conflict.specs.declared.asks.Ask.{Ask};
-ghost use Rattle.exercise_conflict.specs.Lacks.{same_ask, ask_of, ask_at, AreAsks};
+ghost use Rattle.exercise_conflict.specs.declared.asks.ReceivedKey.{ReceivedKey};
+ghost use Rattle.exercise_conflict.specs.Lacks.{same_request_key, request_key_of, request_key_at, AreRequestKeys};
 
-use crate::receipts::{Table, keep_first};
+use crate::receipts::{ConflictTable, keep_first};
 use dis_records::{Address, addressed};
 use exercise_findings::Findings;
 use exercise_model::{EntryView, ExerciseLog, is_answer, meaning_view};
@@ -17,7 +17,7 @@ use std::hash::BuildHasherDefault;
 
 /// Look-up key of a request that a station received.
 #[derive(Clone, Copy, PartialEq, Eq, Hash)]
-pub(crate) struct Ask {
+pub(crate) struct ReceivedKey {
     /// The station, from 0.
     pub station: u16,
     /// The request identifier.
@@ -29,24 +29,24 @@ pub(crate) struct Ask {
 }
 
 /// The entry that first received each request.
-pub(crate) type Asks = Table<Ask, usize>;
+pub(crate) type Asks = ConflictTable<ReceivedKey, usize>;
 
 /// An empty index. It takes no memory.
-fn no_asks(alloc: Global) -> Asks
-    ensures { (k : Ask) → get same_ask result k ≡ None }
+fn no_request_keys(alloc: Global) -> Asks
+    ensures { (k : ReceivedKey) → get same_request_key result k ≡ None }
 {
     Asks::with_hasher(alloc, BuildHasherDefault::default())
 }
 
 /// Look-up key of a PDU that the station at an address receives, if it is a request to it.
-fn ask_of(station: u16, address: Address, pdu: &PduView<'_>) -> Option<Ask>
-    ensures { result ≡ ask_of station address (pdu_of pdu.now) }
+fn request_key_of(station: u16, address: Address, pdu: &PduView<'_>) -> Option<ReceivedKey>
+    ensures { result ≡ request_key_of station address (pdu_of pdu.now) }
 {
     if !is_request(pdu) || !addressed(pdu.target, address) {
         return None;
     }
     match request_id(pdu) {
-        Some(request) => Some(Ask {
+        Some(request) => Some(ReceivedKey {
             station,
             request,
             site: pdu.origin.site,
@@ -57,9 +57,9 @@ fn ask_of(station: u16, address: Address, pdu: &PduView<'_>) -> Option<Ask>
 }
 
 /// Look-up key of an entry, if it receives a request to its station.
-#[tactic(auto, unfolding(crate::specs::Lacks::ask_at))]
-fn ask_at<L: ExerciseLog>(findings: &Findings<'_, L>, entry: usize) -> Option<Ask>
-    ensures { result ≡ ask_at findings.now entry }
+#[tactic(auto, unfolding(crate::specs::Lacks::request_key_at))]
+fn request_key_at<L: ExerciseLog>(findings: &Findings<'_, L>, entry: usize) -> Option<ReceivedKey>
+    ensures { result ≡ request_key_at findings.now entry }
 {
     let log = findings.log();
     if entry >= log.entry_count() {
@@ -68,7 +68,11 @@ fn ask_at<L: ExerciseLog>(findings: &Findings<'_, L>, entry: usize) -> Option<As
     match log.entry(entry) {
         EntryView::Received { station, bytes, .. } => {
             match meaning_view(log.exercise(), bytes) {
-                Some(pdu) => ask_of(station, log.station(usize::from(station)).address(), &pdu),
+                Some(pdu) => request_key_of(
+                    station,
+                    log.station(usize::from(station)).address(),
+                    &pdu,
+                ),
                 None => None,
             }
         }
@@ -77,37 +81,37 @@ fn ask_at<L: ExerciseLog>(findings: &Findings<'_, L>, entry: usize) -> Option<As
 }
 
 /// Adds the next entry.
-fn note_ask<L: ExerciseLog>(
+fn note_request_key<L: ExerciseLog>(
     asks: &mut Asks,
     findings: &Findings<'_, L>,
     entry: usize,
 ) -> Result<(), AllocError>
-    requires { AreAsks findings.now entry asks.old }
-    ensures { OnOk result (AreAsks findings.now (entry + 1) asks.new) }
+    requires { AreRequestKeys findings.now entry asks.old }
+    ensures { OnOk result (AreRequestKeys findings.now (entry + 1) asks.new) }
 {
-    if let Some(ask) = ask_at(findings, entry) {
+    if let Some(ask) = request_key_at(findings, entry) {
         keep_first(asks, ask, entry)?;
     }
     Ok(())
 }
 
 /// The index of all entries of a recording.
-pub(crate) fn asks_of<L: ExerciseLog>(
+pub(crate) fn request_keys<L: ExerciseLog>(
     alloc: Global,
     findings: &Findings<'_, L>,
 ) -> Result<Asks, AllocError>
-    ensures { IfOk result (λ asks. AreAsks findings.now (length findings.now.entries) asks) }
+    ensures { IfOk result (λ asks. AreRequestKeys findings.now (length findings.now.entries) asks) }
 {
-    let mut asks = no_asks(alloc);
+    let mut asks = no_request_keys(alloc);
     for entry in 0..findings.log().entry_count() {
-        note_ask(&mut asks, findings, entry)?;
+        note_request_key(&mut asks, findings, entry)?;
     }
     Ok(asks)
 }
 
 /// The first entry under a key.
-fn first_under(asks: &Asks, ask: Ask) -> Option<usize>
-    ensures { result ≡ get same_ask asks.now ask }
+fn first_under(asks: &Asks, ask: ReceivedKey) -> Option<usize>
+    ensures { result ≡ get same_request_key asks.now ask }
 {
     match asks.get(&ask) {
         Some(entry) => Some(*entry),
@@ -123,7 +127,7 @@ pub(crate) fn place_of<L: ExerciseLog>(
     station: u16,
     pdu: &PduView<'_>,
 ) -> Option<usize>
-    requires { AreAsks findings.now (length findings.now.entries) asks.now }
+    requires { AreRequestKeys findings.now (length findings.now.entries) asks.now }
     ensures { result ≡ place_of findings.now station (pdu_of pdu.now) }
 {
     if !is_answer(pdu) {
@@ -132,7 +136,7 @@ pub(crate) fn place_of<L: ExerciseLog>(
     match request_id(pdu) {
         Some(request) => first_under(
             asks,
-            Ask {
+            ReceivedKey {
                 station,
                 request,
                 site: pdu.target.site,

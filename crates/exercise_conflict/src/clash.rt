@@ -1,12 +1,12 @@
 //! Contradictions of an entry, and where they are.
 
-use crate::field::Field;
+use crate::field::PduField;
 use dis_records::{EntityId, EntityState};
 
 /// Why an answer does not answer the request that it takes up. There is no third reason, since an
 /// answer takes up a request only if all else matches.
 #[derive(Clone, Copy, PartialEq, Eq)]
-pub enum Unfit {
+pub enum AnswerMismatch {
     /// Its kind is not one that answers requests of that kind.
     Kind,
     /// The entity numbers do not fit.
@@ -29,7 +29,7 @@ pub enum Clash {
         /// The first different request under that identifier.
         earlier: usize,
         /// The first field in which the two differ.
-        differs: Field,
+        differs: PduField,
     },
     /// It answers a request that its station has not received.
     NoRequest {
@@ -46,7 +46,7 @@ pub enum Clash {
         /// The request.
         earlier: usize,
         /// Why it does not answer it.
-        differs: Unfit,
+        differs: AnswerMismatch,
     },
     /// It sends the answer opposite to one that its station has sent under the same key.
     ChangedAnswer {
@@ -83,7 +83,7 @@ pub enum Clash {
         near: Option<usize>,
         /// The first field in which that PDU differs from the received one; `None` without such a
         /// PDU, or if the bytes are equal.
-        differs: Option<Field>,
+        differs: Option<PduField>,
     },
     /// It tells a state that the entity does not have.
     WrongState {

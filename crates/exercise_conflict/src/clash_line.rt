@@ -4,10 +4,10 @@ ghost use Rattle.std.specs.Prelude.{◌≡◌, ◌<◌, ◌∷◌, [], ◌++◌,
 ghost use Rattle.dis_records.specs.Entity.{pair_of};
 ghost use Rattle.siman_print.specs.Lent.{value_of};
 ghost use Rattle.siman_print.specs.Spelled.{address_text, fields_spelled, line_spelled};
-ghost use Rattle.exercise_conflict.specs.Lines.{entity_id, state_value, difference_value, unfit_text, from_field, sender_fields, earlier_fields, differing_fields, request_fields, state_fields, send_fields, clash_fields, clash_line, IsOfStations};
+ghost use Rattle.exercise_conflict.specs.Lines.{entity_id, state_value, difference_value, mismatch_text, from_field, sender_fields, earlier_fields, differing_fields, request_fields, state_fields, send_fields, clash_fields, clash_line, IsOfStations};
 
 use crate::lines::entry_value;
-use crate::{Clash, Field as Difference, Unfit};
+use crate::{AnswerMismatch, Clash, PduField as Difference};
 use dis_records::{EntityId, EntityState};
 use exercise_model::ExerciseLog;
 use siman_print::{Field, Spelling, Value, put_end, put_fields, put_opening};
@@ -34,12 +34,12 @@ fn difference_value<'a>(differs: Option<Difference>) -> Value<'a>
 }
 
 /// The word for why an answer does not answer a request.
-fn unfit_word(differs: Unfit) -> &'static str
-    ensures { result.now ≡ unfit_text differs }
+fn mismatch_word(differs: AnswerMismatch) -> &'static str
+    ensures { result.now ≡ mismatch_text differs }
 {
     match differs {
-        Unfit::Kind => "kind",
-        Unfit::Entity => "entity",
+        AnswerMismatch::Kind => "kind",
+        AnswerMismatch::Entity => "entity",
     }
 }
 
@@ -208,7 +208,7 @@ pub(crate) fn put_clash_fields<L: ExerciseLog>(
             sent,
         } => put_request(text, spelling, later, overheard, sent),
         Clash::WrongAnswer { earlier, differs } => {
-            put_differing(text, spelling, earlier, unfit_word(differs))
+            put_differing(text, spelling, earlier, mismatch_word(differs))
         }
         Clash::ChangedAnswer { earlier } => put_earlier(text, spelling, earlier),
         Clash::Impossible {

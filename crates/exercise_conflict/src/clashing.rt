@@ -6,16 +6,16 @@ ghost use Rattle.siman_pdus.specs.Reading.{pdu_of};
 ghost use Rattle.exercise_model.specs.Account.{pair_of_sent};
 ghost use Rattle.exercise_model.specs.Station.{is_entity};
 ghost use Rattle.exercise_findings.specs.State.{state_before};
-ghost use Rattle.exercise_conflict.specs.Clash.{reused_at, unfit_of, wrong_at, hopeless_for, impossible_at, clash_sent, clash_got, clash_told, clash_of};
+ghost use Rattle.exercise_conflict.specs.Clash.{reused_clash, answer_mismatch, wrong_answer_clash, hopeless_scope_clash, impossible_clash, send_clash, receipt_clash, told_state_clash, clash_of};
 ghost use Rattle.exercise_conflict.specs.Earlier.{IsSentAt};
 
-use crate::clash::{Clash, Unfit};
+use crate::clash::{AnswerMismatch, Clash};
 use crate::difference::order_difference;
 use crate::earlier::{earlier_sent, pair_of, sent_pdu};
 use crate::logs::Logs;
-use crate::near::unsent_by;
-use crate::since::made_before;
-use crate::unasked::{got_pdu, unasked_for};
+use crate::near::unsent_clash;
+use crate::since::state_and_change;
+use crate::unasked::{got_pdu, unasked_clash};
 use dis_records::{EntityState, Kind, Scope};
 use exercise_findings::Findings;
 use exercise_model::{Cause, Change, EntryView, ExerciseLog, is_entity, meaning_view};
@@ -25,13 +25,13 @@ use siman_pdus::{BodyView, Message, PduView};
 const ALL_ENTITIES: u16 = 0xFFFF;
 
 /// The contradiction of a reused identifier, given the earlier request.
-fn reused_at<L: ExerciseLog>(
+fn reused_clash<L: ExerciseLog>(
     findings: &Findings<'_, L>,
     station: u16,
     pdu: &PduView<'_>,
     earlier: usize,
 ) -> Option<Clash>
-    ensures { result ≡ reused_at findings.now station (pdu_of pdu.now) earlier }
+    ensures { result ≡ reused_clash findings.now station (pdu_of pdu.now) earlier }
 {
     let other = sent_pdu(findings, station, earlier)?;
     let differs = order_difference(pdu, &other)?;
@@ -54,41 +54,41 @@ fn fits_kind(answer: &PduView<'_>, kind: Kind) -> bool
 }
 
 /// Why an answer does not answer a request that it takes up.
-fn unfit_of(answer: &PduView<'_>, request: &PduView<'_>) -> Unfit
-    ensures { result ≡ unfit_of (pdu_of answer.now) (pdu_of request.now) }
+fn answer_mismatch(answer: &PduView<'_>, request: &PduView<'_>) -> AnswerMismatch
+    ensures { result ≡ answer_mismatch (pdu_of answer.now) (pdu_of request.now) }
 {
     if fits_kind(answer, request.kind()) {
-        Unfit::Entity
+        AnswerMismatch::Entity
     } else {
-        Unfit::Kind
+        AnswerMismatch::Kind
     }
 }
 
 /// The contradiction of a wrong answer, given the request that it takes up.
-fn wrong_at<L: ExerciseLog>(
+fn wrong_answer_clash<L: ExerciseLog>(
     findings: &Findings<'_, L>,
     station: u16,
     answer: &PduView<'_>,
     earlier: usize,
 ) -> Option<Clash>
-    ensures { result ≡ wrong_at findings.now station (pdu_of answer.now) earlier }
+    ensures { result ≡ wrong_answer_clash findings.now station (pdu_of answer.now) earlier }
 {
     let request = got_pdu(findings, station, earlier)?;
     Some(Clash::WrongAnswer {
         earlier,
-        differs: unfit_of(answer, &request),
+        differs: answer_mismatch(answer, &request),
     })
 }
 
 /// The state under an entity number, if an entity can have the number.
-fn state_told(entity: u16, state: EntityState) -> Option<EntityState>
+fn state_found(entity: u16, state: EntityState) -> Option<EntityState>
     ensures { result ≡ (if is_entity entity then Some state else None) }
 {
     if is_entity(entity) { Some(state) } else { None }
 }
 
 /// The contradiction of an impossible change of a scope.
-fn hopeless_for<L: ExerciseLog>(
+fn hopeless_scope_clash<L: ExerciseLog>(
     logs: &Logs<'_, '_, L>,
     station: u16,
     entry: usize,
@@ -97,16 +97,16 @@ fn hopeless_for<L: ExerciseLog>(
 ) -> Clash
     requires at { station < length logs.now.setting.stations }
     requires within { entry ≤ length logs.now.entries }
-    ensures { result ≡ hopeless_for logs.now station entry earlier scope }
+    ensures { result ≡ hopeless_scope_clash logs.now station entry earlier scope }
 {
     match scope {
         Scope::One(entity) => {
-            let (state, change) = made_before(logs, station, entity, entry);
+            let (state, change) = state_and_change(logs, station, entity, entry);
             Clash::Impossible {
                 earlier,
                 station,
                 entity,
-                state: state_told(entity, state),
+                state: state_found(entity, state),
                 change,
             }
         }
@@ -121,7 +121,7 @@ fn hopeless_for<L: ExerciseLog>(
 }
 
 /// The contradiction of an impossible change, given the request that its answer takes up.
-fn impossible_at<L: ExerciseLog>(
+fn impossible_clash<L: ExerciseLog>(
     logs: &Logs<'_, '_, L>,
     station: u16,
     entry: usize,
@@ -130,11 +130,11 @@ fn impossible_at<L: ExerciseLog>(
 ) -> Option<Clash>
     requires at { station < length logs.now.setting.stations }
     requires within { entry ≤ length logs.now.entries }
-    ensures { result ≡ impossible_at logs.now station entry (pdu_of answer.now) earlier }
+    ensures { result ≡ impossible_clash logs.now station entry (pdu_of answer.now) earlier }
 {
     let request = got_pdu(logs.findings(), station, earlier)?;
     let change = Change::carried_out(answer, &request)?;
-    Some(hopeless_for(logs, station, entry, earlier, change.scope))
+    Some(hopeless_scope_clash(logs, station, entry, earlier, change.scope))
 }
 
 /// The entry of the request that a sent PDU takes up.
@@ -151,7 +151,7 @@ fn pair_of_sent<L: ExerciseLog>(
 }
 
 /// The contradiction of a PDU that a station sends at an entry, for this cause against it.
-fn clash_sent<L: ExerciseLog>(
+fn send_clash<L: ExerciseLog>(
     logs: &Logs<'_, '_, L>,
     station: u16,
     entry: usize,
@@ -161,7 +161,7 @@ fn clash_sent<L: ExerciseLog>(
     requires at { station < length logs.now.setting.stations }
     requires within { entry ≤ length logs.now.entries }
     requires sent { IsSentAt logs.now entry station (pdu_of pdu.now) }
-    ensures { result ≡ clash_sent logs.now entry station cause (pdu_of pdu.now) }
+    ensures { result ≡ send_clash logs.now entry station cause (pdu_of pdu.now) }
 {
     match cause {
         Cause::WrongSender => Some(Clash::WrongSender {
@@ -170,12 +170,12 @@ fn clash_sent<L: ExerciseLog>(
         }),
         Cause::ReusedIdentifier => {
             let earlier = earlier_sent(logs, station, entry, cause, pdu)?;
-            reused_at(logs.findings(), station, pdu, earlier)
+            reused_clash(logs.findings(), station, pdu, earlier)
         }
-        Cause::NoRequest => Some(unasked_for(logs, station, entry, pdu)),
+        Cause::NoRequest => Some(unasked_clash(logs, station, entry, pdu)),
         Cause::WrongAnswer => {
             let earlier = earlier_sent(logs, station, entry, cause, pdu)?;
-            wrong_at(logs.findings(), station, pdu, earlier)
+            wrong_answer_clash(logs.findings(), station, pdu, earlier)
         }
         Cause::ChangedAnswer => {
             let earlier = earlier_sent(logs, station, entry, cause, pdu)?;
@@ -183,31 +183,31 @@ fn clash_sent<L: ExerciseLog>(
         }
         Cause::Impossible => {
             let earlier = pair_of_sent(logs.findings(), station, entry, pdu)?;
-            impossible_at(logs, station, entry, pdu, earlier)
+            impossible_clash(logs, station, entry, pdu, earlier)
         }
         _ => None,
     }
 }
 
 /// The contradiction of a receipt, for this cause against it.
-fn clash_got<L: ExerciseLog>(
+fn receipt_clash<L: ExerciseLog>(
     logs: &Logs<'_, '_, L>,
     entry: usize,
     bytes: &[u8],
     cause: Cause,
     pdu: &PduView<'_>,
 ) -> Option<Clash>
-    ensures { result ≡ clash_got logs.now entry bytes.now cause (pdu_of pdu.now) }
+    ensures { result ≡ receipt_clash logs.now entry bytes.now cause (pdu_of pdu.now) }
 {
     match cause {
         Cause::Stranger => Some(Clash::Stranger { from: pdu.origin }),
-        Cause::NeverSent => Some(unsent_by(logs, entry, bytes, pdu)),
+        Cause::NeverSent => Some(unsent_clash(logs, entry, bytes, pdu)),
         _ => None,
     }
 }
 
 /// The contradiction of a told state, for this cause against it.
-fn clash_told<L: ExerciseLog>(
+fn told_state_clash<L: ExerciseLog>(
     logs: &Logs<'_, '_, L>,
     station: u16,
     entry: usize,
@@ -216,11 +216,11 @@ fn clash_told<L: ExerciseLog>(
 ) -> Option<Clash>
     requires at { station < length logs.now.setting.stations }
     requires within { entry ≤ length logs.now.entries }
-    ensures { result ≡ clash_told logs.now entry station entity cause }
+    ensures { result ≡ told_state_clash logs.now entry station entity cause }
 {
     match cause {
         Cause::WrongState => {
-            let (state, change) = made_before(logs, station, entity, entry);
+            let (state, change) = state_and_change(logs, station, entity, entry);
             Some(Clash::WrongState {
                 station,
                 entity,
@@ -246,17 +246,17 @@ pub(crate) fn clash_in<L: ExerciseLog>(logs: &Logs<'_, '_, L>, entry: usize) -> 
     match log.entry(entry) {
         EntryView::Sent { station, bytes, .. } => {
             let pdu = meaning_view(log.exercise(), bytes)?;
-            clash_sent(logs, station, entry, cause, &pdu)
+            send_clash(logs, station, entry, cause, &pdu)
         }
         EntryView::Received { bytes, .. } => {
             let pdu = meaning_view(log.exercise(), bytes)?;
-            clash_got(logs, entry, bytes, cause, &pdu)
+            receipt_clash(logs, entry, bytes, cause, &pdu)
         }
         EntryView::Told {
             station,
             entity,
             ..
-        } => clash_told(logs, station, entry, entity, cause),
+        } => told_state_clash(logs, station, entry, entity, cause),
     }
 }
 

@@ -4,9 +4,9 @@ ghost use Rattle.std.specs.Prelude.{◌≡◌, IfOk};
 ghost use Rattle.exercise_audit.specs.Audit.{IsBlocked};
 ghost use Rattle.exercise_conflict.specs.Whole.{IsConflictOf, IsExplanationOf};
 
-use crate::lacks::{Lack, lacks_of};
+use crate::lacks::{MissingSend, missing_sends};
 use crate::repair::{Repair, repair_unexplained};
-use crate::way::{Also, Way, all_also, cycles_of, ways_of};
+use crate::way::{Also, Way, cycles_of, further_causes, ways_of};
 use exercise_audit::{Audit, Block, Searched, audit, audit_found};
 use exercise_check::Certificate;
 use exercise_findings::Findings;
@@ -25,7 +25,7 @@ pub struct Conflict {
     /// Further causes against entries within one log, by rising entries.
     pub also: Vec<Also>,
     /// The missing sends, by rising entries.
-    pub lacks: Vec<Lack>,
+    pub lacks: Vec<MissingSend>,
     /// Whether adding these is enough.
     pub repair: Repair,
 }
@@ -46,7 +46,7 @@ impl Drop for Conflict {
 
 /// Result of a search for a sequence.
 #[derive(Drop)]
-pub enum Explanation {
+pub enum ConflictSearch {
     /// A sequence that explains the recording.
     Explained(Certificate),
     /// No sequence does: the contradictions.
@@ -64,8 +64,8 @@ fn contradicted<L: ExerciseLog>(
 {
     let ways = ways_of(alloc, findings, &blocks)?;
     let cycles = cycles_of(alloc, findings, &blocks)?;
-    let also = all_also(alloc, findings, &blocks)?;
-    let lacks = lacks_of(alloc, findings)?;
+    let also = further_causes(alloc, findings, &blocks)?;
+    let lacks = missing_sends(alloc, findings)?;
     let repair = repair_unexplained(alloc, findings, &lacks)?;
     Ok(Conflict {
         blocks,
@@ -82,23 +82,23 @@ fn contradicted<L: ExerciseLog>(
 pub fn conflict_of<L: ExerciseLog>(
     alloc: Global,
     findings: &Findings<'_, L>,
-) -> Result<Explanation, AllocError>
+) -> Result<ConflictSearch, AllocError>
     ensures { IfOk result (IsExplanationOf findings.now) }
 {
     match audit(alloc, findings.log())? {
-        Audit::Explained(certificate) => Ok(Explanation::Explained(certificate)),
+        Audit::Explained(certificate) => Ok(ConflictSearch::Explained(certificate)),
         Audit::Blocked(blocks) => {
             let conflict = contradicted(alloc, findings, blocks)?;
-            Ok(Explanation::Contradicted(conflict))
+            Ok(ConflictSearch::Contradicted(conflict))
         }
     }
 }
 
 /// Result of a search for a sequence, with the findings of the recording.
 #[derive(Drop)]
-pub struct Explaining<'a, L: ExerciseLog> {
+pub struct ConflictFindings<'a, L: ExerciseLog> {
     /// The result.
-    pub explanation: Explanation,
+    pub explanation: ConflictSearch,
     /// The findings from each station's log about its own entries.
     pub findings: Findings<'a, L>,
 }
@@ -117,7 +117,7 @@ fn settle_sources<L: ExerciseLog>(findings: &mut Findings<'_, L>)
 pub fn conflict_found<'a, L: ExerciseLog>(
     alloc: Global,
     findings: Findings<'a, L>,
-) -> Result<Explaining<'a, L>, AllocError>
+) -> Result<ConflictFindings<'a, L>, AllocError>
     ensures explanation { IfOk result (λ told. IsExplanationOf findings.entry told.explanation) }
     ensures findings { IfOk result (λ told. told.findings ≡ findings.entry) }
 {
@@ -126,13 +126,13 @@ pub fn conflict_found<'a, L: ExerciseLog>(
         mut findings,
     } = audit_found(alloc, findings)?;
     let explanation = match audit {
-        Audit::Explained(certificate) => Explanation::Explained(certificate),
+        Audit::Explained(certificate) => ConflictSearch::Explained(certificate),
         Audit::Blocked(blocks) => {
             settle_sources(&mut findings);
-            Explanation::Contradicted(contradicted(alloc, &findings, blocks)?)
+            ConflictSearch::Contradicted(contradicted(alloc, &findings, blocks)?)
         }
     };
-    Ok(Explaining {
+    Ok(ConflictFindings {
         explanation,
         findings,
     })

@@ -1,7 +1,7 @@
 //! Rings of stations that wait for one another.
 
 ghost use Rattle.std.specs.Prelude.{◌≡◌, option_map, length, IfOk};
-ghost use Rattle.exercise_conflict.specs.Cycles.{wait_at, cycle_at, IsWayBack};
+ghost use Rattle.exercise_conflict.specs.Cycles.{wait_at, cycle_at, IsWaitingPath};
 
 use crate::waits::Wait;
 use exercise_model::MOST_STATIONS;
@@ -22,13 +22,13 @@ fn wait_at(waits: &[Wait], station: usize) -> Option<Wait>
 
 /// Appends the stations from `from` on, each waiting for the next, up to the one that waits for
 /// `station`. Returns whether there is such a path, with all its stations above `station`.
-fn add_way_back(
+fn push_waiting_path(
     way: &mut Vec<usize>,
     waits: &[Wait],
     station: usize,
     from: usize,
 ) -> Result<bool, AllocError>
-    ensures { IfOk result (λ back. IsWayBack waits.now station from way.old.items way.new.items back) }
+    ensures { IfOk result (λ back. IsWaitingPath waits.now station from way.old.items way.new.items back) }
 {
     let mut at = from;
     for _step in 0..MOST_STATIONS {
@@ -64,7 +64,7 @@ pub fn cycle_at(
     };
     let mut cycle = Vec::new(alloc);
     cycle.push(station)?;
-    if add_way_back(&mut cycle, waits, station, wait.on)? {
+    if push_waiting_path(&mut cycle, waits, station, wait.on)? {
         Ok(Some(cycle))
     } else {
         Ok(None)

@@ -9,19 +9,19 @@ ghost use Rattle.siman_pdus.specs.Role.{request_id_of};
 ghost use Rattle.siman_pdus.specs.Spelling.{body_kind};
 ghost use Rattle.exercise_conflict.specs.Difference.{unless_same, or_else, same_request, time_difference, number_difference, fixed_datums_of, fixed_ids_of, same_datums_if, same_ids_if, body_difference, inner_difference, order_difference, pdu_difference};
 
-use crate::field::Field;
+use crate::field::PduField;
 use dis_records::records::{DatumIdRecords, FixedRecords};
 use siman_pdus::{BodyView, Message, PduView, request_id, same_order};
 
 /// The field if it differs, else the rest.
-fn unless_same(same: bool, field: Field, rest: Option<Field>) -> Option<Field>
+fn unless_same(same: bool, field: PduField, rest: Option<PduField>) -> Option<PduField>
     ensures { result ≡ unless_same same field rest }
 {
     if same { rest } else { Some(field) }
 }
 
 /// The first difference, else the rest.
-fn or_else(found: Option<Field>, rest: Option<Field>) -> Option<Field>
+fn or_else(found: Option<PduField>, rest: Option<PduField>) -> Option<PduField>
     ensures { result ≡ or_else found rest }
 {
     match found {
@@ -31,7 +31,7 @@ fn or_else(found: Option<Field>, rest: Option<Field>) -> Option<Field>
 }
 
 /// The first difference in times and in the fields that accompany them.
-fn time_difference(body: &BodyView<'_>, other: &BodyView<'_>) -> Option<Field>
+fn time_difference(body: &BodyView<'_>, other: &BodyView<'_>) -> Option<PduField>
     ensures { result ≡ time_difference (body_of body.now) (body_of other.now) }
 {
     match (body, other) {
@@ -43,8 +43,8 @@ fn time_difference(body: &BodyView<'_>, other: &BodyView<'_>) -> Option<Field>
                 ..
             },
         ) => {
-            let sim = unless_same(sim == begin, Field::Sim, None);
-            unless_same(real == start, Field::Real, sim)
+            let sim = unless_same(sim == begin, PduField::Sim, None);
+            unless_same(real == start, PduField::Real, sim)
         }
         (
             BodyView::StopFreeze {
@@ -60,16 +60,16 @@ fn time_difference(body: &BodyView<'_>, other: &BodyView<'_>) -> Option<Field>
                 ..
             },
         ) => {
-            let behaviour = unless_same(behaviour == frozen, Field::Behaviour, None);
-            let reason = unless_same(reason == why, Field::Reason, behaviour);
-            unless_same(real == stop, Field::Real, reason)
+            let behaviour = unless_same(behaviour == frozen, PduField::Behaviour, None);
+            let reason = unless_same(reason == why, PduField::Reason, behaviour);
+            unless_same(real == stop, PduField::Real, reason)
         }
         _ => None,
     }
 }
 
 /// The first difference in numbers that only one kind has.
-fn number_difference(body: &BodyView<'_>, other: &BodyView<'_>) -> Option<Field>
+fn number_difference(body: &BodyView<'_>, other: &BodyView<'_>) -> Option<PduField>
     ensures { result ≡ number_difference (body_of body.now) (body_of other.now) }
 {
     match (body, other) {
@@ -81,22 +81,22 @@ fn number_difference(body: &BodyView<'_>, other: &BodyView<'_>) -> Option<Field>
                 ..
             },
         ) => {
-            let response = unless_same(response == how, Field::Response, None);
-            unless_same(flag == what, Field::Flag, response)
+            let response = unless_same(response == how, PduField::Response, None);
+            unless_same(flag == what, PduField::Flag, response)
         }
         (BodyView::ActionRequest { action, .. }, BodyView::ActionRequest { action: asked, .. }) =>
-            unless_same(action == asked, Field::Action, None),
+            unless_same(action == asked, PduField::Action, None),
         (BodyView::ActionResponse { result, .. }, BodyView::ActionResponse { result: told, .. }) =>
-            unless_same(result == told, Field::Outcome, None),
+            unless_same(result == told, PduField::Outcome, None),
         (
             BodyView::DataQuery { interval, .. },
             BodyView::DataQuery {
                 interval: asked,
                 ..
             },
-        ) => { unless_same(interval == asked, Field::Interval, None) }
+        ) => { unless_same(interval == asked, PduField::Interval, None) }
         (BodyView::EventReport { event, .. }, BodyView::EventReport { event: told, .. }) => {
-            unless_same(event == told, Field::Event, None)
+            unless_same(event == told, PduField::Event, None)
         }
         _ => None,
     }
@@ -193,21 +193,21 @@ fn same_kind(pdu: &PduView<'_>, other: &PduView<'_>) -> bool
 
 /// The first difference of the bodies of two PDUs of one kind. `same`: whether the two are equal
 /// orders.
-fn body_difference(pdu: &PduView<'_>, other: &PduView<'_>, same: bool) -> Option<Field>
+fn body_difference(pdu: &PduView<'_>, other: &PduView<'_>, same: bool) -> Option<PduField>
     ensures { result ≡ body_difference (pdu_of pdu.now).body (pdu_of other.now).body same }
 {
     let (left, right) = (&pdu.body, &other.body);
-    let variable = unless_same(same, Field::Variable, None);
-    let ids = unless_same(same_ids(left, right), Field::Fixed, variable);
-    let fixed = unless_same(same_datums(left, right), Field::Fixed, ids);
+    let variable = unless_same(same, PduField::Variable, None);
+    let ids = unless_same(same_ids(left, right), PduField::Fixed, variable);
+    let fixed = unless_same(same_datums(left, right), PduField::Fixed, ids);
     let number = or_else(number_difference(left, right), fixed);
     let time = or_else(time_difference(left, right), number);
-    unless_same(same_request(pdu, other), Field::Request, time)
+    unless_same(same_request(pdu, other), PduField::Request, time)
 }
 
 /// The first difference of the bodies of two orders of one kind.
 #[tactic(auto, unfolding(crate::specs::Difference::inner_difference))]
-fn inner_difference(pdu: &PduView<'_>, other: &PduView<'_>) -> Option<Field>
+fn inner_difference(pdu: &PduView<'_>, other: &PduView<'_>) -> Option<PduField>
     ensures { result ≡ inner_difference (pdu_of pdu.now) (pdu_of other.now) }
 {
     body_difference(pdu, other, same_order(pdu, other))
@@ -216,23 +216,23 @@ fn inner_difference(pdu: &PduView<'_>, other: &PduView<'_>) -> Option<Field>
 /// The first difference of two orders, in the order of a printed row of a PDU; `None` if they are
 /// equal. Timestamps and status are ignored. It takes no memory.
 #[tactic(auto, unfolding(crate::specs::Difference::order_difference))]
-pub fn order_difference(pdu: &PduView<'_>, other: &PduView<'_>) -> Option<Field>
+pub fn order_difference(pdu: &PduView<'_>, other: &PduView<'_>) -> Option<PduField>
     ensures { result ≡ order_difference (pdu_of pdu.now) (pdu_of other.now) }
 {
     let body = inner_difference(pdu, other);
-    let to = unless_same(pdu.target == other.target, Field::To, body);
-    let from = unless_same(pdu.origin == other.origin, Field::From, to);
-    let kind = unless_same(same_kind(pdu, other), Field::Kind, from);
-    unless_same(pdu.version == other.version, Field::Version, kind)
+    let to = unless_same(pdu.target == other.target, PduField::To, body);
+    let from = unless_same(pdu.origin == other.origin, PduField::From, to);
+    let kind = unless_same(same_kind(pdu, other), PduField::Kind, from);
+    unless_same(pdu.version == other.version, PduField::Version, kind)
 }
 
 /// The first difference of two PDUs, including timestamps and status. It takes no memory.
 #[tactic(auto, unfolding(crate::specs::Difference::pdu_difference))]
-pub fn pdu_difference(pdu: &PduView<'_>, other: &PduView<'_>) -> Option<Field>
+pub fn pdu_difference(pdu: &PduView<'_>, other: &PduView<'_>) -> Option<PduField>
     ensures { result ≡ pdu_difference (pdu_of pdu.now) (pdu_of other.now) }
 {
     let order = order_difference(pdu, other);
-    let status = unless_same(pdu.status == other.status, Field::Status, order);
-    let time = unless_same(pdu.stamp == other.stamp, Field::Time, status);
-    unless_same(pdu.version == other.version, Field::Version, time)
+    let status = unless_same(pdu.status == other.status, PduField::Status, order);
+    let time = unless_same(pdu.stamp == other.stamp, PduField::Time, status);
+    unless_same(pdu.version == other.version, PduField::Version, time)
 }

@@ -6,7 +6,7 @@ ghost use Rattle.exercise_model.specs.Account.{pair_of};
 ghost use Rattle.exercise_conflict.specs.Earlier.{sent_pdu, sends_other_at, is_opposite, is_opposite_to, sends_opposite_at, earlier_sent, IsSentAt, earlier_of};
 
 use crate::logs::Logs;
-use crate::question::Question;
+use crate::question::NumberTest;
 use exercise_findings::Findings;
 use exercise_model::{
     AcknowledgeKey, Cause, EntryView, ExerciseLog, key_of, meaning_view, responds, responds_under,
@@ -44,7 +44,7 @@ struct OtherOrder<'a, L: ExerciseLog> {
     pdu: &'a PduView<'a>,
 }
 
-impl<L: ExerciseLog> Question for OtherOrder<'_, L> {
+impl<L: ExerciseLog> NumberTest for OtherOrder<'_, L> {
     ghost test = { λ q. sends_other_at q.findings.now q.station (pdu_of q.pdu.now) };
 
     #[tactic(auto, unfolding(crate::specs::Earlier::sends_other_at))]
@@ -68,7 +68,7 @@ struct Opposite<'a, L: ExerciseLog> {
     pdu: &'a PduView<'a>,
 }
 
-impl<L: ExerciseLog> Question for Opposite<'_, L> {
+impl<L: ExerciseLog> NumberTest for Opposite<'_, L> {
     ghost test = { λ q. sends_opposite_at q.findings.now q.station (pdu_of q.pdu.now) };
 
     #[tactic(auto, unfolding(crate::specs::Earlier::sends_opposite_at))]

@@ -7,7 +7,7 @@ use std::fmt;
 
 /// A field in which one datagram can differ from another.
 #[derive(Clone, Copy, PartialEq, Eq)]
-pub enum Field {
+pub enum PduField {
     /// The protocol version.
     Version,
     /// The timestamp.
@@ -50,38 +50,38 @@ pub enum Field {
     Padding,
 }
 
-impl Field {
+impl PduField {
     /// Its name: the key that it has in the row of a PDU.
     pub fn name(self) -> &'static str
         ensures { result.now ≡ field_text self }
     {
         match self {
-            Field::Version => "version",
-            Field::Time => "time",
-            Field::Status => "status",
-            Field::Kind => "kind",
-            Field::From => "from",
-            Field::To => "to",
-            Field::Real => "real",
-            Field::Sim => "sim",
-            Field::Request => "request",
-            Field::Reason => "reason",
-            Field::Behaviour => "behaviour",
-            Field::Flag => "flag",
-            Field::Response => "response",
-            Field::Action => "action",
-            Field::Outcome => "result",
-            Field::Interval => "interval",
-            Field::Event => "event",
-            Field::Fixed => "fixed",
-            Field::Variable => "variable",
-            Field::Padding => "padding",
+            PduField::Version => "version",
+            PduField::Time => "time",
+            PduField::Status => "status",
+            PduField::Kind => "kind",
+            PduField::From => "from",
+            PduField::To => "to",
+            PduField::Real => "real",
+            PduField::Sim => "sim",
+            PduField::Request => "request",
+            PduField::Reason => "reason",
+            PduField::Behaviour => "behaviour",
+            PduField::Flag => "flag",
+            PduField::Response => "response",
+            PduField::Action => "action",
+            PduField::Outcome => "result",
+            PduField::Interval => "interval",
+            PduField::Event => "event",
+            PduField::Fixed => "fixed",
+            PduField::Variable => "variable",
+            PduField::Padding => "padding",
         }
     }
 }
 
 /// Prints its name, like `response`.
-impl fmt::Display for Field {
+impl fmt::Display for PduField {
     ghost use Rattle.std.specs.Prelude.{Some};
 
     ghost output = { λ field. Some (field_text field) };

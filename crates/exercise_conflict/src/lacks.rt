@@ -6,11 +6,11 @@ ghost use Rattle.siman_pdus.specs.Reading.{pdu_of};
 ghost use Rattle.exercise_model.specs.Meaning.{meaning};
 ghost use Rattle.exercise_model.specs.Recording.{IsRecording};
 ghost use Rattle.exercise_findings.specs.Missing.{place_of, missing_pdu, missing_at};
-ghost use Rattle.exercise_conflict.specs.Lacks.{AreAsks, AreReceipts, lack_by, lacks_of};
+ghost use Rattle.exercise_conflict.specs.Lacks.{AreRequestKeys, AreReceipts, missing_send_by, missing_sends};
 
-use crate::asks::{Asks, asks_of, place_of};
+use crate::asks::{Asks, place_of, request_keys};
 use crate::near::sender_of;
-use crate::receipts::{Receipts, no_receipts, note_receipt};
+use crate::receipts::{FirstReceipts, no_receipts, note_receipt};
 use exercise_findings::{Findings, Missing};
 use exercise_model::{EntryView, ExerciseLog, is_answer, meaning_view};
 use siman_pdus::PduView;
@@ -18,7 +18,7 @@ use std::alloc::{AllocError, Global};
 
 /// A send that a log lacks.
 #[derive(Clone, Copy, PartialEq, Eq)]
-pub struct Lack {
+pub struct MissingSend {
     /// The first entry that receives the datagram.
     pub entry: usize,
     /// The station whose log lacks the send, and its place there.
@@ -35,8 +35,8 @@ fn place_in<L: ExerciseLog>(
     station: u16,
     pdu: &PduView<'_>,
 ) -> Result<Option<usize>, AllocError>
-    requires { IfSome asks.old (AreAsks findings.now (length findings.now.entries)) }
-    ensures asks { OnOk result (IfSome asks.new (AreAsks findings.now (length findings.now.entries))) }
+    requires { IfSome asks.old (AreRequestKeys findings.now (length findings.now.entries)) }
+    ensures asks { OnOk result (IfSome asks.new (AreRequestKeys findings.now (length findings.now.entries))) }
     ensures place { IfOk result (λ place. place ≡ place_of findings.now station (pdu_of pdu.now)) }
 {
     if !is_answer(pdu) {
@@ -45,7 +45,7 @@ fn place_in<L: ExerciseLog>(
     if let Some(asks) = &*asks {
         return Ok(place_of(findings, asks, station, pdu));
     }
-    let made = asks_of(alloc, findings)?;
+    let made = request_keys(alloc, findings)?;
     let place = place_of(findings, &made, station, pdu);
     *asks = Some(made);
     Ok(place)
@@ -58,8 +58,8 @@ fn missing_pdu<L: ExerciseLog>(
     asks: &mut Option<Asks>,
     pdu: &PduView<'_>,
 ) -> Result<Option<Missing>, AllocError>
-    requires { IfSome asks.old (AreAsks findings.now (length findings.now.entries)) }
-    ensures asks { OnOk result (IfSome asks.new (AreAsks findings.now (length findings.now.entries))) }
+    requires { IfSome asks.old (AreRequestKeys findings.now (length findings.now.entries)) }
+    ensures asks { OnOk result (IfSome asks.new (AreRequestKeys findings.now (length findings.now.entries))) }
     ensures missing { IfOk result (λ missing. missing ≡ missing_pdu findings.now (pdu_of pdu.now)) }
 {
     match sender_of(findings, pdu) {
@@ -78,8 +78,8 @@ fn missing_bytes<L: ExerciseLog>(
     asks: &mut Option<Asks>,
     bytes: &[u8],
 ) -> Result<Option<Missing>, AllocError>
-    requires { IfSome asks.old (AreAsks findings.now (length findings.now.entries)) }
-    ensures asks { OnOk result (IfSome asks.new (AreAsks findings.now (length findings.now.entries))) }
+    requires { IfSome asks.old (AreRequestKeys findings.now (length findings.now.entries)) }
+    ensures asks { OnOk result (IfSome asks.new (AreRequestKeys findings.now (length findings.now.entries))) }
     ensures missing { IfOk result (λ missing. missing ≡ option_and_then (missing_pdu findings.now) (meaning findings.now.setting.exercise bytes.now)) }
 {
     match meaning_view(findings.log().exercise(), bytes) {
@@ -95,14 +95,14 @@ fn missing_next<'a, L: ExerciseLog>(
     alloc: Global,
     findings: &Findings<'a, L>,
     asks: &mut Option<Asks>,
-    receipts: &mut Receipts<'a>,
+    receipts: &mut FirstReceipts<'a>,
     entry: usize,
 ) -> Result<Option<Missing>, AllocError>
     requires within { entry < length findings.now.entries }
-    requires asks { IfSome asks.old (AreAsks findings.now (length findings.now.entries)) }
+    requires asks { IfSome asks.old (AreRequestKeys findings.now (length findings.now.entries)) }
     requires tied { AreReceipts findings.now entry receipts.old }
     ensures missing { IfOk result (λ missing. missing ≡ missing_at findings.now entry) }
-    ensures asks { OnOk result (IfSome asks.new (AreAsks findings.now (length findings.now.entries))) }
+    ensures asks { OnOk result (IfSome asks.new (AreRequestKeys findings.now (length findings.now.entries))) }
     ensures tied { OnOk result (AreReceipts findings.now (entry + 1) receipts.new) }
 {
     if findings.source(entry).is_some() {
@@ -122,15 +122,15 @@ fn missing_next<'a, L: ExerciseLog>(
 }
 
 /// Appends the missing send that an entry reveals, if any.
-fn push_lack(
-    lacks: &mut Vec<Lack>,
+fn push_missing_send(
+    lacks: &mut Vec<MissingSend>,
     entry: usize,
     missing: Option<Missing>,
 ) -> Result<(), AllocError>
-    ensures { OnOk result (lacks.new.items ≡ lacks.old.items ++ option_to_list (option_map (lack_by entry) missing)) }
+    ensures { OnOk result (lacks.new.items ≡ lacks.old.items ++ option_to_list (option_map (missing_send_by entry) missing)) }
 {
     if let Some(missing) = missing {
-        lacks.push(Lack { entry, missing })?;
+        lacks.push(MissingSend { entry, missing })?;
     }
     Ok(())
 }
@@ -139,11 +139,11 @@ fn push_lack(
 /// but is sent by no entry of that station, by rising entries of the first receipt. It takes one
 /// pass, with two look-ups for each entry without a source, and a second pass if an answer is among
 /// them.
-pub fn lacks_of<L: ExerciseLog>(
+pub fn missing_sends<L: ExerciseLog>(
     alloc: Global,
     findings: &Findings<'_, L>,
-) -> Result<Vec<Lack>, AllocError>
-    ensures lacks { IfOk result (λ lacks. lacks.items ≡ lacks_of findings.now) }
+) -> Result<Vec<MissingSend>, AllocError>
+    ensures lacks { IfOk result (λ lacks. lacks.items ≡ missing_sends findings.now) }
     ensures limits { OnOk result (IsRecording findings.now) }
 {
     let mut asks = None;
@@ -151,7 +151,7 @@ pub fn lacks_of<L: ExerciseLog>(
     let mut lacks = Vec::new(alloc);
     for entry in 0..findings.log().entry_count() {
         let missing = missing_next(alloc, findings, &mut asks, &mut receipts, entry)?;
-        push_lack(&mut lacks, entry, missing)?;
+        push_missing_send(&mut lacks, entry, missing)?;
     }
     Ok(lacks)
 }

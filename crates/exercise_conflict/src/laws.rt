@@ -22,9 +22,9 @@ ghost use Rattle.exercise_conflict.specs.declared.waits.Wait.{Wait};
 ghost use Rattle.exercise_conflict.specs.Waits.{waits_of, Leads};
 ghost use Rattle.exercise_conflict.specs.Earlier.{earlier_of, Contradicts, ContradictsAnswer};
 ghost use Rattle.exercise_conflict.specs.Conflict.{ClashesByOrder, ClashesByAnswer, ClashesByOpposite, ClashesByChange, ClashesByState, ClashesBySend};
-ghost use Rattle.exercise_conflict.specs.Since.{made_since, HasOneState, Made};
+ghost use Rattle.exercise_conflict.specs.Since.{last_change_entry, HasOneState, Made};
 ghost use Rattle.exercise_conflict.specs.StepClash.{is_of_event};
-ghost use Rattle.exercise_conflict.specs.Lacks.{lacks_of};
+ghost use Rattle.exercise_conflict.specs.Lacks.{missing_sends};
 ghost use Rattle.exercise_conflict.specs.declared.repair.Enough.{Enough};
 ghost use Rattle.exercise_conflict.specs.declared.repair.Enough.TheVariants as words;
 ghost use Rattle.exercise_conflict.specs.Repair.{repaired, IsEnough};
@@ -35,7 +35,7 @@ ghost use Rattle.exercise_conflict.specs.Cycles.{cycle_at, AreWaits, EndsAt, IsT
 /// The law of own causes: if its station's log shows a cause other than `NeverSent` against an
 /// entry, no run explains the recording. So such a cause is always the recording's fault, and no
 /// search is needed to decide that.
-pub fn own_causes_stand()
+pub fn own_causes_are_final()
     ensures { (r : PlainRecording) (j : ℕ) (cause : Cause) (h : History) → own_cause r j ≡ Some cause → cause ≢ NeverSent → Explains r h → ⊥ }
 {}
 
@@ -104,8 +104,8 @@ pub fn earlier_is_the_conflict()
 /// The law of states: the entry that made the state of an entity is a change, and no later one
 /// changed that state; if there is none, the entity has its initial state.
 pub fn states_are_made()
-    ensures made { (r : PlainRecording) (s e n k : ℕ) → made_since r s e n ≡ Some k → Made r s e n k }
-    ensures start { (r : PlainRecording) (s e n : ℕ) → made_since r s e n ≡ None → HasOneState r s e 0 n }
+    ensures made { (r : PlainRecording) (s e n k : ℕ) → last_change_entry r s e n ≡ Some k → Made r s e n k }
+    ensures start { (r : PlainRecording) (s e n : ℕ) → last_change_entry r s e n ≡ None → HasOneState r s e 0 n }
 {}
 
 /// The law of clashes: the reported other side of a cause is the real one. After the reported
@@ -150,7 +150,7 @@ pub fn enough_is_one_word()
 /// of entries is.
 pub fn fewer_do_not_do()
     ensures { (r wide : PlainRecording) (h : History) → IsRecording r → IsRecording wide → IsWider r wide → Explains wide h
-        → length r.entries + length (lacks_of r) ≤ length wide.entries }
+        → length r.entries + length (missing_sends r) ≤ length wide.entries }
 {}
 
 /// The law of other places: if the missing sends are not enough at their places, no run explains a

@@ -5,7 +5,7 @@ ghost use Rattle.siman_print.specs.Lent.{value_of};
 ghost use Rattle.siman_print.specs.Spelled.{line_spelled};
 ghost use Rattle.exercise_conflict.specs.Lines.{entry_value, final_line, wait_line, also_line, missing_line, fault_text, fault_line, addresses_of, cycle_line, repair_line};
 
-use crate::{Fault, Lack, Repair, Wait};
+use crate::{Blame, MissingSend, Repair, Wait};
 use dis_records::Address;
 use exercise_model::{Cause, ExerciseLog};
 use siman_print::{Field, Spelling, Value, put_named};
@@ -81,7 +81,7 @@ pub fn put_missing<L: ExerciseLog>(
     text: &mut String,
     spelling: Spelling,
     log: &L,
-    lack: Lack,
+    lack: MissingSend,
 ) -> Result<(), AllocError>
     requires { lack.missing.sender < length (L.recording log.now).setting.stations }
     ensures { OnOk result (string_bytes text.new ≡ string_bytes text.old ++ line_spelled spelling (missing_line (L.recording log.now) lack)) }
@@ -96,17 +96,17 @@ pub fn put_missing<L: ExerciseLog>(
 }
 
 /// The word for what is at fault.
-fn fault_word(fault: Fault) -> &'static str
+fn fault_word(fault: Blame) -> &'static str
     ensures { result.now ≡ fault_text fault }
 {
     match fault {
-        Fault::Certificate => "certificate",
-        Fault::Recording => "recording",
+        Blame::Certificate => "certificate",
+        Blame::Recording => "recording",
     }
 }
 
 /// `fault certificate`, or `fault recording`.
-pub fn put_fault(text: &mut String, spelling: Spelling, fault: Fault) -> Result<(), AllocError>
+pub fn put_fault(text: &mut String, spelling: Spelling, fault: Blame) -> Result<(), AllocError>
     ensures { OnOk result (string_bytes text.new ≡ string_bytes text.old ++ line_spelled spelling (fault_line fault)) }
 {
     let fields = [Field::Bare("of", Value::Word(fault_word(fault)))];

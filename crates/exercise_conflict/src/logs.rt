@@ -7,8 +7,8 @@ ghost use Rattle.exercise_conflict.specs.Clash.{sends_near_at};
 ghost use Rattle.exercise_conflict.specs.Own.{LeavesOutNone};
 
 use crate::nears::{Nears, first_near, near_key, nears_of};
-use crate::own::{Own, first_in, follower_in, own_of};
-use crate::question::Question;
+use crate::own::{StationChains, first_in, follower_in, own_of};
+use crate::question::NumberTest;
 use exercise_findings::Findings;
 use exercise_model::ExerciseLog;
 use siman_pdus::PduView;
@@ -19,7 +19,7 @@ use std::marker::Model;
 /// visits no other entries, and an index of first sends. Contracts see only the recording.
 pub(crate) struct Logs<'f, 'a, L: ExerciseLog> {
     findings: &'f Findings<'a, L>,
-    own: Option<Own>,
+    own: Option<StationChains>,
     nears: Option<Nears>,
 }
 
@@ -118,7 +118,7 @@ impl<'f, 'a, L: ExerciseLog> Logs<'f, 'a, L> {
 
     /// The first entry below a bound that passes a test which only entries of this station can
     /// pass.
-    pub fn first_own<Q: Question>(&self, question: &Q, station: u16, end: usize) -> Option<usize>
+    pub fn first_own<Q: NumberTest>(&self, question: &Q, station: u16, end: usize) -> Option<usize>
         requires within { end ≤ length self.now.entries }
         requires own { (i : ℕ) → own_event self.now station i ≡ None → Q.test question.now i ≡ false }
         ensures { result ≡ first_below (Q.test question.now) end }

@@ -5,9 +5,9 @@ ghost use Rattle.std.specs.List.{flat_map};
 ghost use Rattle.std.specs.Option.{option_to_list};
 ghost use Rattle.exercise_audit.specs.declared.blocks.Block.{Block as BlockData};
 ghost use Rattle.exercise_conflict.specs.declared.way.Also.{Also as AlsoData};
-ghost use Rattle.exercise_conflict.specs.Told.{clash_entries, step_clash_entries, way_entries, lack_entries, conflict_entries, refusal_entries};
+ghost use Rattle.exercise_conflict.specs.Told.{clash_entries, step_clash_entries, way_entries, missing_send_entries, conflict_entries, refusal_entries};
 
-use crate::{Also, Clash, Conflict, Lack, Refusal, StepClash, Way};
+use crate::{Also, Clash, Conflict, MissingSend, Refusal, StepClash, Way};
 use exercise_audit::Block;
 use std::alloc::{AllocError, Global};
 
@@ -116,7 +116,7 @@ fn name_ways(entries: &mut Vec<usize>, ways: &[Way]) -> Result<(), AllocError>
     Ok(())
 }
 
-fn name_all_also(entries: &mut Vec<usize>, all: &[Also]) -> Result<(), AllocError>
+fn name_further_causes(entries: &mut Vec<usize>, all: &[Also]) -> Result<(), AllocError>
     ensures { OnOk result (entries.new.items ≡ entries.old.items ++ map (λ (a : AlsoData). a.entry) all.now) }
 {
     for also in all {
@@ -125,8 +125,8 @@ fn name_all_also(entries: &mut Vec<usize>, all: &[Also]) -> Result<(), AllocErro
     Ok(())
 }
 
-fn name_lacks(entries: &mut Vec<usize>, lacks: &[Lack]) -> Result<(), AllocError>
-    ensures { OnOk result (entries.new.items ≡ entries.old.items ++ flat_map lack_entries lacks.now) }
+fn name_missing_sends(entries: &mut Vec<usize>, lacks: &[MissingSend]) -> Result<(), AllocError>
+    ensures { OnOk result (entries.new.items ≡ entries.old.items ++ flat_map missing_send_entries lacks.now) }
 {
     for lack in lacks {
         entries.push(lack.entry)?;
@@ -141,8 +141,8 @@ fn name_conflict(entries: &mut Vec<usize>, conflict: &Conflict) -> Result<(), Al
 {
     name_blocks(entries, &conflict.blocks)?;
     name_ways(entries, &conflict.ways)?;
-    name_all_also(entries, &conflict.also)?;
-    name_lacks(entries, &conflict.lacks)?;
+    name_further_causes(entries, &conflict.also)?;
+    name_missing_sends(entries, &conflict.lacks)?;
     Ok(())
 }
 

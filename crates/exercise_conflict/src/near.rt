@@ -5,14 +5,14 @@ ghost use Rattle.std.specs.Prelude.{◌≡◌, option_map};
 ghost use Rattle.siman_pdus.specs.Reading.{pdu_of};
 ghost use Rattle.exercise_model.specs.Account.{sender_of};
 ghost use Rattle.exercise_findings.specs.Source.{source_of};
-ghost use Rattle.exercise_conflict.specs.Clash.{is_near, sends_near_at, near_of, or_padding, differs_at, unsent_by};
+ghost use Rattle.exercise_conflict.specs.Clash.{is_near, sends_near_at, near_of, field_or_padding, differs_at, unsent_clash};
 
 use crate::clash::Clash;
 use crate::difference::pdu_difference;
 use crate::earlier::sent_pdu;
-use crate::field::Field;
+use crate::field::PduField;
 use crate::logs::Logs;
-use crate::question::Question;
+use crate::question::NumberTest;
 use exercise_findings::Findings;
 use exercise_model::{EntryView, ExerciseLog, is_from, meaning_view};
 use siman_pdus::{Message, PduView, is_under_identifier, request_id, same_order};
@@ -54,7 +54,7 @@ struct SendsNear<'a, L: ExerciseLog> {
     pdu: &'a PduView<'a>,
 }
 
-impl<L: ExerciseLog> Question for SendsNear<'_, L> {
+impl<L: ExerciseLog> NumberTest for SendsNear<'_, L> {
     ghost test = { λ q. sends_near_at q.findings.now q.station (pdu_of q.pdu.now) };
 
     #[tactic(auto, unfolding(crate::specs::Clash::sends_near_at))]
@@ -85,12 +85,12 @@ fn near_of<L: ExerciseLog>(logs: &Logs<'_, '_, L>, pdu: &PduView<'_>) -> Option<
 }
 
 /// The differing field, or `Padding` if no field differs.
-fn or_padding(found: Option<Field>) -> Field
-    ensures { result ≡ or_padding found }
+fn field_or_padding(found: Option<PduField>) -> PduField
+    ensures { result ≡ field_or_padding found }
 {
     match found {
         Some(field) => field,
-        None => Field::Padding,
+        None => PduField::Padding,
     }
 }
 
@@ -100,7 +100,7 @@ fn differs_at<L: ExerciseLog>(
     bytes: &[u8],
     pdu: &PduView<'_>,
     entry: usize,
-) -> Option<Field>
+) -> Option<PduField>
     ensures { result ≡ differs_at findings.now bytes.now (pdu_of pdu.now) entry }
 {
     let log = findings.log();
@@ -110,7 +110,7 @@ fn differs_at<L: ExerciseLog>(
     match log.entry(entry) {
         EntryView::Sent { bytes: sent, .. } if bytes != sent => {
             match meaning_view(log.exercise(), sent) {
-                Some(other) => Some(or_padding(pdu_difference(pdu, &other))),
+                Some(other) => Some(field_or_padding(pdu_difference(pdu, &other))),
                 None => None,
             }
         }
@@ -129,13 +129,13 @@ fn source_of<L: ExerciseLog>(findings: &Findings<'_, L>, entry: usize) -> Option
 }
 
 /// The contradiction of an entry that receives a datagram which was never sent.
-pub(crate) fn unsent_by<L: ExerciseLog>(
+pub(crate) fn unsent_clash<L: ExerciseLog>(
     logs: &Logs<'_, '_, L>,
     entry: usize,
     bytes: &[u8],
     pdu: &PduView<'_>,
 ) -> Clash
-    ensures { result ≡ unsent_by logs.now entry bytes.now (pdu_of pdu.now) }
+    ensures { result ≡ unsent_clash logs.now entry bytes.now (pdu_of pdu.now) }
 {
     let findings = logs.findings();
     let near = near_of(logs, pdu);

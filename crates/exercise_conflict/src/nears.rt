@@ -6,7 +6,7 @@ ghost use Rattle.siman_pdus.specs.Reading.{pdu_of};
 ghost use Rattle.exercise_conflict.specs.declared.nears.Near.{Near};
 ghost use Rattle.exercise_conflict.specs.Near.{same_near, near_key, near_at, AreNears};
 
-use crate::receipts::{Table, keep_first};
+use crate::receipts::{ConflictTable, keep_first};
 use exercise_findings::Findings;
 use exercise_model::{EntryView, ExerciseLog, meaning_view};
 use siman_pdus::{Message, PduView, request_id};
@@ -31,7 +31,7 @@ pub(crate) struct Near {
 }
 
 /// The first entry under each key.
-pub(crate) type Nears = Table<Near, usize>;
+pub(crate) type Nears = ConflictTable<Near, usize>;
 
 /// An empty index. It takes no memory.
 fn no_nears(alloc: Global) -> Nears

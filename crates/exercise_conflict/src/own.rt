@@ -12,7 +12,7 @@ const NO_ENTRY: u32 = u32::MAX;
 
 /// For each station a chain of its entries, in their order.
 #[derive(Drop)]
-pub(crate) struct Own {
+pub(crate) struct StationChains {
     /// For each entry the next one of its station.
     pub followers: Vec<u32>,
     /// For each station its first entry.
@@ -20,7 +20,7 @@ pub(crate) struct Own {
 }
 
 /// Puts an entry at the front of its station's chain; all later entries are chained already.
-fn go_back<L: ExerciseLog>(own: &mut Own, log: &L, entry: usize)
+fn go_back<L: ExerciseLog>(own: &mut StationChains, log: &L, entry: usize)
     requires within { entry < length (L.recording log.now).entries }
     requires tied { AreOwnFrom (L.recording log.now) (entry + 1) own.old }
     ensures { AreOwnFrom (L.recording log.now) entry own.new }
@@ -32,16 +32,16 @@ fn go_back<L: ExerciseLog>(own: &mut Own, log: &L, entry: usize)
 }
 
 /// Empty chains.
-fn no_own<L: ExerciseLog>(alloc: Global, log: &L) -> Result<Own, AllocError>
+fn no_own<L: ExerciseLog>(alloc: Global, log: &L) -> Result<StationChains, AllocError>
     ensures { let r = L.recording log.now in IfOk result (AreOwnFrom r (length r.entries)) }
 {
     let followers = vec![in alloc; NO_ENTRY; log.entry_count()]?;
     let first = vec![in alloc; NO_ENTRY; log.station_count()]?;
-    Ok(Own { followers, first })
+    Ok(StationChains { followers, first })
 }
 
 /// The chains of all stations of a log, built in one pass from the end.
-pub(crate) fn own_of<L: ExerciseLog>(alloc: Global, log: &L) -> Result<Own, AllocError>
+pub(crate) fn own_of<L: ExerciseLog>(alloc: Global, log: &L) -> Result<StationChains, AllocError>
     ensures { IfOk result (AreOwnFrom (L.recording log.now) 0) }
 {
     let mut own = no_own(alloc, log)?;
@@ -64,7 +64,7 @@ fn no_later(next: usize, end: usize) -> usize
 /// chains.
 #[tactic(auto, using(crate::proofs::Owning::none_between))]
 pub(crate) fn first_in<L: ExerciseLog>(
-    own: &Option<Own>,
+    own: &Option<StationChains>,
     log: &L,
     station: u16,
     end: usize,
@@ -84,7 +84,7 @@ pub(crate) fn first_in<L: ExerciseLog>(
 /// Next entry, up to `end`, of such a walk: the station's next, or `entry + 1` without chains.
 #[tactic(auto, using(crate::proofs::Owning::none_between))]
 pub(crate) fn follower_in<L: ExerciseLog>(
-    own: &Option<Own>,
+    own: &Option<StationChains>,
     log: &L,
     station: u16,
     entry: usize,

@@ -4,7 +4,7 @@ ghost use Rattle.std.specs.Prelude.{◌≡◌, ◌<◌, ◌≤◌, IfSome};
 ghost use Rattle.exercise_model.specs.Place.{first_below};
 
 /// A test of an entry, yes or no. No call takes memory.
-pub(crate) trait Question {
+pub(crate) trait NumberTest {
     ghost use Rattle.std.specs.Prelude.{◌≡◌, ℕ, Bool};
 
     /// The specification of the test.
@@ -17,7 +17,7 @@ pub(crate) trait Question {
 
 /// The first entry below a bound that passes the test.
 #[tactic(auto, using(crate::proofs::Steps::question_steps))]
-pub(crate) fn first_below<Q: Question>(question: &Q, end: usize) -> Option<usize>
+pub(crate) fn first_below<Q: NumberTest>(question: &Q, end: usize) -> Option<usize>
     ensures { result ≡ first_below (Q.test question.now) end }
 {
     for entry in 0..end {

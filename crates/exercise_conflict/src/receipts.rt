@@ -20,11 +20,11 @@ use std::hash::{BuildHasherDefault, DefaultHasher, Hash, Hasher};
 
 /// A hash table whose keys are from a recording. Its writer may be hostile, so the hasher is one
 /// for which no colliding keys can be prepared.
-pub(crate) type Table<K, V> = IndexMap<K, V, BuildHasherDefault<DefaultHasher>>;
+pub(crate) type ConflictTable<K, V> = IndexMap<K, V, BuildHasherDefault<DefaultHasher>>;
 
 /// Stores a value under a key that has none yet; returns the value that the key then has.
 pub(crate) fn keep_first<K: Copy + Eq + Hash, V: Copy>(
-    table: &mut Table<K, V>,
+    table: &mut ConflictTable<K, V>,
     key: K,
     value: V,
 ) -> Result<V, AllocError>
@@ -67,20 +67,20 @@ impl<'a> Hash for Datagram<'a> {
 }
 
 /// The first receipt of each datagram that no log sends.
-pub(crate) type Receipts<'a> = Table<Datagram<'a>, usize>;
+pub(crate) type FirstReceipts<'a> = ConflictTable<Datagram<'a>, usize>;
 
 /// An empty index. It takes no memory.
-pub(crate) fn no_receipts<'a>(alloc: Global) -> Receipts<'a>
+pub(crate) fn no_receipts<'a>(alloc: Global) -> FirstReceipts<'a>
     ensures { (d : Datagram) → get same_datagram result d ≡ None }
 {
-    Receipts::with_hasher(alloc, BuildHasherDefault::default())
+    FirstReceipts::with_hasher(alloc, BuildHasherDefault::default())
 }
 
 /// Adds the datagram of the next entry, which receives a datagram that no log sends; returns
 /// whether it is the first to do so.
 pub(crate) fn note_receipt<'a, L: ExerciseLog>(
     findings: &Findings<'a, L>,
-    receipts: &mut Receipts<'a>,
+    receipts: &mut FirstReceipts<'a>,
     entry: usize,
     bytes: &'a [u8],
 ) -> Result<bool, AllocError>

@@ -2,12 +2,12 @@
 
 ghost use Rattle.std.specs.Prelude.{◌≡◌, false, IfOk};
 ghost use Rattle.exercise_model.specs.Recording.{IsRecording};
-ghost use Rattle.exercise_conflict.specs.Lacks.{lacks_of};
-ghost use Rattle.exercise_conflict.specs.Repair.{repaired, is_too_long, is_able_at, lacks_able, IsUnexplained, IsEnough, IsRepairOf};
+ghost use Rattle.exercise_conflict.specs.Lacks.{missing_sends};
+ghost use Rattle.exercise_conflict.specs.Repair.{repaired, is_too_long, is_able_at, is_able_missing, IsUnexplained, IsEnough, IsRepairOf};
 ghost use Rattle.exercise_conflict.specs.RepairText.{enough_text};
 
-use crate::fault::has_standing_cause;
-use crate::lacks::{Lack, lacks_of};
+use crate::blame::has_standing_cause;
+use crate::lacks::{MissingSend, missing_sends};
 use crate::repaired::RepairedLog;
 use exercise_audit::{Audit, audit};
 use exercise_findings::Findings;
@@ -81,10 +81,10 @@ fn is_able_at<L: ExerciseLog>(findings: &Findings<'_, L>, entry: usize) -> bool
 }
 
 /// Whether one of the missing sends is an Able.
-#[tactic(auto, unfolding(crate::specs::Repair::lacks_able))]
-fn lacks_able<L: ExerciseLog>(findings: &Findings<'_, L>, lacks: &[Lack]) -> bool
-    requires { lacks.now ≡ lacks_of findings.now }
-    ensures { result ≡ lacks_able findings.now }
+#[tactic(auto, unfolding(crate::specs::Repair::is_able_missing))]
+fn is_able_missing<L: ExerciseLog>(findings: &Findings<'_, L>, lacks: &[MissingSend]) -> bool
+    requires { lacks.now ≡ missing_sends findings.now }
+    ensures { result ≡ is_able_missing findings.now }
 {
     lacks.iter().any(|lack| is_able_at(findings, lack.entry))
 }
@@ -99,7 +99,7 @@ fn searched<L: ExerciseLog>(
     requires repaired { whole.now ≡ repaired findings.now }
     requires limits { IsRecording whole.now }
     requires fits { is_too_long findings.now ≡ false }
-    requires able { able ≡ lacks_able findings.now }
+    requires able { able ≡ is_able_missing findings.now }
     ensures { IfOk result (IsEnough findings.now) }
 {
     match audit(alloc, whole)? {
@@ -119,7 +119,7 @@ fn enough_without_able<L: ExerciseLog>(
     requires repaired { whole.now ≡ repaired findings.now }
     requires limits { IsRecording whole.now }
     requires fits { is_too_long findings.now ≡ false }
-    requires able { lacks_able findings.now ≡ false }
+    requires able { is_able_missing findings.now ≡ false }
     ensures { IfOk result (IsEnough findings.now) }
 {
     if has_standing_cause(findings) {
@@ -132,15 +132,15 @@ fn enough_without_able<L: ExerciseLog>(
 fn enough_of<L: ExerciseLog>(
     alloc: Global,
     findings: &Findings<'_, L>,
-    lacks: &[Lack],
+    lacks: &[MissingSend],
 ) -> Result<Enough, AllocError>
-    requires { lacks.now ≡ lacks_of findings.now }
+    requires { lacks.now ≡ missing_sends findings.now }
     ensures { IfOk result (IsEnough findings.now) }
 {
     let Some(whole) = RepairedLog::with(alloc, findings, lacks)? else {
         return Ok(Enough::Unknown);
     };
-    if lacks_able(findings, lacks) {
+    if is_able_missing(findings, lacks) {
         return searched(alloc, findings, &whole, true);
     }
     enough_without_able(alloc, findings, &whole)
@@ -150,9 +150,9 @@ fn enough_of<L: ExerciseLog>(
 pub(crate) fn repair_with<L: ExerciseLog>(
     alloc: Global,
     findings: &Findings<'_, L>,
-    lacks: &[Lack],
+    lacks: &[MissingSend],
 ) -> Result<Repair, AllocError>
-    requires { lacks.now ≡ lacks_of findings.now }
+    requires { lacks.now ≡ missing_sends findings.now }
     ensures { IfOk result (IsRepairOf findings.now) }
 {
     Ok(Repair {
@@ -167,9 +167,9 @@ pub(crate) fn repair_with<L: ExerciseLog>(
 pub(crate) fn repair_unexplained<L: ExerciseLog>(
     alloc: Global,
     findings: &Findings<'_, L>,
-    lacks: &[Lack],
+    lacks: &[MissingSend],
 ) -> Result<Repair, AllocError>
-    requires lacks { lacks.now ≡ lacks_of findings.now }
+    requires lacks { lacks.now ≡ missing_sends findings.now }
     requires limits { IsRecording findings.now }
     requires unexplained { IsUnexplained findings.now }
     ensures { IfOk result (IsRepairOf findings.now) }
@@ -192,6 +192,6 @@ pub fn repair_of<L: ExerciseLog>(
 ) -> Result<Repair, AllocError>
     ensures { IfOk result (IsRepairOf findings.now) }
 {
-    let lacks = lacks_of(alloc, findings)?;
+    let lacks = missing_sends(alloc, findings)?;
     repair_with(alloc, findings, &lacks)
 }

@@ -3,10 +3,10 @@
 ghost use Rattle.std.specs.Prelude.{◌≡◌, ◌∷◌, ◌++◌, [], ◌==◌, ℕ, map, filter, length, true, false, IfOk, IfSome, IfNone, OnOk, if◌then◌else◌};
 ghost use Rattle.exercise_model.specs.Held.{shown};
 ghost use Rattle.exercise_model.specs.Recording.{IsRecording};
-ghost use Rattle.exercise_conflict.specs.Lacks.{lacks_of};
-ghost use Rattle.exercise_conflict.specs.Repair.{bytes_of, shown_as, slotted, kept, made, is_first, is_after, slots_below, slots_after, shown_by, repaired, is_too_long, AreSlots};
+ghost use Rattle.exercise_conflict.specs.Lacks.{missing_sends};
+ghost use Rattle.exercise_conflict.specs.Repair.{bytes_of, entry_or_send, slot_entry, kept, made, is_first, is_after, slots_below, slots_after, slots_recording, repaired, is_too_long, AreSlots};
 
-use crate::lacks::{Lack, lacks_of};
+use crate::lacks::{MissingSend, missing_sends};
 use exercise_findings::Findings;
 use exercise_model::{EntryView, ExerciseLog, Form, MOST_ENTRIES, Station};
 use indexmap::IndexMap;
@@ -15,7 +15,7 @@ use std::marker::Model;
 
 /// One entry of a repaired log.
 #[derive(Clone, Copy)]
-pub(crate) struct Slot {
+pub(crate) struct RepairedEntry {
     /// The original entry, or the one whose datagram is sent.
     pub entry: usize,
     /// The station that sends the datagram; `None` for an original entry.
@@ -23,7 +23,7 @@ pub(crate) struct Slot {
 }
 
 /// The sends that belong right after each entry.
-type Places = IndexMap<usize, Vec<Slot>>;
+type MissingSends = IndexMap<usize, Vec<RepairedEntry>>;
 
 /// The datagram of an entry; empty for a told state.
 fn bytes_of<'a>(entry: EntryView<'a>) -> &'a [u8]
@@ -36,8 +36,8 @@ fn bytes_of<'a>(entry: EntryView<'a>) -> &'a [u8]
 }
 
 /// An entry unchanged, or the send of its datagram by a station.
-fn shown_as<'a>(entry: EntryView<'a>, sender: Option<u16>) -> EntryView<'a>
-    ensures { shown result ≡ shown_as (shown entry.entry) sender }
+fn entry_or_send<'a>(entry: EntryView<'a>, sender: Option<u16>) -> EntryView<'a>
+    ensures { shown result ≡ entry_or_send (shown entry.entry) sender }
 {
     match sender {
         Some(station) => EntryView::Sent {
@@ -50,17 +50,17 @@ fn shown_as<'a>(entry: EntryView<'a>, sender: Option<u16>) -> EntryView<'a>
 }
 
 /// The slot of a missing send.
-fn made(lack: Lack) -> Slot
+fn made(lack: MissingSend) -> RepairedEntry
     ensures { result ≡ made lack }
 {
-    Slot {
+    RepairedEntry {
         entry: lack.entry,
         sender: Some(lack.missing.sender),
     }
 }
 
 /// Appends a missing send if it belongs at the start of its log.
-fn push_first(slots: &mut Vec<Slot>, lack: Lack) -> Result<(), AllocError>
+fn push_first(slots: &mut Vec<RepairedEntry>, lack: MissingSend) -> Result<(), AllocError>
     ensures { OnOk result (slots.new.items ≡ slots.old.items ++ map made (filter is_first (lack ∷ []))) }
 {
     if lack.missing.after.is_none() {
@@ -70,7 +70,7 @@ fn push_first(slots: &mut Vec<Slot>, lack: Lack) -> Result<(), AllocError>
 }
 
 /// The missing sends that belong at the starts of their logs.
-fn slots_first(alloc: Global, lacks: &[Lack]) -> Result<Vec<Slot>, AllocError>
+fn slots_first(alloc: Global, lacks: &[MissingSend]) -> Result<Vec<RepairedEntry>, AllocError>
     ensures { IfOk result (λ slots. slots.items ≡ map made (filter is_first lacks.now)) }
 {
     let mut slots = Vec::new(alloc);
@@ -82,14 +82,19 @@ fn slots_first(alloc: Global, lacks: &[Lack]) -> Result<Vec<Slot>, AllocError>
 
 /// No sends. It takes no memory.
 #[tactic(auto, unfolding(crate::specs::Repair::slots_after))]
-fn no_places(alloc: Global) -> Places
+fn no_places(alloc: Global) -> MissingSends
     ensures { (p : ℕ) → slots_after result p ≡ [] }
 {
-    Places::new(alloc)
+    MissingSends::new(alloc)
 }
 
 /// Appends a send to those right after an entry.
-fn put(alloc: Global, places: &mut Places, entry: usize, slot: Slot) -> Result<(), AllocError>
+fn put(
+    alloc: Global,
+    places: &mut MissingSends,
+    entry: usize,
+    slot: RepairedEntry,
+) -> Result<(), AllocError>
     ensures { OnOk result ((p : ℕ) → slots_after places.new p ≡ slots_after places.old p ++ (if entry == p then slot ∷ [] else [])) }
 {
     places.entry(entry)?.or_insert(Vec::new(alloc)).push(slot)?;
@@ -97,7 +102,7 @@ fn put(alloc: Global, places: &mut Places, entry: usize, slot: Slot) -> Result<(
 }
 
 /// Adds a missing send if it belongs right after an entry.
-fn put_after(alloc: Global, places: &mut Places, lack: Lack) -> Result<(), AllocError>
+fn put_after(alloc: Global, places: &mut MissingSends, lack: MissingSend) -> Result<(), AllocError>
     ensures { OnOk result ((p : ℕ) → slots_after places.new p ≡ slots_after places.old p ++ map made (filter (is_after p) (lack ∷ []))) }
 {
     if let Some(after) = lack.missing.after {
@@ -107,7 +112,7 @@ fn put_after(alloc: Global, places: &mut Places, lack: Lack) -> Result<(), Alloc
 }
 
 /// The missing sends that belong right after each entry.
-fn places_of(alloc: Global, lacks: &[Lack]) -> Result<Places, AllocError>
+fn places_of(alloc: Global, lacks: &[MissingSend]) -> Result<MissingSends, AllocError>
     ensures { IfOk result (λ places. (p : ℕ) → slots_after places p ≡ map made (filter (is_after p) lacks.now)) }
 {
     let mut places = no_places(alloc);
@@ -119,10 +124,14 @@ fn places_of(alloc: Global, lacks: &[Lack]) -> Result<Places, AllocError>
 
 /// Appends an entry and the sends that belong right after it.
 #[tactic(auto, unfolding(crate::specs::Repair::slots_after))]
-fn add_entry(slots: &mut Vec<Slot>, places: &Places, entry: usize) -> Result<(), AllocError>
+fn add_entry(
+    slots: &mut Vec<RepairedEntry>,
+    places: &MissingSends,
+    entry: usize,
+) -> Result<(), AllocError>
     ensures { OnOk result (slots.new.items ≡ slots.old.items ++ kept entry ∷ slots_after places.now entry) }
 {
-    slots.push(Slot {
+    slots.push(RepairedEntry {
         entry,
         sender: None,
     })?;
@@ -133,7 +142,11 @@ fn add_entry(slots: &mut Vec<Slot>, places: &Places, entry: usize) -> Result<(),
 }
 
 /// The slots of a repaired log: this number of entries, and the missing sends.
-fn slots_of(alloc: Global, lacks: &[Lack], entries: usize) -> Result<Vec<Slot>, AllocError>
+fn slots_of(
+    alloc: Global,
+    lacks: &[MissingSend],
+    entries: usize,
+) -> Result<Vec<RepairedEntry>, AllocError>
     ensures { IfOk result (λ slots. slots.items ≡ slots_below lacks.now entries) }
 {
     let places = places_of(alloc, lacks)?;
@@ -149,16 +162,16 @@ fn slots_of(alloc: Global, lacks: &[Lack], entries: usize) -> Result<Vec<Slot>, 
 #[derive(Drop)]
 pub struct RepairedLog<'a, L: ExerciseLog> {
     log: &'a L,
-    slots: Vec<Slot>,
+    slots: Vec<RepairedEntry>,
 }
 
 impl<'a, L: ExerciseLog> Model for RepairedLog<'a, L> {
     ghost use Rattle.exercise_model.specs.Recording.{PlainRecording};
-    ghost use Rattle.exercise_conflict.specs.Repair.{shown_by, AreSlots};
+    ghost use Rattle.exercise_conflict.specs.Repair.{slots_recording, AreSlots};
 
     ghost Value = { PlainRecording };
 
-    ghost view = { λ x. shown_by (L.recording x.log.now) x.slots.items };
+    ghost view = { λ x. slots_recording (L.recording x.log.now) x.slots.items };
 
     ghost invariant = { λ x. AreSlots (L.recording x.log.now) x.slots.items };
 }
@@ -174,7 +187,7 @@ impl<'a, L: ExerciseLog> RepairedLog<'a, L> {
         ensures fits { IfOk result (λ found. IfSome found (λ log. is_too_long findings.now ≡ false)) }
         ensures long { IfOk result (λ found. IfNone found (is_too_long findings.now ≡ true)) }
     {
-        let lacks = lacks_of(alloc, findings)?;
+        let lacks = missing_sends(alloc, findings)?;
         RepairedLog::with(alloc, findings, &lacks)
     }
 
@@ -183,9 +196,9 @@ impl<'a, L: ExerciseLog> RepairedLog<'a, L> {
     pub(crate) fn with(
         alloc: Global,
         findings: &Findings<'a, L>,
-        lacks: &[Lack],
+        lacks: &[MissingSend],
     ) -> Result<Option<RepairedLog<'a, L>>, AllocError>
-        requires { lacks.now ≡ lacks_of findings.now }
+        requires { lacks.now ≡ missing_sends findings.now }
         ensures repaired { IfOk result (λ found. IfSome found (λ log. log ≡ repaired findings.now)) }
         ensures limits { IfOk result (λ found. IfSome found IsRecording) }
         ensures fits { IfOk result (λ found. IfSome found (λ log. is_too_long findings.now ≡ false)) }
@@ -225,6 +238,6 @@ impl<L: ExerciseLog> ExerciseLog for RepairedLog<'_, L> {
 
     fn entry(&self, index: usize) -> EntryView<'_> {
         let slot = self.slots[index];
-        shown_as(self.log.entry(slot.entry), slot.sender)
+        entry_or_send(self.log.entry(slot.entry), slot.sender)
     }
 }

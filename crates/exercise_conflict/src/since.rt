@@ -7,7 +7,7 @@ ghost use Rattle.exercise_model.specs.State.{change_made, changed};
 ghost use Rattle.exercise_model.specs.Cause.{same_state};
 ghost use Rattle.exercise_model.specs.Place.{log_before, own_event};
 ghost use Rattle.exercise_findings.specs.State.{state_before};
-ghost use Rattle.exercise_conflict.specs.Since.{made_since};
+ghost use Rattle.exercise_conflict.specs.Since.{last_change_entry};
 
 use crate::logs::Logs;
 use dis_records::EntityState;
@@ -48,7 +48,7 @@ fn is_same(next: EntityState, state: EntityState) -> bool
 }
 
 /// The state of an entity of a station before an entry, and the entry of the change that made it.
-pub(crate) fn made_before<L: ExerciseLog>(
+pub(crate) fn state_and_change<L: ExerciseLog>(
     logs: &Logs<'_, '_, L>,
     station: u16,
     entity: u16,
@@ -57,7 +57,7 @@ pub(crate) fn made_before<L: ExerciseLog>(
     requires at { station < length logs.now.setting.stations }
     requires within { before ≤ length logs.now.entries }
     ensures state { result.0 ≡ state_before logs.now station entity before }
-    ensures since { result.1 ≡ made_since logs.now station entity before }
+    ensures since { result.1 ≡ last_change_entry logs.now station entity before }
 {
     if !is_entity(entity) {
         return (EntityState::Absent, None);
@@ -81,7 +81,7 @@ pub(crate) fn made_before<L: ExerciseLog>(
 /// The entry of the change that made an entity's state before an entry: the last one that altered
 /// the state. `None` if the entity still has its initial state, and for a number that no entity
 /// has. It scans all entries before, and takes no memory.
-pub fn made_since<L: ExerciseLog>(
+pub fn last_change_entry<L: ExerciseLog>(
     findings: &Findings<'_, L>,
     station: u16,
     entity: u16,
@@ -89,8 +89,8 @@ pub fn made_since<L: ExerciseLog>(
 ) -> Option<usize>
     requires at { station < length findings.now.setting.stations }
     requires within { before ≤ length findings.now.entries }
-    ensures { result ≡ made_since findings.now station entity before }
+    ensures { result ≡ last_change_entry findings.now station entity before }
 {
-    let (_, since) = made_before(&Logs::unwritten(findings), station, entity, before);
+    let (_, since) = state_and_change(&Logs::unwritten(findings), station, entity, before);
     since
 }

@@ -2,7 +2,7 @@
 
 ghost use Rattle.std.specs.Prelude.{◌≡◌, ◌++◌, OnOk, string_bytes};
 ghost use Rattle.siman_print.specs.Spelled.{fields_spelled, line_spelled};
-ghost use Rattle.exercise_conflict.specs.Lines.{number_fields, gap_fields, count_fields, place_fields, order_fields, step_fields, step_line, link_line, event_line, step_clash_line, IsOfStations, IsOfStepStations};
+ghost use Rattle.exercise_conflict.specs.Lines.{number_fields, gap_fields, count_fields, place_fields, out_of_order_fields, step_fields, step_line, link_line, event_line, step_clash_line, IsOfStations, IsOfStepStations};
 
 use crate::clash_line::put_clash_fields;
 use crate::lines::entry_value;
@@ -79,14 +79,14 @@ fn put_place(
 }
 
 /// `clash - place=ENTRY taken=STEP next=ENTRY`.
-fn put_order(
+fn put_out_of_order(
     text: &mut String,
     spelling: Spelling,
     place: usize,
     taken: Option<usize>,
     next: Option<usize>,
 ) -> Result<(), AllocError>
-    ensures { OnOk result (string_bytes text.new ≡ string_bytes text.old ++ line_spelled spelling (step_line (order_fields place taken next))) }
+    ensures { OnOk result (string_bytes text.new ≡ string_bytes text.old ++ line_spelled spelling (step_line (out_of_order_fields place taken next))) }
 {
     let fields = [
         Field::Bare("entry", Value::Missing),
@@ -179,7 +179,7 @@ pub fn put_step_clash<L: ExerciseLog>(
         } => put_counts(text, spelling, steps, records, missing, twice),
         StepClash::NoSuchRecord { place, records } => put_place(text, spelling, place, records),
         StepClash::OutOfOrder { place, taken, next } => {
-            put_order(text, spelling, place, taken, next)
+            put_out_of_order(text, spelling, place, taken, next)
         }
         StepClash::BadLink { place, link, right } => {
             put_link(text, spelling, place, link, right)

@@ -4,9 +4,9 @@ ghost use Rattle.std.specs.Prelude.{◌≡◌, ◌<◌, ◌≤◌, length, slice
 ghost use Rattle.siman_pdus.specs.Reading.{pdu_of};
 ghost use Rattle.exercise_model.specs.Meaning.{meaning};
 ghost use Rattle.exercise_model.specs.Setting.{must_have_sent};
-ghost use Rattle.exercise_check.specs.Order.{sender_link};
+ghost use Rattle.exercise_check.specs.Sequence.{sender_link};
 ghost use Rattle.exercise_check.specs.Goodness.{no_step};
-ghost use Rattle.exercise_conflict.specs.StepClash.{disordered, link_given, right_link, misled, too_late, barred, step_clash, step_clash_of};
+ghost use Rattle.exercise_conflict.specs.StepClash.{out_of_order_clash, step_link, right_link, bad_link_clash, late_step, event_clash, step_clash, step_clash_of};
 
 use crate::clash::Clash;
 use crate::clashing::clash_of;
@@ -14,7 +14,7 @@ use crate::earlier::pair_of;
 use crate::near::sender_of;
 use crate::question::first_below;
 use crate::step_clash::StepClash;
-use crate::taking::{Takes, due_after, first_sender, miscounted};
+use crate::taking::{NamesEntry, count_clash, first_sender, next_entry_after};
 use exercise_check::{Certificate, NO_LINK, Step};
 use exercise_findings::Findings;
 use exercise_model::{Cause, EntryView, ExerciseLog, meaning_view};
@@ -22,33 +22,33 @@ use siman_pdus::PduView;
 use std::alloc::{AllocError, Global};
 
 /// The contradiction of a step whose entry is not the next one of its station.
-fn disordered<L: ExerciseLog>(
+fn out_of_order_clash<L: ExerciseLog>(
     log: &L,
     steps: &[Step],
     step: usize,
     place: usize,
 ) -> Option<StepClash>
     requires { step ≤ length steps.now }
-    ensures { result ≡ disordered (L.recording log.now) steps.now step place }
+    ensures { result ≡ out_of_order_clash (L.recording log.now) steps.now step place }
 {
     if place >= log.entry_count() {
         return None;
     }
     let station = log.entry(place).station();
-    let takes = Takes {
+    let takes = NamesEntry {
         steps,
         entry: place,
     };
     Some(StepClash::OutOfOrder {
         place,
         taken: first_below(&takes, step),
-        next: due_after(log, &steps[..step], station),
+        next: next_entry_after(log, &steps[..step], station),
     })
 }
 
 /// The link that a step gives, if it gives one.
-fn link_given(link: u32) -> Option<usize>
-    ensures { result ≡ link_given link }
+fn step_link(link: u32) -> Option<usize>
+    ensures { result ≡ step_link link }
 {
     if link == NO_LINK {
         None
@@ -116,28 +116,32 @@ fn right_link<L: ExerciseLog>(
 }
 
 /// The contradiction of a step with a wrong link.
-fn misled<L: ExerciseLog>(findings: &Findings<'_, L>, steps: &[Step], step: usize) -> StepClash
+fn bad_link_clash<L: ExerciseLog>(
+    findings: &Findings<'_, L>,
+    steps: &[Step],
+    step: usize,
+) -> StepClash
     requires { step < length steps.now }
-    ensures { result ≡ misled findings.now steps.now step (slice_index_or steps.now step no_step) }
+    ensures { result ≡ bad_link_clash findings.now steps.now step (slice_index_or steps.now step no_step) }
 {
     let named = steps[step];
     StepClash::BadLink {
         place: named.place as usize,
-        link: link_given(named.link),
+        link: step_link(named.link),
         right: right_link(findings, &steps[..step], named.place as usize),
     }
 }
 
 /// The first step that takes the source of a datagram that was not sent yet.
-fn too_late(steps: &[Step], clash: &Clash) -> Option<usize>
-    ensures { result ≡ too_late steps.now clash.now }
+fn late_step(steps: &[Step], clash: &Clash) -> Option<usize>
+    ensures { result ≡ late_step steps.now clash.now }
 {
     match clash {
         Clash::NeverSent {
             sent: Some(sent),
             ..
         } => {
-            let takes = Takes {
+            let takes = NamesEntry {
                 steps,
                 entry: *sent,
             };
@@ -148,18 +152,18 @@ fn too_late(steps: &[Step], clash: &Clash) -> Option<usize>
 }
 
 /// The contradiction of a step whose event cannot happen.
-fn barred<L: ExerciseLog>(
+fn event_clash<L: ExerciseLog>(
     findings: &Findings<'_, L>,
     steps: &[Step],
     place: usize,
 ) -> Option<StepClash>
-    ensures { result ≡ barred findings.now steps.now place }
+    ensures { result ≡ event_clash findings.now steps.now place }
 {
     let clash = clash_of(findings, place)?;
     Some(StepClash::Event {
         entry: place,
         clash,
-        step: too_late(steps, &clash),
+        step: late_step(steps, &clash),
     })
 }
 
@@ -179,9 +183,9 @@ fn step_clash<L: ExerciseLog>(
             place,
             records: findings.log().entry_count(),
         }),
-        Cause::OutOfOrder => disordered(findings.log(), steps, step, place),
-        Cause::BadLink => Some(misled(findings, steps, step)),
-        _ => barred(findings, steps, place),
+        Cause::OutOfOrder => out_of_order_clash(findings.log(), steps, step, place),
+        Cause::BadLink => Some(bad_link_clash(findings, steps, step)),
+        _ => event_clash(findings, steps, place),
     }
 }
 
@@ -199,7 +203,7 @@ pub fn step_clash_of<L: ExerciseLog>(
 {
     let steps = certificate.steps.as_slice();
     if cause == Cause::CountDiffers {
-        return Ok(Some(miscounted(alloc, steps, findings.log().entry_count())?));
+        return Ok(Some(count_clash(alloc, steps, findings.log().entry_count())?));
     }
     if step >= steps.len() {
         return Ok(None);

@@ -5,10 +5,10 @@ ghost use Rattle.std.specs.Option.{option_map_or};
 ghost use Rattle.exercise_model.specs.History.{event_of, log_at};
 ghost use Rattle.exercise_model.specs.Cause.{sends};
 ghost use Rattle.exercise_model.specs.Place.{first_below, own_event};
-ghost use Rattle.exercise_check.specs.Order.{order_of, first_sender};
-ghost use Rattle.exercise_conflict.specs.StepClash.{times_taken, is_left_out, is_taken_again, miscounted, takes, has_rank, due_after};
+ghost use Rattle.exercise_check.specs.Sequence.{sequence_of, first_sender};
+ghost use Rattle.exercise_conflict.specs.StepClash.{times_taken, is_left_out, is_taken_again, count_clash, takes, has_rank, next_entry_after};
 
-use crate::question::{Question, first_below};
+use crate::question::{NumberTest, first_below};
 use crate::step_clash::StepClash;
 use exercise_check::Step;
 use exercise_model::{EntryView, ExerciseLog};
@@ -43,7 +43,7 @@ struct AreZero<'a> {
     times: &'a [usize],
 }
 
-impl Question for AreZero<'_> {
+impl NumberTest for AreZero<'_> {
     ghost test = { λ q i. slice_index_or q.times.now i 0 == 0 };
 
     fn passes(&self, entry: usize) -> bool {
@@ -60,7 +60,7 @@ struct AreAboveOne<'a> {
     times: &'a [usize],
 }
 
-impl Question for AreAboveOne<'_> {
+impl NumberTest for AreAboveOne<'_> {
     ghost test = { λ q i. nat_lt 1 (slice_index_or q.times.now i 0) };
 
     fn passes(&self, entry: usize) -> bool {
@@ -72,12 +72,12 @@ impl Question for AreAboveOne<'_> {
 }
 
 /// The entries that the steps leave out, and those that they name twice.
-pub(crate) fn miscounted(
+pub(crate) fn count_clash(
     alloc: Global,
     steps: &[Step],
     entries: usize,
 ) -> Result<StepClash, AllocError>
-    ensures { IfOk result (λ clash. clash ≡ miscounted steps.now entries) }
+    ensures { IfOk result (λ clash. clash ≡ count_clash steps.now entries) }
 {
     let times = times_taken(alloc, steps, entries)?;
     Ok(StepClash::CountDiffers {
@@ -90,12 +90,12 @@ pub(crate) fn miscounted(
 
 /// Test for the steps that name an entry.
 #[derive(Drop)]
-pub(crate) struct Takes<'a> {
+pub(crate) struct NamesEntry<'a> {
     pub steps: &'a [Step],
     pub entry: usize,
 }
 
-impl Question for Takes<'_> {
+impl NumberTest for NamesEntry<'_> {
     ghost test = { λ q. takes q.steps.now q.entry };
 
     fn passes(&self, step: usize) -> bool {
@@ -124,7 +124,7 @@ fn one_if(holds: bool) -> usize
 
 /// How many of a station's entries the steps name.
 fn count_done<L: ExerciseLog>(log: &L, before: &[Step], station: u16) -> usize
-    ensures { result ≡ length (log_at station (order_of (L.recording log.now) before.now)) }
+    ensures { result ≡ length (log_at station (sequence_of (L.recording log.now) before.now)) }
 {
     let mut done = 0;
     for step in before {
@@ -157,8 +157,12 @@ fn first_ranked<L: ExerciseLog>(log: &L, station: u16, done: usize) -> Option<us
 }
 
 /// The next entry of a station after these steps.
-pub(crate) fn due_after<L: ExerciseLog>(log: &L, before: &[Step], station: u16) -> Option<usize>
-    ensures { result ≡ due_after (L.recording log.now) before.now station }
+pub(crate) fn next_entry_after<L: ExerciseLog>(
+    log: &L,
+    before: &[Step],
+    station: u16,
+) -> Option<usize>
+    ensures { result ≡ next_entry_after (L.recording log.now) before.now station }
 {
     let done = count_done(log, before, station);
     first_ranked(log, station, done)
@@ -178,7 +182,7 @@ fn sends_bytes<L: ExerciseLog>(log: &L, entry: usize, bytes: &[u8]) -> bool
 }
 
 /// The entry of the first step that sends a datagram of these bytes.
-#[tactic(auto, unfolding(exercise_check::specs::Order::first_sender))]
+#[tactic(auto, unfolding(exercise_check::specs::Sequence::first_sender))]
 pub(crate) fn first_sender<L: ExerciseLog>(log: &L, bytes: &[u8], before: &[Step]) -> Option<usize>
     ensures { result ≡ first_sender (L.recording log.now).entries bytes.now before.now }
 {

@@ -6,7 +6,7 @@ ghost use Rattle.std.specs.Option.{option_to_list};
 ghost use Rattle.siman_print.specs.Spelled.{line_spelled, lines_spelled};
 ghost use Rattle.exercise_check.specs.Report.{no_line, yes_line};
 ghost use Rattle.exercise_conflict.specs.declared.way.Also.{Also as AlsoData};
-ghost use Rattle.exercise_conflict.specs.declared.lacks.Lack.{Lack as LackData};
+ghost use Rattle.exercise_conflict.specs.declared.lacks.MissingSend.{MissingSend as LackData};
 ghost use Rattle.exercise_conflict.specs.Lines.{final_lines, way_lines, cycle_line, missing_line, step_clash_line, IsOfStepStations, IsOfWayStations};
 ghost use Rattle.exercise_conflict.specs.Told.{further_line, conflict_lines, refusal_lines, AreOfStations};
 
@@ -15,7 +15,7 @@ use crate::clash_line::put_clash;
 use crate::lines::{put_also, put_cycle, put_fault, put_final, put_missing, put_repair, put_wait};
 use crate::rule::put_rule;
 use crate::step_clash_line::put_step_clash;
-use crate::{Also, Conflict, Lack, Refusal, StepClash, Way};
+use crate::{Also, Conflict, MissingSend, Refusal, StepClash, Way};
 use exercise_model::{Cause, ExerciseLog};
 use siman_print::{Field, Spelling, Value, put_named};
 use std::alloc::{AllocError, Global};
@@ -107,7 +107,7 @@ fn put_further<L: ExerciseLog>(
     put_also(alloc, text, spelling, log, also.entry, station, also.cause)
 }
 
-fn put_all_also<L: ExerciseLog>(
+fn put_further_causes<L: ExerciseLog>(
     alloc: Global,
     text: &mut String,
     spelling: Spelling,
@@ -123,11 +123,11 @@ fn put_all_also<L: ExerciseLog>(
     Ok(())
 }
 
-fn put_lacks<L: ExerciseLog>(
+fn put_missing_sends<L: ExerciseLog>(
     text: &mut String,
     spelling: Spelling,
     log: &L,
-    lacks: &[Lack],
+    lacks: &[MissingSend],
 ) -> Result<(), AllocError>
     requires { All (λ (l : LackData). l.missing.sender < length (L.recording log.now).setting.stations) lacks.now }
     ensures { OnOk result (string_bytes text.new ≡ string_bytes text.old ++ lines_spelled spelling (map (missing_line (L.recording log.now)) lacks.now)) }
@@ -155,8 +155,8 @@ pub fn put_conflict<L: ExerciseLog>(
     put_rules(text, spelling, &conflict.blocks, &CAUSES)?;
     put_ways(alloc, text, spelling, log, &conflict.ways)?;
     put_cycles(alloc, text, spelling, log, &conflict.cycles)?;
-    put_all_also(alloc, text, spelling, log, &conflict.also)?;
-    put_lacks(text, spelling, log, &conflict.lacks)?;
+    put_further_causes(alloc, text, spelling, log, &conflict.also)?;
+    put_missing_sends(text, spelling, log, &conflict.lacks)?;
     put_repair(text, spelling, conflict.repair)?;
     Ok(())
 }

@@ -4,8 +4,8 @@ ghost use Rattle.std.specs.Prelude.{◌≡◌, ℕ, List, true};
 ghost use Rattle.exercise_model.specs.declared.cause.Cause.{Cause};
 ghost use Rattle.exercise_model.specs.Recording.{PlainRecording};
 ghost use Rattle.exercise_conflict.specs.declared.clash.Clash.{Clash};
-ghost use Rattle.exercise_conflict.specs.declared.fault.Fault.{Fault};
-ghost use Rattle.exercise_conflict.specs.declared.lacks.Lack.{Lack};
+ghost use Rattle.exercise_conflict.specs.declared.blame.Blame.{Blame};
+ghost use Rattle.exercise_conflict.specs.declared.lacks.MissingSend.{MissingSend};
 ghost use Rattle.exercise_conflict.specs.declared.repair.Repair.{Repair};
 ghost use Rattle.exercise_conflict.specs.declared.step_clash.StepClash.{StepClash};
 ghost use Rattle.exercise_conflict.specs.declared.waits.Wait.{Wait};
@@ -28,8 +28,8 @@ pub fn conflict_keys_come_once()
     ensures waits { (r : PlainRecording) (wait : Wait) → has_no_key_twice (wait_line r wait) ≡ true }
     ensures finals { (entry : ℕ) → has_no_key_twice (final_line entry) ≡ true }
     ensures also { (r : PlainRecording) (entry s : ℕ) (cause : Cause) → has_no_key_twice (also_line r entry s cause) ≡ true }
-    ensures missing { (r : PlainRecording) (lack : Lack) → has_no_key_twice (missing_line r lack) ≡ true }
+    ensures missing { (r : PlainRecording) (lack : MissingSend) → has_no_key_twice (missing_line r lack) ≡ true }
     ensures repairs { (repair : Repair) → has_no_key_twice (repair_line repair) ≡ true }
-    ensures faults { (fault : Fault) → has_no_key_twice (fault_line fault) ≡ true }
+    ensures faults { (fault : Blame) → has_no_key_twice (fault_line fault) ≡ true }
     ensures cycles { (r : PlainRecording) (stations : List ℕ) → has_no_key_twice (cycle_line r stations) ≡ true }
 {}

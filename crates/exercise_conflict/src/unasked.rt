@@ -4,11 +4,11 @@ ghost use Rattle.std.specs.Prelude.{◌≡◌, ◌<◌, ◌≤◌, length, optio
 ghost use Rattle.siman_pdus.specs.Reading.{pdu_of};
 ghost use Rattle.exercise_model.specs.History.{station_at};
 ghost use Rattle.exercise_model.specs.Place.{brings_request, entry_taken_up, first_below};
-ghost use Rattle.exercise_conflict.specs.Clash.{got_pdu, is_asking, is_overheard, overhears_at, asks_at, goes_to, asker_of, unasked_for};
+ghost use Rattle.exercise_conflict.specs.Clash.{got_pdu, is_asking, is_overheard, overhears_at, asks_at, is_sent_to, asker_of, unasked_clash};
 
 use crate::clash::Clash;
 use crate::logs::Logs;
-use crate::question::Question;
+use crate::question::NumberTest;
 use dis_records::{Address, addressed};
 use exercise_findings::Findings;
 use exercise_model::{EntryView, ExerciseLog, is_asked, is_from, meaning_view};
@@ -47,7 +47,7 @@ struct Brings<'a, L: ExerciseLog> {
     ghost own: { address ≡ (station_at findings.now station).address },
 }
 
-impl<L: ExerciseLog> Question for Brings<'_, L> {
+impl<L: ExerciseLog> NumberTest for Brings<'_, L> {
     ghost test = { λ q. brings_request q.findings.now q.station (pdu_of q.answer.now) };
 
     fn passes(&self, entry: usize) -> bool {
@@ -86,7 +86,7 @@ struct Overhears<'a, L: ExerciseLog> {
     ghost own: { address ≡ (station_at findings.now station).address },
 }
 
-impl<L: ExerciseLog> Question for Overhears<'_, L> {
+impl<L: ExerciseLog> NumberTest for Overhears<'_, L> {
     ghost test = { λ q. overhears_at q.findings.now q.station (pdu_of q.answer.now) };
 
     #[tactic(auto, unfolding(crate::specs::Clash::overhears_at))]
@@ -105,7 +105,7 @@ struct Asks<'a, L: ExerciseLog> {
     answer: &'a PduView<'a>,
 }
 
-impl<L: ExerciseLog> Question for Asks<'_, L> {
+impl<L: ExerciseLog> NumberTest for Asks<'_, L> {
     ghost test = { λ q. asks_at q.findings.now (pdu_of q.answer.now) };
 
     #[tactic(auto, unfolding(crate::specs::Clash::asks_at))]
@@ -130,8 +130,8 @@ impl<L: ExerciseLog> Question for Asks<'_, L> {
 }
 
 /// Whether the receiver of an answer is the station at an address.
-fn goes_to(address: Address, answer: &PduView<'_>) -> bool
-    ensures { result ≡ goes_to address (pdu_of answer.now) }
+fn is_sent_to(address: Address, answer: &PduView<'_>) -> bool
+    ensures { result ≡ is_sent_to address (pdu_of answer.now) }
 {
     let to = answer.target;
     to.site == address.site() && to.application == address.application()
@@ -143,7 +143,7 @@ fn asker_of<L: ExerciseLog>(findings: &Findings<'_, L>, answer: &PduView<'_>) ->
     ensures { result ≡ asker_of findings.now (pdu_of answer.now) }
 {
     for station in 0..findings.log().station_count() {
-        if goes_to(findings.log().station(station).address(), answer) {
+        if is_sent_to(findings.log().station(station).address(), answer) {
             return Some(station as u16);
         }
     }
@@ -166,7 +166,7 @@ fn asked_at<L: ExerciseLog>(logs: &Logs<'_, '_, L>, answer: &PduView<'_>) -> Opt
 
 /// The contradiction of an answer without a request: where requests for it are found.
 #[tactic(auto, unfolding(exercise_model::specs::Place::entry_taken_up), using(crate::proofs::Unowned::unowned_request, crate::proofs::Unowned::unowned_overheard))]
-pub(crate) fn unasked_for<L: ExerciseLog>(
+pub(crate) fn unasked_clash<L: ExerciseLog>(
     logs: &Logs<'_, '_, L>,
     station: u16,
     entry: usize,
@@ -174,7 +174,7 @@ pub(crate) fn unasked_for<L: ExerciseLog>(
 ) -> Clash
     requires at { station < length logs.now.setting.stations }
     requires within { entry ≤ length logs.now.entries }
-    ensures { result ≡ unasked_for logs.now station entry (pdu_of answer.now) }
+    ensures { result ≡ unasked_clash logs.now station entry (pdu_of answer.now) }
 {
     let findings = logs.findings();
     let log = findings.log();

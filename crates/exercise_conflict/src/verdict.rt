@@ -5,10 +5,10 @@ ghost use Rattle.exercise_check.specs.Goodness.{IsGood, Refuses};
 ghost use Rattle.exercise_check.specs.declared.checker.CheckFault.TheVariants.{Bad as FirstBad};
 ghost use Rattle.exercise_conflict.specs.Whole.{IsRefusalOf, IsVerdictOf};
 
-use crate::fault::{Fault, fault_found};
+use crate::blame::{Blame, fault_found};
 use crate::step_clash::StepClash;
 use crate::step_clashing::step_clash_of;
-use exercise_check::{BadStep, Certificate, Stepped, check_found};
+use exercise_check::{BadStep, Certificate, CheckResult, check_found};
 use exercise_findings::{Account, Findings};
 use exercise_model::{Cause, ExerciseLog};
 use std::alloc::{AllocError, Global};
@@ -23,7 +23,7 @@ pub struct Refusal {
     /// Its contradiction.
     pub clash: Option<StepClash>,
     /// What is at fault: the certificate if some run explains the recording.
-    pub fault: Fault,
+    pub fault: Blame,
 }
 
 /// Result of judging a certificate.
@@ -82,7 +82,7 @@ pub fn refusal_found<'a, L: ExerciseLog>(
     ensures good { IfOk result (λ judged. IfNone judged.refusal (IsGood findings.entry certificate.now.steps.items)) }
     ensures findings { IfOk result (λ judged. judged.findings ≡ findings.entry) }
 {
-    let Stepped { bad, findings } = check_found(alloc, findings, certificate)?;
+    let CheckResult { bad, findings } = check_found(alloc, findings, certificate)?;
     match bad {
         Some(bad) => refusal_of(alloc, findings, certificate, bad),
         None => Ok(Judged {

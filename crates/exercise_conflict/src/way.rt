@@ -4,9 +4,9 @@ ghost use Rattle.std.specs.Prelude.{◌≡◌, ◌++◌, map, option_map, IfOk, 
 ghost use Rattle.std.specs.Option.{option_to_list};
 ghost use Rattle.exercise_conflict.specs.Final.{is_final};
 ghost use Rattle.exercise_conflict.specs.Cycles.{cycle_at};
-ghost use Rattle.exercise_conflict.specs.Ways.{stations_in, way_of, ways_of, cycles_of, also_by, all_also};
+ghost use Rattle.exercise_conflict.specs.Ways.{stations_in, way_of, ways_of, cycles_of, further_cause, further_causes};
 
-use crate::also::also_at;
+use crate::also::further_cause_at;
 use crate::clash::Clash;
 use crate::clashing::clash_in;
 use crate::cycles::cycle_at;
@@ -146,8 +146,12 @@ pub fn cycles_of<L: ExerciseLog>(
 }
 
 /// Appends the further cause against an entry, if any.
-fn push_also(also: &mut Vec<Also>, entry: usize, cause: Option<Cause>) -> Result<(), AllocError>
-    ensures { OnOk result (also.new.items ≡ also.old.items ++ option_to_list (option_map (also_by entry) cause)) }
+fn push_further_cause(
+    also: &mut Vec<Also>,
+    entry: usize,
+    cause: Option<Cause>,
+) -> Result<(), AllocError>
+    ensures { OnOk result (also.new.items ≡ also.old.items ++ option_to_list (option_map (further_cause entry) cause)) }
 {
     if let Some(cause) = cause {
         also.push(Also { entry, cause })?;
@@ -156,16 +160,16 @@ fn push_also(also: &mut Vec<Also>, entry: usize, cause: Option<Cause>) -> Result
 }
 
 /// The further causes beside a blocked list, by rising entries.
-pub fn all_also<L: ExerciseLog>(
+pub fn further_causes<L: ExerciseLog>(
     alloc: Global,
     findings: &Findings<'_, L>,
     blocks: &[Block],
 ) -> Result<Vec<Also>, AllocError>
-    ensures { IfOk result (λ also. also.items ≡ all_also findings.now blocks.now) }
+    ensures { IfOk result (λ also. also.items ≡ further_causes findings.now blocks.now) }
 {
     let mut also = Vec::new(alloc);
     for entry in 0..findings.log().entry_count() {
-        push_also(&mut also, entry, also_at(findings, blocks, entry))?;
+        push_further_cause(&mut also, entry, further_cause_at(findings, blocks, entry))?;
     }
     Ok(also)
 }

@@ -9,7 +9,7 @@ use Rattle.exercise_model.specs.Account.{pair_of}
 use Rattle.exercise_findings.specs.Column.{IsShortColumn}
 use Rattle.exercise_findings.specs.Number.{entry_number}
 use Rattle.exercise_findings.specs.Source.{source_of, first_source}
-use Rattle.exercise_findings.specs.Earlier.{request_in, source_in, IsEarlierAt, IsSoFarAt}
+use Rattle.exercise_findings.specs.Earlier.{request_in, source_in, IsBackReference, IsBackReferenceSoFar}
 use Rattle.exercise_findings.proofs.Sources.{source_here, source_whole, source_within, source_stays, source_below}
 use Rattle.exercise_findings.proofs.Looks.{below, pair_here, pair_earlier}
 
@@ -41,7 +41,7 @@ source_no_request e = ap (λ b. if b then Some (e + 2147483648) else None) (le-l
 -- ---- while the log is passed
 
 pub received_so_far : (r : PlainRecording) (i s stamp n : ℕ) (b : List ℕ) (o : Option ℕ) → slice_get r.entries i ≡ Some (Received s stamp b)
-    → n ≤ length r.entries → length r.entries ≤ 1048576 → IfSome o (λ e. first_source r b n ≡ Some e) → IsSoFarAt r i (numbered o 4294967294)
+    → n ≤ length r.entries → length r.entries ≤ 1048576 → IfSome o (λ e. first_source r b n ≡ Some e) → IsBackReferenceSoFar r i (numbered o 4294967294)
 received_so_far r i s stamp n b None at le few found = record {
   pair = sym (pair_here r i (Received s stamp b) at);
   source = λ apart. absurd (apart refl);
@@ -64,17 +64,17 @@ source_of_few r i few = at_most (source_of r i) (source_within r i)
     at_most (Some e) l = omega (arith, l, few)
 
 -- what is known for good is known so far
-pub known_so_far : (r : PlainRecording) (i number : ℕ) → IsEarlierAt r i number → IsSoFarAt r i number
+pub known_so_far : (r : PlainRecording) (i number : ℕ) → IsBackReference r i number → IsBackReferenceSoFar r i number
 known_so_far r i number known = record { pair = known.pair; source = λ _. known.source }
 
 pub sent_earlier : (r : PlainRecording) (i s stamp : ℕ) (b : List ℕ) → slice_get r.entries i ≡ Some (Sent s stamp b) → i < 2147483648
-    → IsEarlierAt r i (entry_number (pair_of r i))
+    → IsBackReference r i (entry_number (pair_of r i))
 sent_earlier r i s stamp b at few = record {
   pair = request_back (pair_of r i) (below (pair_of r i) i 2147483648 few (pair_earlier r i));
   source = request_no_source (pair_of r i) (below (pair_of r i) i 2147483648 few (pair_earlier r i)) ∙ sym (source_here r i (Sent s stamp b) at);
 }
 
-pub told_earlier : (r : PlainRecording) (i s x : ℕ) (y : EntityState) → slice_get r.entries i ≡ Some (Told s x y) → IsEarlierAt r i 4294967295
+pub told_earlier : (r : PlainRecording) (i s x : ℕ) (y : EntityState) → slice_get r.entries i ≡ Some (Told s x y) → IsBackReference r i 4294967295
 told_earlier r i s x y at = record { pair = sym (pair_here r i (Told s x y) at); source = sym (source_here r i (Told s x y) at) }
 
 -- a source that was found is not one that is yet to be found
@@ -86,15 +86,15 @@ numbered_apart (Some e) some few = λ same. absurd (omega (arith, few, same))
 
 -- a source that is looked up
 pub looked_up : (r : PlainRecording) (i : ℕ) (o : Option ℕ) → o ≡ source_of r i → IfSome o (λ e. e < 1048576) → None ≡ pair_of r i
-    → IsEarlierAt r i (numbered o 4294967295)
+    → IsBackReference r i (numbered o 4294967295)
 looked_up r i None is few none = record { pair = none; source = is }
 looked_up r i (Some e) is few none = record { pair = source_no_request e ∙ none; source = source_back e few ∙ is }
 
 -- one that was found
-pub found_so_far : (r : PlainRecording) (i number : ℕ) → number ≢ 4294967294 → IsSoFarAt r i number → IsEarlierAt r i number
+pub found_so_far : (r : PlainRecording) (i number : ℕ) → number ≢ 4294967294 → IsBackReferenceSoFar r i number → IsBackReference r i number
 found_so_far r i number apart kept = record { pair = kept.pair; source = kept.source apart }
 
-pub all_so_far : (r : PlainRecording) (xs : List ℕ) → IsShortColumn 4294967295 (IsEarlierAt r) (length r.entries) xs → IsShortColumn 4294967295 (IsSoFarAt r) (length r.entries) xs
+pub all_so_far : (r : PlainRecording) (xs : List ℕ) → IsShortColumn 4294967295 (IsBackReference r) (length r.entries) xs → IsShortColumn 4294967295 (IsBackReferenceSoFar r) (length r.entries) xs
 all_so_far r xs column = record {
   each = λ j l. record { pair = (column.each j l).pair; source = λ _. (column.each j l).source };
   rest = column.rest;
@@ -102,5 +102,5 @@ all_so_far r xs column = record {
 
 -- ---- the requests alone, and the sources
 
-pub requests_so_far : (r : PlainRecording) (n : ℕ) (xs : List ℕ) → IsShortColumn 4294967295 (IsSoFarAt r) n xs → IsShortColumn 4294967295 (λ j x. request_in x ≡ pair_of r j) n xs
+pub requests_so_far : (r : PlainRecording) (n : ℕ) (xs : List ℕ) → IsShortColumn 4294967295 (IsBackReferenceSoFar r) n xs → IsShortColumn 4294967295 (λ j x. request_in x ≡ pair_of r j) n xs
 requests_so_far r n xs column = record { each = λ j l. (column.each j l).pair; rest = column.rest }

@@ -8,7 +8,7 @@ use Rattle.std.proofs.lemmas.Option.{slice_get_past, slice_get_read}
 use Rattle.dis_records.specs.declared.entity_state.EntityState.{EntityState}
 use Rattle.dis_records.specs.declared.entity_state.EntityState.TheVariants.{Absent, Stopped, Running}
 use Rattle.exercise_model.specs.Station.{is_absent}
-use Rattle.exercise_findings.specs.declared.states.Held.{Held}
+use Rattle.exercise_findings.specs.declared.states.SingleState.{SingleState}
 use Rattle.exercise_findings.specs.declared.states.States.{States}
 use Rattle.exercise_findings.specs.States.{held_at, state_by, state_in, AreUpTo, IsKept, IsPut}
 
@@ -55,45 +55,45 @@ got xs i (Some x) within at =
 
 -- ---- what is kept of one entity
 
-pub held_at-there : (pages : List (Vec Held Global)) (page : Vec Held Global) (e i : ℕ) → i ≡ e / 256
+pub held_at-there : (pages : List (Vec SingleState Global)) (page : Vec SingleState Global) (e i : ℕ) → i ≡ e / 256
     → slice_get pages i ≡ Some page → slice_get page.items (e % 256) ≡ held_at pages e
 unfolding held_at
 held_at-there pages page e i same at =
-    sym (ap (option_and_then (λ (p : Vec Held Global). slice_get p.items (e % 256))) (ap (slice_get pages) (sym same) ∙ at))
+    sym (ap (option_and_then (λ (p : Vec SingleState Global). slice_get p.items (e % 256))) (ap (slice_get pages) (sym same) ∙ at))
 
-pub held_at-beyond : (pages : List (Vec Held Global)) (e i : ℕ) → i ≡ e / 256 → length pages ≤ i → held_at pages e ≡ None
+pub held_at-beyond : (pages : List (Vec SingleState Global)) (e i : ℕ) → i ≡ e / 256 → length pages ≤ i → held_at pages e ≡ None
 unfolding held_at
 held_at-beyond pages e i same beyond =
-    ap (option_and_then (λ (p : Vec Held Global). slice_get p.items (e % 256))) (ap (slice_get pages) (sym same) ∙ slice_get_past pages i beyond)
+    ap (option_and_then (λ (p : Vec SingleState Global). slice_get p.items (e % 256))) (ap (slice_get pages) (sym same) ∙ slice_get_past pages i beyond)
 
 -- an empty page more
-pub held_at-pushed : (pages : List (Vec Held Global)) (page : Vec Held Global) (e : ℕ) → page.items ≡ []
+pub held_at-pushed : (pages : List (Vec SingleState Global)) (page : Vec SingleState Global) (e : ℕ) → page.items ≡ []
     → held_at (pages ++ page ∷ []) e ≡ held_at pages e
 unfolding held_at
 held_at-pushed pages page e empty =
-    let at = λ (o : Option (Vec Held Global)). option_and_then (λ (p : Vec Held Global). slice_get p.items (e % 256)) o in
+    let at = λ (o : Option (Vec SingleState Global)). option_and_then (λ (p : Vec SingleState Global). slice_get p.items (e % 256)) o in
     ⊎_elim
     (λ same. ap at same)
     (λ came. ap at came.1 ∙ ap (λ xs. slice_get xs (e % 256)) empty ∙ sym (ap at came.0))
     (get-pushed pages page (e / 256))
 
 -- what is kept where this was put into the page of entity n
-pub held_at-here : (pages : List (Vec Held Global)) (old new : Vec Held Global) (n : ℕ) (filler held : Held) → n / 256 < length pages
+pub held_at-here : (pages : List (Vec SingleState Global)) (old new : Vec SingleState Global) (n : ℕ) (filler held : SingleState) → n / 256 < length pages
     → IsPut filler (n % 256) held old.items new.items → held_at (set pages (n / 256) new) n ≡ Some held
 unfolding held_at
 held_at-here pages old new n filler held within put =
-    ap (option_and_then (λ (p : Vec Held Global). slice_get p.items (n % 256))) (get-set_here pages (n / 256) new within) ∙ put.here
+    ap (option_and_then (λ (p : Vec SingleState Global). slice_get p.items (n % 256))) (get-set_here pages (n / 256) new within) ∙ put.here
 
 -- two numbers with one page and one place are one
 same_number : (e n : ℕ) → e / 256 ≡ n / 256 → e % 256 ≡ n % 256 → e ≡ n
 same_number e n page place = sym (div-add-mod' e 256) ∙ ap (λ x. x * 256 + e % 256) page ∙ ap (λ x. n / 256 * 256 + x) place ∙ div-add-mod' n 256
 
-pub held_at-others : (pages : List (Vec Held Global)) (old new : Vec Held Global) (n : ℕ) (filler held : Held) → slice_get pages (n / 256) ≡ Some old
+pub held_at-others : (pages : List (Vec SingleState Global)) (old new : Vec SingleState Global) (n : ℕ) (filler held : SingleState) → slice_get pages (n / 256) ≡ Some old
     → n / 256 < length pages
     → IsPut filler (n % 256) held old.items new.items → (e : ℕ) → e ≢ n → IsKept filler (held_at pages e) (held_at (set pages (n / 256) new) e)
 unfolding held_at
 held_at-others pages old new n filler held at within put e apart =
-    let read = λ (o : Option (Vec Held Global)). option_and_then (λ (p : Vec Held Global). slice_get p.items (e % 256)) o in
+    let read = λ (o : Option (Vec SingleState Global)). option_and_then (λ (p : Vec SingleState Global). slice_get p.items (e % 256)) o in
     ⊎_elim
     (λ (same : e / 256 ≡ n / 256).
     let was : read (slice_get pages (e / 256)) ≡ slice_get old.items (e % 256) = ap (λ i. read (slice_get pages i)) same ∙ ap read at in
@@ -111,7 +111,7 @@ not_below : (a b : ℕ) → a ≤ b → nat_lt b a ≡ false
 not_below a b l = le-ltb b a l
 
 -- what was put now is the state
-pub state_by-held : (t : States) (n : ℕ) (held : Held) → held.since ≡ n → AreUpTo n t → state_by t (Some held) ≡ held.state
+pub state_by-held : (t : States) (n : ℕ) (held : SingleState) → held.since ≡ n → AreUpTo n t → state_by t (Some held) ≡ held.state
 state_by-held t n held now up =
     ap (λ b. if b then t.rest else (if is_absent held.state then Absent else (if nat_lt held.since t.moved then t.moved_to else held.state)))
     (not_below t.alike held.since (omega (arith, now, up.alike)))
@@ -119,7 +119,7 @@ state_by-held t n held now up =
     ∙ elim held.state as (λ y. (if is_absent y then Absent else y) ≡ y) [ Absent ↦ refl | Stopped ↦ refl | Running ↦ refl ]
 
 -- what stays keeps its state, also where it gets the filler
-pub state_by-kept : (t : States) (n : ℕ) (filler : Held) (o p : Option Held) → filler.since ≡ n → filler.state ≡ t.rest → AreUpTo n t
+pub state_by-kept : (t : States) (n : ℕ) (filler : SingleState) (o p : Option SingleState) → filler.since ≡ n → filler.state ≡ t.rest → AreUpTo n t
     → IsKept filler o p → state_by t p ≡ state_by t o
 state_by-kept t n filler o p now rest up kept =
     ⊎_elim
@@ -127,7 +127,7 @@ state_by-kept t n filler o p now rest up kept =
     (λ came. ap (state_by t) came.1 ∙ state_by-held t n filler now up ∙ rest ∙ sym (ap (state_by t) came.0))
     kept
 
-pub since-kept : (n : ℕ) (filler : Held) (o p : Option Held) → filler.since ≡ n → IsKept filler o p
+pub since-kept : (n : ℕ) (filler : SingleState) (o p : Option SingleState) → filler.since ≡ n → IsKept filler o p
     → IfSome o (λ h. h.since ≤ n) → IfSome p (λ h. h.since ≤ n)
 since-kept n filler o p now kept before =
     ⊎_elim
@@ -135,7 +135,7 @@ since-kept n filler o p now kept before =
     (λ came. subst (λ x. IfSome x (λ h. h.since ≤ n)) (sym came.1) (omega (arith, now)))
     kept
 
-below_next : (o : Option Held) (n : ℕ) → IfSome o (λ h. h.since ≤ n) → IfSome o (λ h. h.since ≤ n + 1)
+below_next : (o : Option SingleState) (n : ℕ) → IfSome o (λ h. h.since ≤ n) → IfSome o (λ h. h.since ≤ n + 1)
 below_next None n l = tt
 below_next (Some h) n l = omega (arith, l)
 
@@ -189,7 +189,7 @@ state_in-moved t u n alike now rest pages up e =
 
 -- ---- one is set: the pages are those that were reached, with a new one in place i, that of number n; j is its place in the page
 
-module _ (t : States) (pages : List (Vec Held Global)) (old new : Vec Held Global) (number n i j : ℕ) (filler held : Held) (up : AreUpTo number t)
+module _ (t : States) (pages : List (Vec SingleState Global)) (old new : Vec SingleState Global) (number n i j : ℕ) (filler held : SingleState) (up : AreUpTo number t)
     (filled : filler.since ≡ number) (rest : filler.state ≡ t.rest) (now : held.since ≡ number) (page : i ≡ n / 256) (place : j ≡ n % 256)
     (at : slice_get pages i ≡ Some old) (within : i < length pages) (same : (e : ℕ) → held_at pages e ≡ held_at t.pages.items e)
     (put : IsPut filler j held old.items new.items) where

@@ -10,8 +10,8 @@ use Rattle.exercise_findings.specs.declared.key.Key.{Key}
 use Rattle.exercise_findings.specs.declared.kept.Kept.{Kept}
 use Rattle.exercise_findings.specs.Decided.{key_decides}
 use Rattle.exercise_findings.specs.Hashed.{key_hash}
-use Rattle.exercise_findings.specs.Slots.{IsReached, Stands}
-use Rattle.exercise_findings.specs.Kept.{IsKeptBehind}
+use Rattle.exercise_findings.specs.Slots.{IsReached, HasSlot}
+use Rattle.exercise_findings.specs.Kept.{IsAppended}
 use Rattle.exercise_findings.specs.Firsts.{same_key, request_key, key_at, has_key, first_under, AreFirsts}
 use Rattle.exercise_findings.proofs.Keyed.{taken_up_by_key, asked_at, unasked_at}
 use Rattle.exercise_findings.proofs.Keeping.{looked_up, kept_none, kept_still, kept_later, kept_more, order_first}
@@ -38,14 +38,14 @@ firsts_later r n m l firsts at first tied = kept_later (has_key r) key_hash n m 
 
 -- the first entry under its key
 pub firsts_kept : (r : PlainRecording) (n : ℕ) (l : Key) (old new : Kept) → Some l ≡ key_at r n → first_under r l n ≡ None
-    → IsKeptBehind (key_hash l) n old new → AreFirsts r n old → AreFirsts r (n + 1) new
+    → IsAppended (key_hash l) n old new → AreFirsts r n old → AreFirsts r (n + 1) new
 unfolding first_under
 firsts_kept r n l old new at none behind tied =
     kept_more (has_key r) key_hash n old new l (own_key r n l at) (its_key r n l at) none behind tied
 
 -- what is looked up
 pub firsts_looked_up : (r : PlainRecording) (n : ℕ) (firsts : Kept) (k : Key) (o : Option ℕ) → AreFirsts r n firsts
-    → IfSome o (λ e. Stands firsts.slots.slots e × (has_key r k e ≡ true))
+    → IfSome o (λ e. HasSlot firsts.slots.slots e × (has_key r k e ≡ true))
     → IfNone o ((e : ℕ) → IsReached firsts.slots.slots (key_hash k) e → has_key r k e ≡ false) → o ≡ first_under r k n
 unfolding first_under
 firsts_looked_up r n firsts k o tied found absent =

@@ -12,9 +12,9 @@ use Rattle.exercise_findings.specs.declared.first_sends.FirstSends.{FirstSends}
 use Rattle.exercise_findings.specs.FirstSends.{IsFirstSend, AreFirstSends, IsNewSend, IsNewKey}
 use Rattle.exercise_findings.specs.Firsts.{event_key, key_at, has_key, first_under}
 use Rattle.exercise_findings.specs.Hashed.{datagram_hash}
-use Rattle.exercise_findings.specs.Kept.{IsKeptBehind}
+use Rattle.exercise_findings.specs.Kept.{IsAppended}
 use Rattle.exercise_findings.specs.Senders.{sends_at, AreSenders}
-use Rattle.exercise_findings.specs.Slots.{IsReached, IsPut, Stands}
+use Rattle.exercise_findings.specs.Slots.{IsReached, IsPut, HasSlot}
 use Rattle.exercise_findings.specs.Source.{is_source, source_at, first_source}
 use Rattle.exercise_findings.proofs.FirstEntries.{its_key}
 use Rattle.exercise_findings.proofs.Keeping.{none_here, later_here, new_here}
@@ -137,7 +137,7 @@ sends_more r n s stamp c old new at source none slots hashed pushed tied = recor
       (tied.reached b i e (omega (arith, hashed, before))
       (was_at i e (λ last. absurd (omega (arith, last, before, hashed, tied.within))) here) is);
   only = λ e stands.
-      let old_at = tied.only e (subst (λ xs. Stands xs e) (ap (λ x. x.slots) slots) stands) in
+      let old_at = tied.only e (subst (λ xs. HasSlot xs e) (ap (λ x. x.slots) slots) stands) in
       (old_at.0, kept_at old_at.0 e old_at.1);
 }
   where
@@ -199,7 +199,7 @@ hashed_more r n e old new at put order one tied = record {
       (put b (subst (λ y. is_source r b y ≡ true) (sym this) is)).reached)
       (cases_lt i old.hashed);
   only = λ x stands. ⊎_elim
-      (λ (stood : Stands old.kept.slots.slots x). let was = tied.only x stood in (was.0, now_at was.0 x was.1))
+      (λ (stood : HasSlot old.kept.slots.slots x). let was = tied.only x stood in (was.0, now_at was.0 x was.1))
       (λ (same : x ≡ e). (old.hashed, now_at old.hashed x (at ∙ ap Some (sym same))))
       (its.1.only x stands);
 }
@@ -219,7 +219,7 @@ hashed_more r n e old new at put order one tied = record {
 -- the first source of what it sends, which is put behind the others and under its hash, where all are
 pub sends_hashed : (r : PlainRecording) (n s stamp : ℕ) (c : List ℕ) (old new : FirstSends) → slice_get r.entries n ≡ Some (Sent s stamp c)
     → source_at r n ≡ true → first_source r c n ≡ None → old.hashed ≡ length old.kept.order.items → new.hashed ≡ old.hashed + 1
-    → IsKeptBehind (datagram_hash c) n old.kept new.kept → AreFirstSends r n old → AreFirstSends r (n + 1) new
+    → IsAppended (datagram_hash c) n old.kept new.kept → AreFirstSends r n old → AreFirstSends r (n + 1) new
 sends_hashed r n s stamp c old new at source none all one behind tied =
     let between : FirstSends = record { kept = record { slots = old.kept.slots; order = new.kept.order }; hashed = old.hashed } in
     hashed_more r (n + 1) n between new

@@ -11,10 +11,10 @@ use Rattle.exercise_model.specs.Recording.{PlainRecording}
 use Rattle.exercise_model.specs.History.{Send, Get, Tell, event_of}
 use Rattle.exercise_model.specs.Meaning.{meaning}
 use Rattle.exercise_model.specs.Place.{event_at, own_event, first_below}
-use Rattle.exercise_findings.specs.declared.rising.Rising.{Rising}
+use Rattle.exercise_findings.specs.declared.rising.HighWaterMarks.{HighWaterMarks}
 use Rattle.exercise_findings.specs.FirstSends.{IsNewSend}
 use Rattle.exercise_findings.specs.Requests.{IsSendOf}
-use Rattle.exercise_findings.specs.Rising.{mark_of, mark_at, AreRising}
+use Rattle.exercise_findings.specs.HighWaterMarks.{mark_of, mark_at, AreHighWaterMarks}
 use Rattle.exercise_findings.specs.Sent.{meant_by_send}
 use Rattle.exercise_findings.specs.Source.{is_source, first_source}
 use Rattle.exercise_findings.proofs.FirstSends.{same_sends}
@@ -36,7 +36,7 @@ mark_own r j s stamp b at =
     mark_sent r j s stamp s b at ∙ ap (λ q. cond q (option_map mark_of (meaning r.setting.exercise b)) None) (eq-eqb s s refl)
 
 -- WHAT STANDS ABOVE all that its station sent before is new
-pub new_above : (r : PlainRecording) (n s : ℕ) (p : Pdu) (x : Rising) → s < length r.setting.stations → IsSendOf r n s p → AreRising r n x
+pub new_above : (r : PlainRecording) (n s : ℕ) (p : Pdu) (x : HighWaterMarks) → s < length r.setting.stations → IsSendOf r n s p → AreHighWaterMarks r n x
     → slice_index_or x.tops.items s 0 < mark_of p → IsNewSend r n
 unfolding first_source
 new_above r n s p x within send tied above b source =
@@ -63,10 +63,10 @@ new_either false b P any one other = other any
 -- ---- one entry more
 
 -- where no top falls, and the next entry stands no higher than that of its station
-rising_on : (r : PlainRecording) (n : ℕ) (x y : Rising) → length y.tops.items ≡ length x.tops.items
+rising_on : (r : PlainRecording) (n : ℕ) (x y : HighWaterMarks) → length y.tops.items ≡ length x.tops.items
     → ((s : ℕ) → slice_index_or x.tops.items s 0 ≤ slice_index_or y.tops.items s 0)
     → ((s mark : ℕ) → s < length r.setting.stations → mark_at r s n ≡ Some mark → mark ≤ slice_index_or y.tops.items s 0)
-    → AreRising r n x → AreRising r (n + 1) y
+    → AreHighWaterMarks r n x → AreHighWaterMarks r (n + 1) y
 rising_on r n x y room higher here tied = record {
   room = room ∙ tied.room;
   below = λ s j mark within before marked. ⊎_elim
@@ -76,8 +76,8 @@ rising_on r n x y room higher here tied = record {
 }
 
 -- an entry that sends no PDU
-pub rising_pass : (r : PlainRecording) (n : ℕ) (e : Entry) (x : Rising) → slice_get r.entries n ≡ Some e
-    → ((s : ℕ) → option_and_then (meant_by_send r.setting.exercise) (event_at s (event_of e)) ≡ None) → AreRising r n x → AreRising r (n + 1) x
+pub rising_pass : (r : PlainRecording) (n : ℕ) (e : Entry) (x : HighWaterMarks) → slice_get r.entries n ≡ Some e
+    → ((s : ℕ) → option_and_then (meant_by_send r.setting.exercise) (event_at s (event_of e)) ≡ None) → AreHighWaterMarks r n x → AreHighWaterMarks r (n + 1) x
 unfolding mark_at own_event
 rising_pass r n e x at none tied =
     rising_on r n x x refl (λ s. omega arith)
@@ -120,9 +120,9 @@ risen tops s t mark within above = ⊎_elim
     (cases_eq t s)
 
 -- AN ENTRY THAT SENDS A PDU, whose mark is kept where it stands above the top of its station
-pub rising_more : (r : PlainRecording) (n s : ℕ) (p : Pdu) (x y : Rising) (higher : Bool) → s < length r.setting.stations → IsSendOf r n s p
+pub rising_more : (r : PlainRecording) (n s : ℕ) (p : Pdu) (x y : HighWaterMarks) (higher : Bool) → s < length r.setting.stations → IsSendOf r n s p
     → higher ≡ nat_lt (slice_index_or x.tops.items s 0) (mark_of p) → y.tops.items ≡ (if higher then set x.tops.items s (mark_of p) else x.tops.items)
-    → AreRising r n x → AreRising r (n + 1) y
+    → AreHighWaterMarks r n x → AreHighWaterMarks r (n + 1) y
 rising_more r n s p x y higher within send is tops tied = by higher is tops
   where
     of_mark : (t mark : ℕ) → mark_at r t n ≡ Some mark → (t ≡ s) × (mark ≡ mark_of p)
@@ -133,7 +133,7 @@ rising_more r n s p x y higher within send is tops tied = by higher is tops
         ] refl (sym (mark_sent r n s send.stamp t send.bytes send.at) ∙ marked)
 
     by : (b : Bool) → b ≡ nat_lt (slice_index_or x.tops.items s 0) (mark_of p) → y.tops.items ≡ (if b then set x.tops.items s (mark_of p) else x.tops.items)
-        → AreRising r (n + 1) y
+        → AreHighWaterMarks r (n + 1) y
     by true is tops =
         let room : s < length x.tops.items = omega (arith, within, tied.room) in
         let above : slice_index_or x.tops.items s 0 < mark_of p = ltb-true _ _ (sym is) in
@@ -156,10 +156,10 @@ rising_more r n s p x y higher within send is tops tied = by higher is tops
         tied
 
 -- before the first entry
-pub none_rising : (r : PlainRecording) (x : Rising) → length x.tops.items ≡ length r.setting.stations → AreRising r 0 x
+pub none_rising : (r : PlainRecording) (x : HighWaterMarks) → length x.tops.items ≡ length r.setting.stations → AreHighWaterMarks r 0 x
 none_rising r x room = record { room = room; below = λ s j mark _ before. absurd (omega (arith, before)) }
 
 -- what is told of a mark that stands above
-pub new_higher : (r : PlainRecording) (n s : ℕ) (p : Pdu) (x : Rising) (higher : Bool) → s < length r.setting.stations → IsSendOf r n s p → AreRising r n x
+pub new_higher : (r : PlainRecording) (n s : ℕ) (p : Pdu) (x : HighWaterMarks) (higher : Bool) → s < length r.setting.stations → IsSendOf r n s p → AreHighWaterMarks r n x
     → higher ≡ nat_lt (slice_index_or x.tops.items s 0) (mark_of p) → higher ≡ true → IsNewSend r n
 new_higher r n s p x higher within send tied is so = new_above r n s p x within send tied (ltb-true _ _ (sym is ∙ so))

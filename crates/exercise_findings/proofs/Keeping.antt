@@ -8,8 +8,8 @@ use Rattle.std.proofs.lemmas.Option.{same_Some, none-some, slice_get_within}
 use Rattle.exercise_model.specs.Place.{first_below}
 use Rattle.exercise_findings.specs.declared.slots.Slot.{Slot}
 use Rattle.exercise_findings.specs.declared.kept.Kept.{Kept}
-use Rattle.exercise_findings.specs.Slots.{IsReached, Stands, AreFirst}
-use Rattle.exercise_findings.specs.Kept.{IsKeptBehind, AreKept}
+use Rattle.exercise_findings.specs.Slots.{IsReached, HasSlot, AreFirst}
+use Rattle.exercise_findings.specs.Kept.{IsAppended, AreKept}
 use Rattle.exercise_findings.proofs.Keyed.{passes}
 use Rattle.exercise_findings.proofs.Standing.{stands_none, reached_stands}
 use Rattle.exercise_findings.proofs.Tied.{get-pushed_here, get-pushed_other}
@@ -22,7 +22,7 @@ below_on f n = ap (first_below f) (add-one n)
 
 -- What is found among what stands in the slots is the first under a key, where it is looked for by something that is the key there.
 pub looked_up : {K : Type 0} (has : K → ℕ → Bool) (hash : K → ℕ) (n : ℕ) (slots : List Slot) (k : K) (is : ℕ → Bool) → AreFirst has hash n slots
-    → ((e : ℕ) → Stands slots e → is e ≡ has k e) → (o : Option ℕ) → IfSome o (λ e. Stands slots e × (is e ≡ true))
+    → ((e : ℕ) → HasSlot slots e → is e ≡ has k e) → (o : Option ℕ) → IfSome o (λ e. HasSlot slots e × (is e ≡ true))
     → IfNone o ((e : ℕ) → IsReached slots (hash k) e → is e ≡ false) → o ≡ first_below (has k) n
 looked_up has hash n slots k is tied same (Some e) found absent = sym (tied.only k e found.0 (sym (same e found.0) ∙ found.1))
 looked_up has hash n slots k is tied same None found absent =
@@ -82,15 +82,15 @@ first_later {K} has hash n m slots l tied own first = first_still has hash n slo
 -- the first entry of one key, which is kept
 pub first_kept : {K : Type 0} (has : K → ℕ → Bool) (hash : K → ℕ) (n : ℕ) (old new : List Slot) (l : K) → AreFirst has hash n old
     → ((k : K) → has k n ≡ true → k ≡ l) → has l n ≡ true → first_below (has l) n ≡ None
-    → IsReached new (hash l) n → ((h e : ℕ) → IsReached old h e → IsReached new h e) → ((e : ℕ) → Stands new e → Stands old e ⊎ (e ≡ n))
+    → IsReached new (hash l) n → ((h e : ℕ) → IsReached old h e → IsReached new h e) → ((e : ℕ) → HasSlot new e → HasSlot old e ⊎ (e ≡ n))
     → AreFirst has hash (n + 1) new
 first_kept {K} has hash n old new l tied own here none reached kept only = record {
   keyed = λ e stands. ⊎_elim
-      (λ (stood : Stands old e). tied.keyed e stood)
+      (λ (stood : HasSlot old e). tied.keyed e stood)
       (λ (same : e ≡ n). (l, subst (λ j. has l j ≡ true) (sym same) here))
       (only e stands);
   only = λ k e stands is. ⊎_elim
-      (λ (stood : Stands old e). later_here (has k) n e (tied.only k e stood is) ∙ tied.only k e stood is)
+      (λ (stood : HasSlot old e). later_here (has k) n e (tied.only k e stood is) ∙ tied.only k e stood is)
       (λ (same : e ≡ n).
       let at : has k n ≡ true = subst (λ j. has k j ≡ true) same is in
       new_here (has k) n (ap (λ x. first_below (has x) n) (own k at) ∙ none) at ∙ ap Some (sym same))
@@ -130,7 +130,7 @@ kept_later has hash n m kept l own first tied = record {
 }
 
 pub kept_more : {K : Type 0} (has : K → ℕ → Bool) (hash : K → ℕ) (n : ℕ) (old new : Kept) (l : K) → ((k : K) → has k n ≡ true → k ≡ l)
-    → has l n ≡ true → first_below (has l) n ≡ None → IsKeptBehind (hash l) n old new → AreKept has hash n old → AreKept has hash (n + 1) new
+    → has l n ≡ true → first_below (has l) n ≡ None → IsAppended (hash l) n old new → AreKept has hash n old → AreKept has hash (n + 1) new
 kept_more has hash n old new l own here none behind tied = record {
   first = first_kept has hash n old.slots.slots new.slots.slots l tied.first own here none behind.put.reached behind.put.kept behind.put.only;
   order = λ i e at.
@@ -147,7 +147,7 @@ kept_more has hash n old new l own here none behind tied = record {
 
 -- what stands in order stands in a slot
 pub order_stands : {K : Type 0} (has : K → ℕ → Bool) (hash : K → ℕ) (n : ℕ) (kept : Kept) (i e : ℕ) → AreKept has hash n kept
-    → slice_get kept.order.items i ≡ Some e → Stands kept.slots.slots e
+    → slice_get kept.order.items i ≡ Some e → HasSlot kept.slots.slots e
 order_stands has hash n kept i e tied at =
     let reached = tied.order i e at in reached_stands kept.slots.slots reached.0 e reached.1
 

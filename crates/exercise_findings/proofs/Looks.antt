@@ -27,7 +27,7 @@ use Rattle.exercise_model.specs.Change.{able, unable, responds, key_of}
 use Rattle.exercise_findings.specs.declared.key.Key.{Key}
 use Rattle.exercise_findings.specs.Hashed.{key_base}
 use Rattle.exercise_findings.specs.Firsts.{acknowledged_key, answer_base, sent_key, received_key, event_key, key_at}
-use Rattle.exercise_findings.specs.Behind.{key_behind, event_behind, behind_at}
+use Rattle.exercise_findings.specs.Behind.{change_key, event_change_key, change_key_at}
 use Rattle.exercise_findings.specs.Requests.{IsSendOf}
 use Rattle.exercise_findings.specs.Answered.{is_unasked, unasked_by, unasked_at}
 use Rattle.exercise_findings.specs.Source.{source_by, source_at}
@@ -54,9 +54,9 @@ key_here : (r : PlainRecording) (n : ℕ) (e : Entry) → slice_get r.entries n 
 unfolding key_at
 key_here r n e at = ap (option_and_then (λ e. event_key r (event_of e))) at
 
-pub behind_here : (r : PlainRecording) (n : ℕ) (e : Entry) → slice_get r.entries n ≡ Some e → behind_at r n ≡ event_behind r (event_of e)
-unfolding behind_at
-behind_here r n e at = ap (option_and_then (λ e. event_behind r (event_of e))) at
+pub behind_here : (r : PlainRecording) (n : ℕ) (e : Entry) → slice_get r.entries n ≡ Some e → change_key_at r n ≡ event_change_key r (event_of e)
+unfolding change_key_at
+behind_here r n e at = ap (option_and_then (λ e. event_change_key r (event_of e))) at
 
 source_here : (r : PlainRecording) (n : ℕ) (e : Entry) → slice_get r.entries n ≡ Some e → source_at r n ≡ source_by r n e
 unfolding source_at
@@ -96,7 +96,7 @@ pair_number r n few = number_back (pair_of r n) (below (pair_of r n) n 429496729
 
 found : (r : PlainRecording) (n : ℕ) (e : Entry) (f : Found) → slice_get r.entries n ≡ Some e → f.cause ≡ event_own_cause r n (event_of e)
     → f.pair ≡ pair_of_entry r n e → f.is_unasked ≡ unasked_by r n (event_of e) → f.change ≡ changed_by r n (event_of e) → f.key ≡ event_key r (event_of e)
-    → ((k : Key) → Some k ≡ f.key → f.base ≡ key_base k) → f.behind ≡ event_behind r (event_of e) → f.is_source ≡ source_by r n e → (f.is_new ≡ true → IsNewSend r n) → f.other ≡ is_other r.setting.exercise e → IsFound r n f
+    → ((k : Key) → Some k ≡ f.key → f.base ≡ key_base k) → f.behind ≡ event_change_key r (event_of e) → f.is_source ≡ source_by r n e → (f.is_new ≡ true → IsNewSend r n) → f.other ≡ is_other r.setting.exercise e → IsFound r n f
 found r n e f at cause pair unasked change key based behind source fresh other = record {
   cause = cause ∙ sym (cause_here r n e at);
   pair = pair ∙ sym (pair_here r n e at);
@@ -176,7 +176,7 @@ get_here r s b = refl
 -- a PDU that was received
 pub received_found : (r : PlainRecording) (n s stamp : ℕ) (b : List ℕ) (p : Pdu) (f : Found) → slice_get r.entries n ≡ Some (Received s stamp b)
     → meaning r.setting.exercise b ≡ Some p → f.cause ≡ get_cause r.setting [] b p → f.pair ≡ None → f.is_unasked ≡ false → f.change ≡ None
-    → f.key ≡ received_key s (station_at r s).address p → ((k : Key) → Some k ≡ f.key → f.base ≡ key_base k) → f.behind ≡ key_behind (sender_of r p) p → f.is_source ≡ false → f.is_new ≡ false → f.other ≡ false
+    → f.key ≡ received_key s (station_at r s).address p → ((k : Key) → Some k ≡ f.key → f.base ≡ key_base k) → f.behind ≡ change_key (sender_of r p) p → f.is_source ≡ false → f.is_new ≡ false → f.other ≡ false
     → IsFound r n f
 received_found r n s stamp b p f at means cause pair unasked change key based behind source new other =
     found r n (Received s stamp b) f at
@@ -184,7 +184,7 @@ received_found r n s stamp b p f at means cause pair unasked change key based be
     pair unasked change
     (key ∙ sym (ap (option_and_then (received_key s (station_at r s).address)) means))
     based
-    (behind ∙ sym (ap (option_and_then (λ p. key_behind (sender_of r p) p)) means))
+    (behind ∙ sym (ap (option_and_then (λ p. change_key (sender_of r p) p)) means))
     source
     (λ e. absurd (cc (sym new ∙ e)))
     (other ∙ sym (ap is_none means))
@@ -198,7 +198,7 @@ other_received r n s stamp b at other =
     refl refl refl
     (sym (ap (option_and_then (received_key s (station_at r s).address)) other))
     (λ k is. absurd (cc is))
-    (sym (ap (option_and_then (λ p. key_behind (sender_of r p) p)) other))
+    (sym (ap (option_and_then (λ p. change_key (sender_of r p) p)) other))
     refl
     (λ e. absurd (cc e))
     (sym (ap is_none other))

@@ -14,7 +14,7 @@ use Rattle.exercise_findings.specs.declared.kept.Kept.{Kept}
 use Rattle.exercise_findings.specs.declared.requests.Identifier.{Identifier}
 use Rattle.exercise_findings.specs.declared.requests.Requests.{Requests}
 use Rattle.exercise_findings.specs.Hashed.{key_hash}
-use Rattle.exercise_findings.specs.Slots.{Stands}
+use Rattle.exercise_findings.specs.Slots.{HasSlot}
 use Rattle.exercise_findings.specs.Sent.{meant_by, is_meant}
 use Rattle.exercise_findings.specs.Firsts.{same_key, sent_key, received_key, event_key, key_at, has_key, AreFirsts}
 use Rattle.exercise_findings.specs.Requests.{request_by, request_at, asks_at, first_request, AreRequests}
@@ -79,14 +79,14 @@ unfolding first_request
 first_meant r k n i first = asks_meant r k i (passes (asks_at r k) n i first).1
 
 -- what stands in slots
-pub firsts_meant : (r : PlainRecording) (n : ℕ) (firsts : Kept) → AreFirsts r n firsts → (e : ℕ) → Stands firsts.slots.slots e → is_meant r e ≡ true
+pub firsts_meant : (r : PlainRecording) (n : ℕ) (firsts : Kept) → AreFirsts r n firsts → (e : ℕ) → HasSlot firsts.slots.slots e → is_meant r e ≡ true
 firsts_meant r n firsts tied e stands = let keyed = tied.first.keyed e stands in key_meant r keyed.0 e keyed.1
 
 pub order_meant : (r : PlainRecording) (n : ℕ) (firsts : Kept) → AreFirsts r n firsts → (i e : ℕ) → slice_get firsts.order.items i ≡ Some e → is_meant r e ≡ true
 order_meant r n firsts tied i e at = firsts_meant r n firsts tied e (order_stands (has_key r) key_hash n firsts i e tied at)
 
 pub requests_meant : (r : PlainRecording) (n : ℕ) (requests : Requests) → AreRequests r n requests → (e : ℕ)
-    → Stands requests.firsts.slots.slots e → is_meant r e ≡ true
+    → HasSlot requests.firsts.slots.slots e → is_meant r e ≡ true
 requests_meant r n requests tied e stands = let keyed = tied.firsts.first.keyed e stands in asks_meant r keyed.0 e keyed.1
 
 -- what brings a request

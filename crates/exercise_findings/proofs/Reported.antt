@@ -15,9 +15,9 @@ use Rattle.exercise_model.specs.State.{state_after, present_below}
 use Rattle.exercise_model.specs.Place.{log_before}
 use Rattle.exercise_model.specs.Account.{entities_of}
 use Rattle.exercise_model.proofs.Offered.{change_steps, log_before-all, present_below-all}
-use Rattle.exercise_findings.specs.declared.states.Held.{Held}
+use Rattle.exercise_findings.specs.declared.states.SingleState.{SingleState}
 use Rattle.exercise_findings.specs.declared.states.States.{States}
-use Rattle.exercise_findings.specs.States.{held_at, state_by, has_page, state_in, known_in, AreStatesOf, AreStates}
+use Rattle.exercise_findings.specs.States.{held_at, state_by, has_page, state_in, state_or_absent, AreStatesOf, AreStates}
 
 -- the states of a station, at its place in a table
 pub states_at : (r : PlainRecording) (n s : ℕ) (ts : List States) (t : States) → AreStates r n ts → s < length r.setting.stations
@@ -27,18 +27,18 @@ states_at r n s ts t tied within at =
 
 -- what the tables know is the state
 pub known : (r : PlainRecording) (n s : ℕ) (t : States) → AreStatesOf r n s t
-    → (e : ℕ) → known_in t e ≡ state_after r.setting.exercise (station_at r s) (log_before r s n) e
+    → (e : ℕ) → state_or_absent t e ≡ state_after r.setting.exercise (station_at r s) (log_before r s n) e
 unfolding state_after
 known r n s t states e = ap (λ y. if is_entity e then y else Absent) (states.states e)
 
 -- ---- a page of which nothing is kept
 
-no_page : (pages : List (Vec Held Global)) (e page : ℕ) → e / 256 ≡ page → has_page pages page ≡ false → held_at pages e ≡ None
+no_page : (pages : List (Vec SingleState Global)) (e page : ℕ) → e / 256 ≡ page → has_page pages page ≡ false → held_at pages e ≡ None
 unfolding held_at
 no_page pages e page here none =
-    ap (λ i. option_and_then (λ (p : Vec Held Global). slice_get p.items (e % 256)) (slice_get pages i)) here
-    ∙ elim (slice_get pages page) as (λ o. option_map_or (λ (p : Vec Held Global). nat_lt 0 (length p.items)) o false ≡ false
-    → option_and_then (λ (p : Vec Held Global). slice_get p.items (e % 256)) o ≡ None) [
+    ap (λ i. option_and_then (λ (p : Vec SingleState Global). slice_get p.items (e % 256)) (slice_get pages i)) here
+    ∙ elim (slice_get pages page) as (λ o. option_map_or (λ (p : Vec SingleState Global). nat_lt 0 (length p.items)) o false ≡ false
+    → option_and_then (λ (p : Vec SingleState Global). slice_get p.items (e % 256)) o ≡ None) [
       | None ↦ λ _. refl
       | Some p ↦ elim p.items as (λ xs. nat_lt 0 (length xs) ≡ false → slice_get xs (e % 256) ≡ None) [
         | [] ↦ λ _. refl
@@ -46,11 +46,11 @@ no_page pages e page here none =
       ]
     ] none
   where
-    apart : (xs : List Held) → nat_lt 0 (suc (length xs)) ≡ false → ⊥
+    apart : (xs : List SingleState) → nat_lt 0 (suc (length xs)) ≡ false → ⊥
     apart xs none = grind (arith, nat_tests)
 
 pub none_there : (t : States) (page : ℕ) → t.rest ≡ Absent → has_page t.pages.items page ≡ false
-    → (e : ℕ) → page * 256 ≤ e → e < (page + 1) * 256 → is_absent (known_in t e) ≡ true
+    → (e : ℕ) → page * 256 ≤ e → e < (page + 1) * 256 → is_absent (state_or_absent t e) ≡ true
 unfolding state_in
 none_there t page rest none e from to =
     let here : e / 256 ≡ page = omega (arith, le-div page e 256 (omega arith) from, div_below e 256 (page + 1) (omega arith) to) in
@@ -95,10 +95,10 @@ present-same y z same (suc n) =
     ∙ ap (λ x. present_below z n ++ (if is_absent x then [] else (n, x) ∷ [])) (same n)
 
 -- all numbers: those above the last entity are none
-pub present-all : (r : PlainRecording) (s : ℕ) (t : States) → AreStatesOf r (length r.entries) s t → present_below (known_in t) 65536 ≡ entities_of r s
+pub present-all : (r : PlainRecording) (s : ℕ) (t : States) → AreStatesOf r (length r.entries) s t → present_below (state_or_absent t) 65536 ≡ entities_of r s
 present-all r s t states =
-    present-absent (known_in t) 65534 2 (λ e from to. ap (λ b. is_absent (if b then state_in t e else Absent)) (past e from))
-    ∙ present-same (known_in t) (state_after r.setting.exercise (station_at r s) (log_of r s))
+    present-absent (state_or_absent t) 65534 2 (λ e from to. ap (λ b. is_absent (if b then state_in t e else Absent)) (past e from))
+    ∙ present-same (state_or_absent t) (state_after r.setting.exercise (station_at r s) (log_of r s))
     (λ e. known r (length r.entries) s t states e ∙ ap (λ log. state_after r.setting.exercise (station_at r s) log e) (log_before-all r s)) 65534
     ∙ present_below-all r.setting.exercise (station_at r s) (log_of r s) 65534 refl
   where

@@ -28,8 +28,8 @@ use Rattle.exercise_findings.specs.declared.requests.Identifier.{Identifier}
 use Rattle.exercise_findings.specs.declared.requests.Requests.{Requests}
 use Rattle.exercise_findings.specs.declared.kept.Kept.{Kept}
 use Rattle.exercise_findings.specs.Hashed.{identifier_hash}
-use Rattle.exercise_findings.specs.Slots.{IsReached, Stands}
-use Rattle.exercise_findings.specs.Kept.{IsKeptBehind}
+use Rattle.exercise_findings.specs.Slots.{IsReached, HasSlot}
+use Rattle.exercise_findings.specs.Kept.{IsAppended}
 use Rattle.exercise_findings.specs.Requests.{same_identifier, identifier_of, request_under, request_by, request_at, asks_at, first_request, is_mixed, mixed_under, AreRequests, IsSendOf}
 use Rattle.exercise_findings.proofs.Keeping.{looked_up, kept_none, kept_still, kept_later, kept_more}
 use Rattle.exercise_findings.proofs.Keyed.{passes}
@@ -426,7 +426,7 @@ requests_still r n s q requests send none tied =
 
 -- an entry that sends the first request under its identifier
 pub requests_first : (r : PlainRecording) (n s : ℕ) (q : Pdu) (l : Identifier) (old : Requests) (kept : Kept) → IsSendOf r n s q
-    → identifier_of s q ≡ Some l → first_request r l n ≡ None → IsKeptBehind (identifier_hash l) n old.firsts kept
+    → identifier_of s q ≡ Some l → first_request r l n ≡ None → IsAppended (identifier_hash l) n old.firsts kept
     → AreRequests r n old → AreRequests r (n + 1) (record old { firsts = kept })
 unfolding first_request
 requests_first r n s q l old kept send is none behind tied = record {
@@ -519,7 +519,7 @@ none_kept r requests none empty unmixed = record {
 -- ---- what is looked up
 
 pub first_looked_up : (r : PlainRecording) (n : ℕ) (requests : Requests) (k : Identifier) (o : Option ℕ) → AreRequests r n requests
-    → IfSome o (λ e. Stands requests.firsts.slots.slots e × (asks_at r k e ≡ true))
+    → IfSome o (λ e. HasSlot requests.firsts.slots.slots e × (asks_at r k e ≡ true))
     → IfNone o ((e : ℕ) → IsReached requests.firsts.slots.slots (identifier_hash k) e → asks_at r k e ≡ false) → o ≡ first_request r k n
 unfolding first_request
 first_looked_up r n requests k o tied found absent =

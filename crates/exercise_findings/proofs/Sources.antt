@@ -17,7 +17,7 @@ use Rattle.exercise_model.specs.Account.{sender_of}
 use Rattle.exercise_model.proofs.Offered.{first_found, sender_found}
 use Rattle.exercise_findings.specs.declared.kept.Kept.{Kept}
 use Rattle.exercise_findings.specs.Hashed.{datagram_hash}
-use Rattle.exercise_findings.specs.Slots.{IsReached, Stands}
+use Rattle.exercise_findings.specs.Slots.{IsReached, HasSlot}
 use Rattle.exercise_findings.proofs.Keyed.{before_entry, first_before}
 use Rattle.exercise_findings.specs.Senders.{sends_at, AreSenders}
 use Rattle.exercise_findings.specs.Source.{sends_here, first_send, source_of_pdu, source_of_bytes, source_of_entry, source_of, is_source, first_source, source_by, source_at}
@@ -204,7 +204,7 @@ sends_source r b j source = of_entry (slice_get r.entries j) refl
     of_entry (Some (Told s e y)) at = absurd (cc (by (Some (Told s e y)) at))
 
 pub senders_looked_up : (r : PlainRecording) (n : ℕ) (senders : Kept) (b : List ℕ) (o : Option ℕ) → AreSenders r n senders
-    → IfSome o (λ e. Stands senders.slots.slots e × (sends_at r b e ≡ true))
+    → IfSome o (λ e. HasSlot senders.slots.slots e × (sends_at r b e ≡ true))
     → IfNone o ((e : ℕ) → IsReached senders.slots.slots (datagram_hash b) e → sends_at r b e ≡ false) → o ≡ first_source r b n
 unfolding first_source
 senders_looked_up r n senders b o tied found absent =

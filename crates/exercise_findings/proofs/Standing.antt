@@ -7,7 +7,7 @@ use Rattle.std.proofs.lemmas.Option.{same_Some, slice_get_within}
 use Rattle.std.proofs.lemmas.Bool.{cases_lt, cases_eq}
 use borrow.Author.Count.{below_more}
 use Rattle.exercise_findings.specs.declared.slots.Slot.{Slot}
-use Rattle.exercise_findings.specs.Slots.{home, slot_behind, slot_on, HasEntry, AreTaken, IsFirstFree, IsReached, Stands, free_slot}
+use Rattle.exercise_findings.specs.Slots.{home, slot_behind, slot_on, HasEntry, AreTaken, IsFirstFree, IsReached, HasSlot, free_slot}
 use Rattle.exercise_findings.proofs.EntityStates.{get-set_other, get-set_here}
 
 -- ---- one slot after another
@@ -44,20 +44,20 @@ one_slot slots i h e s has at =
 -- ---- what is not found
 
 -- so many slots from the home of a hash on have no entry under it that is the one
-abbrev pub Passed : List Slot → ℕ → (ℕ → Bool) → ℕ → Type 0
-Passed slots hash is d = (c : ℕ) → c < d → (e : ℕ) → HasEntry slots (slot_on (length slots) hash c) hash e → is e ≡ false
+abbrev pub PassResult : List Slot → ℕ → (ℕ → Bool) → ℕ → Type 0
+PassResult slots hash is d = (c : ℕ) → c < d → (e : ℕ) → HasEntry slots (slot_on (length slots) hash c) hash e → is e ≡ false
 
-pub passed_none : (slots : List Slot) (hash : ℕ) (is : ℕ → Bool) → Passed slots hash is 0
+pub passed_none : (slots : List Slot) (hash : ℕ) (is : ℕ → Bool) → PassResult slots hash is 0
 passed_none slots hash is c l = absurd (omega (arith, l))
 
-pub passed_more : (slots : List Slot) (hash : ℕ) (is : ℕ → Bool) (d : ℕ) (s : Slot) → Passed slots hash is d
-    → slice_get slots (slot_on (length slots) hash d) ≡ Some s → (s.hash ≡ hash → is s.entry ≡ false) → Passed slots hash is (d + 1)
+pub passed_more : (slots : List Slot) (hash : ℕ) (is : ℕ → Bool) (d : ℕ) (s : Slot) → PassResult slots hash is d
+    → slice_get slots (slot_on (length slots) hash d) ≡ Some s → (s.hash ≡ hash → is s.entry ≡ false) → PassResult slots hash is (d + 1)
 passed_more slots hash is d s passed at other =
     below_more (λ (c : ℕ). (e : ℕ) → HasEntry slots (slot_on (length slots) hash c) hash e → is e ≡ false) d passed
     (λ e has. let one = one_slot slots (slot_on (length slots) hash d) hash e s has at in ap is one.1 ∙ other (sym one.0))
 
 -- behind a slot that is free nothing is found
-pub absent_free : (slots : List Slot) (hash : ℕ) (is : ℕ → Bool) (d : ℕ) (s : Slot) → Passed slots hash is d
+pub absent_free : (slots : List Slot) (hash : ℕ) (is : ℕ → Bool) (d : ℕ) (s : Slot) → PassResult slots hash is d
     → slice_get slots (slot_on (length slots) hash d) ≡ Some s → s.entry ≡ 0xFFFFFFFF → (e : ℕ) → IsReached slots hash e → is e ≡ false
 absent_free slots hash is d s passed at free e reached = ⊎_elim
     (λ (below : reached.steps < d). passed reached.steps below e reached.here)
@@ -73,7 +73,7 @@ absent_free slots hash is d s passed at free e reached = ⊎_elim
     (cases_lt reached.steps d)
 
 -- where there are no slots nothing stands
-pub stands_none : (slots : List Slot) (e : ℕ) → length slots ≡ 0 → Stands slots e → (P : Type 0) → P
+pub stands_none : (slots : List Slot) (e : ℕ) → length slots ≡ 0 → HasSlot slots e → (P : Type 0) → P
 stands_none slots e none stands P = absurd (omega (arith, none, slice_get_within slots stands.0 _ stands.2.at))
 
 -- what all are the same number of
@@ -87,10 +87,10 @@ all_free zero i s at = absurd (cc at)
 all_free (suc n) zero s at = ap (λ (x : Slot). x.entry) (sym (same_Some {A = Slot} free_slot s at))
 all_free (suc n) (suc i) s at = all_free n i s at
 
-pub none_stands : (n e : ℕ) → Stands (replicate n free_slot) e → (P : Type 0) → P
+pub none_stands : (n e : ℕ) → HasSlot (replicate n free_slot) e → (P : Type 0) → P
 none_stands n e stands P = absurd (stands.2.some (all_free n stands.0 (record { hash = stands.1; entry = e }) stands.2.at))
 
-pub reached_stands : (slots : List Slot) (hash e : ℕ) → IsReached slots hash e → Stands slots e
+pub reached_stands : (slots : List Slot) (hash e : ℕ) → IsReached slots hash e → HasSlot slots e
 reached_stands slots hash e reached = (slot_on (length slots) hash reached.steps, hash, reached.here)
 
 -- ---- an entry is put into the first slot that is free
@@ -135,8 +135,8 @@ reached_put slots hash place e free some =
       taken = taken_kept slots hash place hash free.steps s free free.taken;
     }
 
-pub stands_put : (slots : List Slot) (hash place e : ℕ) → place < length slots → (x : ℕ) → Stands (set slots place (record { hash = hash; entry = e })) x
-    → Stands slots x ⊎ (x ≡ e)
+pub stands_put : (slots : List Slot) (hash place e : ℕ) → place < length slots → (x : ℕ) → HasSlot (set slots place (record { hash = hash; entry = e })) x
+    → HasSlot slots x ⊎ (x ≡ e)
 stands_put slots hash place e within x stands =
     let s : Slot = record { hash = hash; entry = e } in
     let i = stands.0 in

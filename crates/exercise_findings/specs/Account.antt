@@ -13,7 +13,7 @@ pub record AccountData : Type 0 where
   pub others : ℕ
 
 -- THE ACCOUNT OF A RECORDING: the pairs, the changes behind Ables, the states at the end and the number of "other" datagrams are those of the model
-pub record TellsAccount (r : PlainRecording) (c : AccountData) : Type 0 where
+pub record IsAccount (r : PlainRecording) (c : AccountData) : Type 0 where
   pub states : (s : ℕ) → slice_index_or c.states s [] ≡ states_of r s
   pub pairs : (i : ℕ) → slice_index_or c.pairs i None ≡ pair_of r i
   pub causes : (i : ℕ) → slice_index_or c.causes i None ≡ change_behind r i

@@ -16,25 +16,25 @@ abbrev pub able_key : Option ℕ → AcknowledgeKey → Option Key
 able_key sender k = option_map (λ t. acknowledged_key t able k) sender
 
 -- look-up key of the change behind p, if p is an Able Acknowledge of this sender
-abbrev pub key_behind : Option ℕ → Pdu → Option Key
-key_behind sender p = if responds able p then option_and_then (able_key sender) (key_of p) else None
+abbrev pub change_key : Option ℕ → Pdu → Option Key
+change_key sender p = if responds able p then option_and_then (able_key sender) (key_of p) else None
 
 -- look-up key of the change behind an event that receives an Able
-abbrev pub event_behind : PlainRecording → Event → Option Key
-event_behind r (Send s b) = None
-event_behind r (Get s b) = option_and_then (λ p. key_behind (sender_of r p) p) (meaning r.setting.exercise b)
-event_behind r (Tell s e y) = None
+abbrev pub event_change_key : PlainRecording → Event → Option Key
+event_change_key r (Send s b) = None
+event_change_key r (Get s b) = option_and_then (λ p. change_key (sender_of r p) p) (meaning r.setting.exercise b)
+event_change_key r (Tell s e y) = None
 
 -- look-up key of the change behind entry i
-unfoldable pub behind_at : PlainRecording → ℕ → Option Key
-behind_at r i = option_and_then (λ e. event_behind r (event_of e)) (slice_get r.entries i)
+unfoldable pub change_key_at : PlainRecording → ℕ → Option Key
+change_key_at r i = option_and_then (λ e. event_change_key r (event_of e)) (slice_get r.entries i)
 
 -- look-up key of the change behind entry i, if i is in the list
-abbrev pub kept_behind : PlainRecording → List ℕ → ℕ → Option Key
-kept_behind r [] i = None
-kept_behind r (x ∷ xs) i = option_or (kept_behind r xs i) (if x == i then behind_at r i else None)
+abbrev pub listed_behind : PlainRecording → List ℕ → ℕ → Option Key
+listed_behind r [] i = None
+listed_behind r (x ∷ xs) i = option_or (listed_behind r xs i) (if x == i then change_key_at r i else None)
 
 -- THE TIE: the list holds only entries below n, and each that has a look-up key for the change behind it
-pub record AreBehind (r : PlainRecording) (n : ℕ) (ables : List ℕ) : Type 0 where
+pub record AreChangeKeys (r : PlainRecording) (n : ℕ) (ables : List ℕ) : Type 0 where
   pub within : All (λ x. x < n) ables
-  pub kept : (i : ℕ) → i < n → kept_behind r ables i ≡ behind_at r i
+  pub kept : (i : ℕ) → i < n → listed_behind r ables i ≡ change_key_at r i

@@ -13,11 +13,11 @@ abbrev pub source_in : ℕ → Option ℕ
 source_in number = if nat_lt number 0x80000000 then None else (if nat_lt number 0xFFFFFFFE then Some (number - 0x80000000) else None)
 
 -- The number encodes the back-reference of entry j.
-pub record IsEarlierAt (r : PlainRecording) (j number : ℕ) : Type 0 where
+pub record IsBackReference (r : PlainRecording) (j number : ℕ) : Type 0 where
   pub pair : request_in number ≡ pair_of r j
   pub source : source_in number ≡ source_of r j
 
 -- The number encodes the back-reference of entry j as known during the pass: a source may be open.
-pub record IsSoFarAt (r : PlainRecording) (j number : ℕ) : Type 0 where
+pub record IsBackReferenceSoFar (r : PlainRecording) (j number : ℕ) : Type 0 where
   pub pair : request_in number ≡ pair_of r j
   pub source : number ≢ 0xFFFFFFFE → source_in number ≡ source_of r j

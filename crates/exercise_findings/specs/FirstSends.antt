@@ -5,7 +5,7 @@ use Rattle.exercise_findings.specs.declared.first_sends.FirstSends.{FirstSends}
 use Rattle.exercise_findings.specs.Firsts.{key_at, first_under}
 use Rattle.exercise_findings.specs.declared.key.Key.{Key}
 use Rattle.exercise_findings.specs.Hashed.{datagram_hash}
-use Rattle.exercise_findings.specs.Slots.{IsReached, Stands}
+use Rattle.exercise_findings.specs.Slots.{IsReached, HasSlot}
 use Rattle.exercise_findings.specs.Source.{is_source, source_at, first_source}
 
 -- Entry e sends from its own station, and is the first below n to send its bytes.
@@ -20,7 +20,7 @@ pub record AreFirstSends (r : PlainRecording) (n : ℕ) (s : FirstSends) : Type 
   pub within : s.hashed ≤ length s.kept.order.items
   pub reached : (b : List ℕ) (i e : ℕ) → i < s.hashed → slice_get s.kept.order.items i ≡ Some e → is_source r b e ≡ true
       → IsReached s.kept.slots.slots (datagram_hash b) e
-  pub only : (e : ℕ) → Stands s.kept.slots.slots e → (i : ℕ) × (slice_get s.kept.order.items i ≡ Some e)
+  pub only : (e : ℕ) → HasSlot s.kept.slots.slots e → (i : ℕ) × (slice_get s.kept.order.items i ≡ Some e)
 
 -- entry n sends a datagram that its originating station did not send before
 abbrev pub IsNewSend : PlainRecording → ℕ → Type 0

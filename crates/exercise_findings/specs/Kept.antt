@@ -4,7 +4,7 @@ use Rattle.exercise_findings.specs.declared.kept.Kept.{Kept}
 use Rattle.exercise_findings.specs.Slots.{IsReached, IsPut, AreFirst}
 
 -- An entry is added under a hash, at the end of the list; earlier entries remain.
-pub record IsKeptBehind (hash entry : ℕ) (old new : Kept) : Type 0 where
+pub record IsAppended (hash entry : ℕ) (old new : Kept) : Type 0 where
   pub put : IsPut hash entry old.slots.slots new.slots.slots
   pub order : new.order.items ≡ old.order.items ++ entry ∷ []
 

@@ -10,7 +10,7 @@ pub mod Behind
 pub mod TakenUp
 pub mod Answered
 pub mod Requests
-pub mod Rising
+pub mod HighWaterMarks
 pub mod Decided
 pub mod Source
 pub mod Missing

@@ -43,19 +43,19 @@ pub record IsReached (slots : List Slot) (hash entry : ℕ) : Type 0 where
   pub taken : AreTaken slots hash steps
 
 -- some slot has this entry
-abbrev pub Stands : List Slot → ℕ → Type 0
-Stands slots entry = (i : ℕ) × (hash : ℕ) × HasEntry slots i hash entry
+abbrev pub HasSlot : List Slot → ℕ → Type 0
+HasSlot slots entry = (i : ℕ) × (hash : ℕ) × HasEntry slots i hash entry
 
 -- An entry is added under a hash, and all earlier entries remain.
 pub record IsPut (hash entry : ℕ) (old new : List Slot) : Type 0 where
   pub reached : IsReached new hash entry
   pub kept : (h e : ℕ) → IsReached old h e → IsReached new h e
-  pub only : (e : ℕ) → Stands new e → Stands old e ⊎ (e ≡ entry)
+  pub only : (e : ℕ) → HasSlot new e → HasSlot old e ⊎ (e ≡ entry)
 
 -- THE TIE: each entry in the slots has a key, is the first below n with that key, and is found under the hash of the key
 pub record AreFirst {K : Type 0} (has : K → ℕ → Bool) (hash : K → ℕ) (n : ℕ) (slots : List Slot) : Type 0 where
-  pub keyed : (e : ℕ) → Stands slots e → (k : K) × (has k e ≡ true)
-  pub only : (k : K) (e : ℕ) → Stands slots e → has k e ≡ true → first_below (has k) n ≡ Some e
+  pub keyed : (e : ℕ) → HasSlot slots e → (k : K) × (has k e ≡ true)
+  pub only : (k : K) (e : ℕ) → HasSlot slots e → has k e ≡ true → first_below (has k) n ≡ Some e
   pub all : (k : K) (e : ℕ) → first_below (has k) n ≡ Some e → IsReached slots (hash k) e
 
 -- a free slot

@@ -9,19 +9,19 @@ use Rattle.exercise_model.specs.Recording.{PlainRecording}
 use Rattle.exercise_model.specs.History.{station_at}
 use Rattle.exercise_model.specs.State.{entity_state}
 use Rattle.exercise_model.specs.Place.{log_before}
-use Rattle.exercise_findings.specs.declared.states.Held.{Held}
+use Rattle.exercise_findings.specs.declared.states.SingleState.{SingleState}
 use Rattle.exercise_findings.specs.declared.states.States.{States}
 
 -- the record of entity e, if it was set singly: at place e % 256 of page e / 256
-unfoldable pub held_at : List (Vec Held Global) → ℕ → Option Held
+unfoldable pub held_at : List (Vec SingleState Global) → ℕ → Option SingleState
 held_at pages e = option_and_then (λ page. slice_get page.items (e % 256)) (slice_get pages (e / 256))
 
 -- The state of an entity with a record of its own, given the later changes of all entities: all were set to one state, or those that were present were.
-abbrev pub state_of_held : States → Held → EntityState
+abbrev pub state_of_held : States → SingleState → EntityState
 state_of_held t h = if nat_lt h.since t.alike then t.rest else (if is_absent h.state then Absent else (if nat_lt h.since t.moved then t.moved_to else h.state))
 
 -- the state of an entity with or without a record of its own
-abbrev pub state_by : States → Option Held → EntityState
+abbrev pub state_by : States → Option SingleState → EntityState
 state_by t o = option_map_or (state_of_held t) o t.rest
 
 -- THE STATE UNDER NUMBER e in the table
@@ -29,12 +29,12 @@ unfoldable pub state_in : States → ℕ → EntityState
 state_in t e = state_by t (held_at t.pages.items e)
 
 -- a page has records of its entities
-abbrev pub has_page : List (Vec Held Global) → ℕ → Bool
+abbrev pub has_page : List (Vec SingleState Global) → ℕ → Bool
 has_page pages page = option_map_or (λ p. nat_lt 0 (length p.items)) (slice_get pages page) false
 
 -- the state under number e, Absent if no entity can have that number
-abbrev pub known_in : States → ℕ → EntityState
-known_in t e = if is_entity e then state_in t e else Absent
+abbrev pub state_or_absent : States → ℕ → EntityState
+state_or_absent t e = if is_entity e then state_in t e else Absent
 
 -- No record was made by a change with a number above n; the last change of all present entities made them present still.
 pub record AreUpTo (n : ℕ) (t : States) : Type 0 where
@@ -44,11 +44,11 @@ pub record AreUpTo (n : ℕ) (t : States) : Type 0 where
   pub held : (e : ℕ) → IfSome (held_at t.pages.items e) (λ h. h.since ≤ n)
 
 -- the record at a place is unchanged, or it is the filler if there was none
-abbrev pub IsKept : Held → Option Held → Option Held → Type 0
+abbrev pub IsKept : SingleState → Option SingleState → Option SingleState → Type 0
 IsKept filler before after = (after ≡ before) ⊎ ((before ≡ None) × (after ≡ Some filler))
 
 -- a page after a record was put at a place
-pub record IsPut (filler : Held) (place : ℕ) (held : Held) (old new : List Held) : Type 0 where
+pub record IsPut (filler : SingleState) (place : ℕ) (held : SingleState) (old new : List SingleState) : Type 0 where
   pub here : slice_get new place ≡ Some held
   pub others : (i : ℕ) → i ≢ place → IsKept filler (slice_get old i) (slice_get new i)
 

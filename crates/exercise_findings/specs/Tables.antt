@@ -11,21 +11,21 @@ use Rattle.exercise_model.specs.Place.{log_before}
 use Rattle.exercise_model.specs.Account.{pair_of, change_at, is_other, others_among}
 use Rattle.exercise_findings.specs.declared.tables.Tables.{Tables}
 use Rattle.exercise_findings.specs.declared.pass.Pass.{Pass}
-use Rattle.exercise_findings.specs.declared.pass.Passed.{Passed}
+use Rattle.exercise_findings.specs.declared.pass.PassResult.{PassResult}
 use Rattle.exercise_findings.specs.declared.found.Found.{Found}
 use Rattle.exercise_findings.specs.Firsts.{key_at, AreFirsts, IsBased}
 use Rattle.exercise_findings.specs.ChangeNumber.{change_in}
 use Rattle.exercise_findings.specs.Column.{IsColumn, IsShortColumn}
-use Rattle.exercise_findings.specs.Behind.{behind_at, AreBehind}
+use Rattle.exercise_findings.specs.Behind.{change_key_at, AreChangeKeys}
 use Rattle.exercise_findings.specs.Answered.{unasked_at, AreAnswered}
 use Rattle.exercise_findings.specs.Source.{source_at}
-use Rattle.exercise_findings.specs.Earlier.{IsEarlierAt, IsSoFarAt}
+use Rattle.exercise_findings.specs.Earlier.{IsBackReference, IsBackReferenceSoFar}
 use Rattle.exercise_findings.specs.FirstSends.{AreFirstSends, IsNewSend}
 use Rattle.exercise_findings.specs.Senders.{AreSenders}
 use Rattle.exercise_findings.specs.States.{AreStates}
 
 -- THE TIE of the tables, after the entries below n
-pub record AreTied (r : PlainRecording) (n : ℕ) (t : Tables) : Type 0 where
+pub record AreTablesBelow (r : PlainRecording) (n : ℕ) (t : Tables) : Type 0 where
   pub firsts : AreFirsts r n t.firsts
   pub states : AreStates r n t.states.items
 
@@ -57,35 +57,35 @@ pub record IsFound (r : PlainRecording) (n : ℕ) (f : Found) : Type 0 where
   pub change : f.change ≡ change_at r n
   pub key : f.key ≡ key_at r n
   pub based : IsBased r n f.base
-  pub behind : f.behind ≡ behind_at r n
+  pub behind : f.behind ≡ change_key_at r n
   pub source : f.is_source ≡ source_at r n
   pub fresh : f.is_new ≡ true → IsNewSend r n
   pub other : f.other ≡ other_at r n
 
 -- WHAT A PASS FINDS in the entries below n
 pub record IsPass (r : PlainRecording) (n : ℕ) (f : Pass) : Type 0 where
-  pub tied : AreTied r n f.tables
+  pub tied : AreTablesBelow r n f.tables
   pub causes : IsColumn None (IsOwnCause r) n f.causes.items
   pub changes : IsShortColumn 0 (IsChangeAt r) n f.changes.items
-  pub earlier : IsShortColumn 0xFFFFFFFF (IsSoFarAt r) n f.earlier.items
-  pub later : f.looks.later ≡ 0 → IsShortColumn 0xFFFFFFFF (IsEarlierAt r) n f.earlier.items
-  pub ables : AreBehind r n f.ables.items
+  pub earlier : IsShortColumn 0xFFFFFFFF (IsBackReferenceSoFar r) n f.earlier.items
+  pub later : f.looks.later ≡ 0 → IsShortColumn 0xFFFFFFFF (IsBackReference r) n f.earlier.items
+  pub ables : AreChangeKeys r n f.ables.items
   pub answered : AreAnswered r n f.answered
   pub sends : AreFirstSends r n f.sends
   pub others : f.others ≡ others_among r.setting.exercise (take n r.entries)
   pub few : f.others ≤ n
 
 -- WHAT IS FOUND in a whole log
-pub record AreFound (r : PlainRecording) (f : Passed) : Type 0 where
-  pub tied : AreTied r (length r.entries) f.tables
+pub record AreFound (r : PlainRecording) (f : PassResult) : Type 0 where
+  pub tied : AreTablesBelow r (length r.entries) f.tables
   pub causes : IsColumn None (IsOwnCause r) (length r.entries) f.causes.items
   pub changes : IsShortColumn 0 (IsChangeAt r) (length r.entries) f.changes.items
-  pub earlier : IsShortColumn 0xFFFFFFFF (IsSoFarAt r) (length r.entries) f.earlier.items
+  pub earlier : IsShortColumn 0xFFFFFFFF (IsBackReferenceSoFar r) (length r.entries) f.earlier.items
   pub senders : IfSome f.senders (AreSenders r (length r.entries))
-  pub sources : IfNone f.senders (IsShortColumn 0xFFFFFFFF (IsEarlierAt r) (length r.entries) f.earlier.items)
-  pub ables : AreBehind r (length r.entries) f.ables.items
+  pub sources : IfNone f.senders (IsShortColumn 0xFFFFFFFF (IsBackReference r) (length r.entries) f.earlier.items)
+  pub ables : AreChangeKeys r (length r.entries) f.ables.items
   pub others : f.others ≡ others_among r.setting.exercise (take (length r.entries) r.entries)
 
-pub record AreFindings (r : PlainRecording) (f : Passed) : Type 0 where
+pub record AreFindings (r : PlainRecording) (f : PassResult) : Type 0 where
   pub limits : IsRecording r
   pub found : AreFound r f

@@ -2,14 +2,14 @@
 
 ghost use Rattle.std.specs.Prelude.{◌≡◌, length, map, IfOk};
 ghost use Rattle.exercise_model.specs.Account.{change_behind, entities_of, values_below};
-ghost use Rattle.exercise_findings.specs.Account.{TellsAccount};
+ghost use Rattle.exercise_findings.specs.Account.{IsAccount};
 ghost use Rattle.exercise_findings.specs.Column.{IsShortColumn};
 ghost use Rattle.exercise_findings.specs.Number.{IsNumberOf};
-ghost use Rattle.exercise_findings.specs.Tables.{AreTied, AreFound};
+ghost use Rattle.exercise_findings.specs.Tables.{AreTablesBelow, AreFound};
 
 use crate::account::Account;
 use crate::behind::changes_behind;
-use crate::pass::Passed;
+use crate::pass::PassResult;
 use crate::state::entities;
 use crate::tables::Tables;
 use dis_records::EntityState;
@@ -23,7 +23,7 @@ pub(crate) fn states<L: ExerciseLog>(
     log: &L,
     tables: &Tables,
 ) -> Result<Vec<Vec<(u16, EntityState)>>, AllocError>
-    requires { let r = L.recording log.now in AreTied r (length r.entries) tables.now }
+    requires { let r = L.recording log.now in AreTablesBelow r (length r.entries) tables.now }
     ensures { let r = L.recording log.now in IfOk result (λ states. map (λ v. v.items) states.items ≡ values_below (entities_of r) (length r.setting.stations)) }
 {
     let mut states = Vec::new(alloc);
@@ -38,7 +38,7 @@ pub(crate) fn states<L: ExerciseLog>(
 fn states_and_changes<L: ExerciseLog>(
     alloc: Global,
     log: &L,
-    found: &Passed,
+    found: &PassResult,
 ) -> Result<(Vec<Vec<(u16, EntityState)>>, Vec<u32>), AllocError>
     requires { AreFound (L.recording log.now) found.now }
     ensures states { let r = L.recording log.now in IfOk result (λ told. map (λ v. v.items) told.0.items ≡ values_below (entities_of r) (length r.setting.stations)) }
@@ -59,12 +59,12 @@ fn states_and_changes<L: ExerciseLog>(
 pub(crate) fn account<L: ExerciseLog>(
     alloc: Global,
     log: &L,
-    found: Passed,
+    found: PassResult,
 ) -> Result<Account, AllocError>
     requires { AreFound (L.recording log.now) found }
-    ensures { IfOk result (λ checked. TellsAccount (L.recording log.now) checked) }
+    ensures { IfOk result (λ checked. IsAccount (L.recording log.now) checked) }
 {
     let told = states_and_changes(alloc, log, &found)?;
-    let (earlier, others) = found.into_earlier();
+    let (earlier, others) = found.into_back_references();
     Ok(Account::of(told.0, earlier, told.1, others))
 }

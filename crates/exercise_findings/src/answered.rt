@@ -25,7 +25,7 @@ pub(crate) struct Answered {
 }
 
 /// The marks before the first entry: none. It takes no memory.
-pub(crate) fn none_answered<L: ExerciseLog>(alloc: Global, log: &L) -> Answered
+pub(crate) fn no_answer_marks<L: ExerciseLog>(alloc: Global, log: &L) -> Answered
     ensures { AreAnswered (L.recording log.now) 0 result }
 {
     let _log = log;

@@ -13,7 +13,7 @@ ghost use Rattle.exercise_model.specs.Cause.{is_reused, is_changed_answer, is_ho
 ghost use Rattle.exercise_model.specs.Place.{log_before};
 ghost use Rattle.exercise_findings.specs.Firsts.{answer_base, AreFirsts};
 ghost use Rattle.exercise_findings.specs.TakenUp.{request_of_sent};
-ghost use Rattle.exercise_findings.specs.Tables.{AreTied};
+ghost use Rattle.exercise_findings.specs.Tables.{AreTablesBelow};
 
 use crate::change::{was_able, was_unable};
 use crate::firsts::Firsts;
@@ -72,7 +72,7 @@ fn is_hopeless<L: ExerciseLog>(
 ) -> bool
     requires at { station < length (L.recording log.now).setting.stations }
     requires within { before ≤ length (L.recording log.now).entries }
-    requires tied { AreTied (L.recording log.now) before tables.now }
+    requires tied { AreTablesBelow (L.recording log.now) before tables.now }
     ensures { let r = L.recording log.now in result ≡ is_hopeless change.kind change.scope (state_after r.setting.exercise (station_at r station) (log_before r station before)) }
 {
     match change.scope {
@@ -98,7 +98,7 @@ fn is_impossible<L: ExerciseLog>(
 ) -> bool
     requires at { station < length (L.recording log.now).setting.stations }
     requires within { before ≤ length (L.recording log.now).entries }
-    requires tied { AreTied (L.recording log.now) before tables.now }
+    requires tied { AreTablesBelow (L.recording log.now) before tables.now }
     requires first { let r = L.recording log.now in first ≡ is_change r.setting.exercise (pdu_of pdu.now) (log_before r station before) }
     requires answers { IsTrue (is_answer_to (pdu_of pdu.now) (pdu_of request.now)) }
     ensures { let r = L.recording log.now in result ≡ is_impossible r.setting.exercise (station_at r station) (log_before r station before) (pdu_of pdu.now) (pdu_of request.now) }
@@ -125,7 +125,7 @@ pub(crate) fn judge_sent<L: ExerciseLog>(
 ) -> Option<Cause>
     requires at { station < length (L.recording log.now).setting.stations }
     requires within { before < length (L.recording log.now).entries }
-    requires tied { AreTied (L.recording log.now) before tables.now }
+    requires tied { AreTablesBelow (L.recording log.now) before tables.now }
     requires base { base ≡ answer_base station (pdu_of pdu.now) }
     requires from { from ≡ is_from (station_at (L.recording log.now) station).address (pdu_of pdu.now) }
     requires reused { let r = L.recording log.now in reused ≡ (is_request_body (pdu_of pdu.now).body && is_reused r.setting.exercise (pdu_of pdu.now) (log_before r station before)) }
@@ -182,7 +182,7 @@ pub(crate) fn judge_told<L: ExerciseLog>(
 ) -> Option<Cause>
     requires at { station < length (L.recording log.now).setting.stations }
     requires within { before ≤ length (L.recording log.now).entries }
-    requires tied { AreTied (L.recording log.now) before tables.now }
+    requires tied { AreTablesBelow (L.recording log.now) before tables.now }
     ensures { let r = L.recording log.now in result ≡ first_cause (tell_rows state (state_after r.setting.exercise (station_at r station) (log_before r station before) entity)) }
 {
     if state == state_before(log, tables, station, before, entity) {

@@ -16,7 +16,7 @@ use siman_pdus::{ABLE, PduView, UNABLE};
 /// The PDU that a station sends at an entry, whose datagram must mean something; `None` if the
 /// entry is not a send of that station.
 #[tactic(auto, unfolding(exercise_model::specs::Place::own_event, crate::specs::Sent::is_meant), using(crate::proofs::Meant::meant_within))]
-pub(crate) fn sent_by<L: ExerciseLog>(log: &L, station: u16, entry: usize) -> Option<PduView<'_>>
+pub(crate) fn pdu_sent<L: ExerciseLog>(log: &L, station: u16, entry: usize) -> Option<PduView<'_>>
     requires { is_meant (L.recording log.now) entry ≡ true }
     ensures { let r = L.recording log.now in option_map pdu_of result ≡ option_and_then (meant_by_send r.setting.exercise) (own_event r station entry) }
 {

@@ -4,7 +4,7 @@
 ghost use Rattle.std.specs.Prelude.{◌≡◌, ◌≢◌, ◌<◌, ◌≤◌, ◌+◌, ℕ, length, slice_index_or, IfSome, IfNone, IfOk, OnOk, Some, None, is_some, true, unwrap_or, option_map};
 ghost use Rattle.exercise_model.specs.Recording.{IsRecording};
 ghost use Rattle.exercise_findings.specs.Column.{IsShortColumn};
-ghost use Rattle.exercise_findings.specs.Earlier.{request_in, source_in, IsEarlierAt, IsSoFarAt};
+ghost use Rattle.exercise_findings.specs.Earlier.{request_in, source_in, IsBackReference, IsBackReferenceSoFar};
 ghost use Rattle.exercise_findings.specs.FirstSends.{AreFirstSends};
 ghost use Rattle.exercise_findings.specs.Senders.{AreSenders};
 ghost use Rattle.exercise_findings.specs.Sent.{Receives};
@@ -13,7 +13,7 @@ ghost use Rattle.exercise_findings.specs.Source.{first_source, source_of};
 use crate::column::{number_at, replace};
 use crate::first_sends::{FirstSends, latest_source};
 use crate::number::NO_ENTRY;
-use crate::senders::{Hints, Senders, first_source, next_source};
+use crate::senders::{SenderHints, Senders, first_source, next_source};
 use exercise_model::{EntryView, ExerciseLog};
 use std::alloc::AllocError;
 
@@ -119,7 +119,7 @@ fn source_so_far<L: ExerciseLog>(
 }
 
 /// Number of the source of the next entry, a receipt, or [`LATER`] if it is not found yet.
-pub(crate) fn earlier_so_far<L: ExerciseLog>(
+pub(crate) fn back_reference_so_far<L: ExerciseLog>(
     sends: &mut FirstSends,
     looks: &mut Looks,
     log: &L,
@@ -130,8 +130,8 @@ pub(crate) fn earlier_so_far<L: ExerciseLog>(
     requires within { entry < length (L.recording log.now).entries }
     requires receives { (s : ℕ) × Receives (L.recording log.now) entry s datagram.now }
     requires tied { AreFirstSends (L.recording log.now) entry sends.old }
-    ensures so_far { IfOk result (IsSoFarAt (L.recording log.now) entry) }
-    ensures later { IfOk result (λ earlier. looks.new.later ≡ 0 → (looks.old.later ≡ 0) × IsEarlierAt (L.recording log.now) entry earlier) }
+    ensures so_far { IfOk result (IsBackReferenceSoFar (L.recording log.now) entry) }
+    ensures later { IfOk result (λ earlier. looks.new.later ≡ 0 → (looks.old.later ≡ 0) × IsBackReference (L.recording log.now) entry earlier) }
     ensures tied { OnOk result (AreFirstSends (L.recording log.now) entry sends.new) }
 {
     let source = source_so_far(sends, looks, log, datagram, entry)?;
@@ -165,7 +165,7 @@ fn source_at<L: ExerciseLog>(senders: &Senders, log: &L, entry: usize) -> Option
 /// As [`source_at`], trying the place that the hint predicts first.
 fn source_by_hint<L: ExerciseLog>(
     senders: &Senders,
-    hints: &mut Hints,
+    hints: &mut SenderHints,
     log: &L,
     entry: usize,
 ) -> Option<u32>
@@ -181,7 +181,7 @@ fn source_by_hint<L: ExerciseLog>(
 
 /// The source of an entry whose number in the column is `earlier`. `senders` is the index of first
 /// sends, present while sources are open.
-pub(crate) fn source_kept<L: ExerciseLog>(
+pub(crate) fn column_source<L: ExerciseLog>(
     senders: &Option<Senders>,
     log: &L,
     entry: usize,
@@ -189,8 +189,8 @@ pub(crate) fn source_kept<L: ExerciseLog>(
 ) -> Option<u32>
     requires within { entry < length (L.recording log.now).entries }
     requires senders { let r = L.recording log.now in IfSome senders.now (AreSenders r (length r.entries)) }
-    requires so_far { IsSoFarAt (L.recording log.now) entry earlier }
-    requires found { IfNone senders.now (IsEarlierAt (L.recording log.now) entry earlier) }
+    requires so_far { IsBackReferenceSoFar (L.recording log.now) entry earlier }
+    requires found { IfNone senders.now (IsBackReference (L.recording log.now) entry earlier) }
     ensures { result ≡ source_of (L.recording log.now) entry }
 {
     match senders {
@@ -203,16 +203,16 @@ pub(crate) fn source_kept<L: ExerciseLog>(
 fn find_source<L: ExerciseLog>(
     column: &mut Vec<u32>,
     senders: &Senders,
-    hints: &mut Hints,
+    hints: &mut SenderHints,
     log: &L,
     entry: usize,
 )
     requires limits { IsRecording (L.recording log.now) }
     requires within { entry < length (L.recording log.now).entries }
     requires senders { let r = L.recording log.now in AreSenders r (length r.entries) senders.now }
-    requires so_far { let r = L.recording log.now in IsShortColumn 0xFFFFFFFF (IsSoFarAt r) (length r.entries) column.old.items }
-    ensures so_far { let r = L.recording log.now in IsShortColumn 0xFFFFFFFF (IsSoFarAt r) (length r.entries) column.new.items }
-    ensures here { IsEarlierAt (L.recording log.now) entry (slice_index_or column.new.items entry 0xFFFFFFFF) }
+    requires so_far { let r = L.recording log.now in IsShortColumn 0xFFFFFFFF (IsBackReferenceSoFar r) (length r.entries) column.old.items }
+    ensures so_far { let r = L.recording log.now in IsShortColumn 0xFFFFFFFF (IsBackReferenceSoFar r) (length r.entries) column.new.items }
+    ensures here { IsBackReference (L.recording log.now) entry (slice_index_or column.new.items entry 0xFFFFFFFF) }
     ensures others { (j : ℕ) → j ≢ entry → slice_index_or column.new.items j 0xFFFFFFFF ≡ slice_index_or column.old.items j 0xFFFFFFFF }
 {
     if number_at(column, NO_ENTRY, entry) == LATER {
@@ -224,7 +224,7 @@ fn find_source<L: ExerciseLog>(
 /// As [`find_source`], if there is an index of first sends; otherwise nothing is open.
 pub(crate) fn settle_source<L: ExerciseLog>(
     senders: &Option<Senders>,
-    hints: &mut Hints,
+    hints: &mut SenderHints,
     column: &mut Vec<u32>,
     log: &L,
     entry: usize,
@@ -232,9 +232,9 @@ pub(crate) fn settle_source<L: ExerciseLog>(
     requires limits { IsRecording (L.recording log.now) }
     requires within { entry < length (L.recording log.now).entries }
     requires senders { let r = L.recording log.now in IfSome senders.now (AreSenders r (length r.entries)) }
-    requires so_far { let r = L.recording log.now in IsShortColumn 0xFFFFFFFF (IsSoFarAt r) (length r.entries) column.old.items }
+    requires so_far { let r = L.recording log.now in IsShortColumn 0xFFFFFFFF (IsBackReferenceSoFar r) (length r.entries) column.old.items }
     ensures none { IfNone senders.now (column.new ≡ column.old) }
-    ensures so_far { let r = L.recording log.now in IsShortColumn 0xFFFFFFFF (IsSoFarAt r) (length r.entries) column.new.items }
+    ensures so_far { let r = L.recording log.now in IsShortColumn 0xFFFFFFFF (IsBackReferenceSoFar r) (length r.entries) column.new.items }
 {
     if let Some(senders) = senders {
         find_source(column, senders, hints, log, entry);
@@ -243,16 +243,16 @@ pub(crate) fn settle_source<L: ExerciseLog>(
 
 /// For each entry its back-reference: an answer's request, a receipt's send. Completes the column
 /// of the pass.
-pub(crate) fn all_earlier<L: ExerciseLog>(
+pub(crate) fn back_references<L: ExerciseLog>(
     senders: &Senders,
-    hints: &mut Hints,
+    hints: &mut SenderHints,
     log: &L,
     so_far: Vec<u32>,
 ) -> Vec<u32>
     requires limits { IsRecording (L.recording log.now) }
     requires senders { let r = L.recording log.now in AreSenders r (length r.entries) senders.now }
-    requires so_far { let r = L.recording log.now in IsShortColumn 0xFFFFFFFF (IsSoFarAt r) (length r.entries) so_far.items }
-    ensures { let r = L.recording log.now in IsShortColumn 0xFFFFFFFF (IsEarlierAt r) (length r.entries) result.items }
+    requires so_far { let r = L.recording log.now in IsShortColumn 0xFFFFFFFF (IsBackReferenceSoFar r) (length r.entries) so_far.items }
+    ensures { let r = L.recording log.now in IsShortColumn 0xFFFFFFFF (IsBackReference r) (length r.entries) result.items }
 {
     let mut column = so_far;
     for entry in 0..log.entry_count() {

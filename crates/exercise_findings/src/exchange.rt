@@ -11,8 +11,8 @@ ghost use Rattle.exercise_findings.specs.Firsts.{AreFirsts};
 ghost use Rattle.exercise_findings.specs.Sent.{is_meant};
 
 use crate::firsts::{Firsts, first_noted};
-use crate::hint::Hint;
-use crate::kept::entry_kept_at;
+use crate::hint::StridePredictor;
+use crate::kept::entry_at_place;
 use crate::key::answered_key;
 use dis_records::Address;
 use exercise_model::{EntryView, ExerciseLog, is_answer, is_asked, meaning_again};
@@ -50,7 +50,7 @@ fn request_brought<'a, L: ExerciseLog>(
 
 /// The request that an answer takes up, with its entry, if it is at this place of the table's
 /// order.
-fn request_kept_at<'a, L: ExerciseLog>(
+fn request_at_place<'a, L: ExerciseLog>(
     log: &'a L,
     firsts: &Firsts,
     place: usize,
@@ -65,7 +65,7 @@ fn request_kept_at<'a, L: ExerciseLog>(
     ensures entry { let r = L.recording log.now in IfSome result (λ t. Some t.0 ≡ entry_taken_up r station (pdu_of answer.now) before) }
     ensures earlier { IfSome result (λ t. t.0 < before) }
 {
-    let Some(entry) = entry_kept_at(firsts, place) else {
+    let Some(entry) = entry_at_place(firsts, place) else {
         return None;
     };
     if entry as usize >= before {
@@ -83,7 +83,7 @@ fn request_kept_at<'a, L: ExerciseLog>(
 fn entry_taken_up<L: ExerciseLog>(
     log: &L,
     firsts: &Firsts,
-    hint: &mut Hint,
+    hint: &mut StridePredictor,
     station: u16,
     before: usize,
     answer: &PduView<'_>,
@@ -103,7 +103,7 @@ fn entry_taken_up<L: ExerciseLog>(
 fn request_among<'a, L: ExerciseLog>(
     log: &'a L,
     firsts: &Firsts,
-    hint: &mut Hint,
+    hint: &mut StridePredictor,
     station: u16,
     before: usize,
     answer: &PduView<'_>,
@@ -130,7 +130,7 @@ fn request_among<'a, L: ExerciseLog>(
 fn request_taken_up<'a, L: ExerciseLog>(
     log: &'a L,
     firsts: &Firsts,
-    hint: &mut Hint,
+    hint: &mut StridePredictor,
     station: u16,
     before: usize,
     answer: &PduView<'_>,
@@ -143,7 +143,7 @@ fn request_taken_up<'a, L: ExerciseLog>(
     ensures earlier { IfSome result (λ t. t.0 < before) }
 {
     let place = hint.next();
-    if let Some(taken) = request_kept_at(log, firsts, place, station, before, answer) {
+    if let Some(taken) = request_at_place(log, firsts, place, station, before, answer) {
         hint.found(place);
         return Some(taken);
     }
@@ -156,7 +156,7 @@ fn request_taken_up<'a, L: ExerciseLog>(
 pub(crate) fn taken_up<'a, L: ExerciseLog>(
     log: &'a L,
     firsts: &Firsts,
-    hint: &mut Hint,
+    hint: &mut StridePredictor,
     station: u16,
     before: usize,
     pdu: &PduView<'_>,

@@ -6,7 +6,7 @@ ghost use Rattle.exercise_model.specs.History.{station_at};
 ghost use Rattle.exercise_model.specs.State.{state_after};
 ghost use Rattle.exercise_model.specs.Place.{log_before};
 ghost use Rattle.exercise_model.specs.Account.{pair_of, change_at, entities_of, values_below, others_of};
-ghost use Rattle.exercise_findings.specs.Account.{TellsAccount};
+ghost use Rattle.exercise_findings.specs.Account.{IsAccount};
 ghost use Rattle.exercise_findings.specs.Source.{source_of};
 ghost use Rattle.exercise_findings.specs.Tables.{AreFindings, own_cause};
 
@@ -14,10 +14,10 @@ use crate::account::Account;
 use crate::accounting::{account, states};
 use crate::change_number::{NO_CHANGE, change_in};
 use crate::column::number_at;
-use crate::earlier::{request_in, source_in, source_kept};
+use crate::earlier::{column_source, request_in, source_in};
 use crate::made::state_made_before;
 use crate::number::NO_ENTRY;
-use crate::pass::{Passed, find, settle};
+use crate::pass::{PassResult, find, settle};
 use dis_records::EntityState;
 use exercise_model::{Cause, Change, ExerciseLog};
 use std::alloc::{AllocError, Global};
@@ -28,7 +28,7 @@ use std::marker::Model;
 #[derive(Drop)]
 pub struct Findings<'a, L: ExerciseLog> {
     log: &'a L,
-    found: Passed,
+    found: PassResult,
 }
 
 impl<'a, L: ExerciseLog> Model for Findings<'a, L> {
@@ -86,7 +86,7 @@ impl<'a, L: ExerciseLog> Findings<'a, L> {
             return None;
         }
         let earlier = number_at(&self.found.earlier, NO_ENTRY, entry);
-        source_kept(&self.found.senders, self.log, entry, earlier)
+        column_source(&self.found.senders, self.log, entry, earlier)
     }
 
     /// As [`Findings::source`], but also `None` if the source is not looked up yet. It takes no
@@ -144,7 +144,7 @@ impl<'a, L: ExerciseLog> Findings<'a, L> {
 
     /// Turns the findings into the account of the recording.
     pub fn into_account(self, alloc: Global) -> Result<Account, AllocError>
-        ensures { IfOk result (λ account. TellsAccount self.entry account) }
+        ensures { IfOk result (λ account. IsAccount self.entry account) }
     {
         let Findings { log, found } = self;
         account(alloc, log, found)

@@ -12,7 +12,7 @@ ghost use Rattle.exercise_findings.specs.Sent.{Sends};
 ghost use Rattle.exercise_findings.specs.Slots.{IsPut};
 ghost use Rattle.exercise_findings.specs.Source.{is_source, source_at, first_source};
 
-use crate::kept::{Kept, keep_behind, kept_at, nothing_kept};
+use crate::kept::{Kept, append_entry, empty_table, kept_at};
 use crate::senders::{Sending, datagram_hash, first_hashed, first_source};
 use crate::slots::{Slots, keep};
 use exercise_model::{EntryView, ExerciseLog};
@@ -32,7 +32,7 @@ pub(crate) fn no_sends(alloc: Global, entries: usize) -> FirstSends
     ensures { (r : PlainRecording) → AreFirstSends r 0 result }
 {
     FirstSends {
-        kept: nothing_kept(alloc, entries),
+        kept: empty_table(alloc, entries),
         hashed: 0,
     }
 }
@@ -139,7 +139,7 @@ pub(crate) fn latest_source<L: ExerciseLog>(
 }
 
 /// Appends the next entry, which is known to be the first send of its bytes.
-fn keep_new<L: ExerciseLog>(
+fn append_new_send<L: ExerciseLog>(
     sends: &mut FirstSends,
     log: &L,
     entry: usize,
@@ -158,7 +158,7 @@ fn keep_new<L: ExerciseLog>(
 }
 
 /// Appends the next entry if it is the first send of its bytes, which is looked up among all.
-fn keep_unknown<L: ExerciseLog>(
+fn append_if_new<L: ExerciseLog>(
     sends: &mut FirstSends,
     log: &L,
     entry: usize,
@@ -175,7 +175,7 @@ fn keep_unknown<L: ExerciseLog>(
     match first_hashed(&sends.kept, log, hash, datagram) {
         Some(_) => Ok(()),
         None => {
-            keep_behind(&mut sends.kept, hash, entry as u32)?;
+            append_entry(&mut sends.kept, hash, entry as u32)?;
             sends.hashed += 1;
             Ok(())
         }
@@ -202,8 +202,8 @@ pub(crate) fn note_send<L: ExerciseLog>(
     if !is_source {
         Ok(())
     } else if is_new {
-        keep_new(sends, log, entry, bytes)
+        append_new_send(sends, log, entry, bytes)
     } else {
-        keep_unknown(sends, log, entry, bytes)
+        append_if_new(sends, log, entry, bytes)
     }
 }

@@ -9,8 +9,8 @@ ghost use Rattle.exercise_findings.specs.FirstSends.{IsNewKey};
 ghost use Rattle.exercise_findings.specs.Firsts.{answer_base, key_at, has_key, first_under, AreFirsts, IsBased};
 
 use crate::hashed::word;
-use crate::hint::Hint;
-use crate::kept::{Kept, keep_behind, kept_at, kept_place};
+use crate::hint::StridePredictor;
+use crate::kept::{Kept, append_entry, kept_at, place_of_entry};
 use crate::key::{Key, acknowledged_key, received_key, sent_key};
 use crate::slots::{Sought, find};
 use exercise_model::{EntryView, ExerciseLog, key_of, meaning_again};
@@ -36,13 +36,13 @@ pub(crate) fn key_base(key: &Key) -> u32
 /// The last key with its hash base: repeated sends have equal keys, whose base is then computed
 /// once.
 #[derive(Drop)]
-pub(crate) struct LastBase {
+pub(crate) struct BaseCache {
     key: Key,
     base: u32,
 }
 
 // Contracts need not see it: whatever was last, the base of a key is the same.
-impl Model for LastBase {
+impl Model for BaseCache {
     ghost use Rattle.std.specs.Prelude.{◌≡◌};
     ghost use Rattle.exercise_findings.specs.Hashed.{key_base};
 
@@ -54,7 +54,7 @@ impl Model for LastBase {
 }
 
 /// An initial cache entry: an all-zero key, with its base.
-pub(crate) fn no_base() -> LastBase
+pub(crate) fn empty_base_cache() -> BaseCache
     ensures { result ≡ tt }
 {
     let key = Key {
@@ -68,18 +68,18 @@ pub(crate) fn no_base() -> LastBase
         entity: 0,
     };
     let base = key_base(&key);
-    LastBase { key, base }
+    BaseCache { key, base }
 }
 
 /// The hash base of a key, computed only if the key differs from the last one.
-pub(crate) fn base_near(last: &mut LastBase, key: &Key) -> u32
+pub(crate) fn cached_base(last: &mut BaseCache, key: &Key) -> u32
     ensures { result ≡ key_base key.now }
 {
     if last.key == *key {
         return last.base;
     }
     let base = key_base(key);
-    *last = LastBase { key: *key, base };
+    *last = BaseCache { key: *key, base };
     base
 }
 
@@ -93,11 +93,11 @@ fn key_hash(key: &Key, base: u32) -> u32
 }
 
 /// The hash base of the keys of an answer of a station; 0 if it has none.
-pub(crate) fn answer_base(last: &mut LastBase, station: u16, pdu: &PduView<'_>) -> u32
+pub(crate) fn answer_base(last: &mut BaseCache, station: u16, pdu: &PduView<'_>) -> u32
     ensures { result ≡ answer_base station (pdu_of pdu.now) }
 {
     match key_of(pdu) {
-        Some(key) => base_near(last, &acknowledged_key(station, ABLE, &key)),
+        Some(key) => cached_base(last, &acknowledged_key(station, ABLE, &key)),
         None => 0,
     }
 }
@@ -133,12 +133,12 @@ fn has_key<L: ExerciseLog>(log: &L, key: &Key, entry: usize) -> bool
 
 /// Search for an entry with a key.
 #[derive(Drop)]
-struct Keyed<'a, L: ExerciseLog> {
+struct KeySearch<'a, L: ExerciseLog> {
     log: &'a L,
     key: &'a Key,
 }
 
-impl<'a, L: ExerciseLog> Sought for Keyed<'a, L> {
+impl<'a, L: ExerciseLog> Sought for KeySearch<'a, L> {
     ghost is_sought = { λ s. has_key (L.recording s.log.now) s.key.now };
 
     ghost is_known = { λ s. is_meant (L.recording s.log.now) };
@@ -161,7 +161,7 @@ fn first_hashed<L: ExerciseLog>(
     ensures { result ≡ first_under (L.recording log.now) key.now before }
 {
     let _before = before;
-    find(&firsts.slots, hash, &Keyed { log, key })
+    find(&firsts.slots, hash, &KeySearch { log, key })
 }
 
 /// The first entry before `before` under a key of this base.
@@ -185,7 +185,7 @@ pub(crate) fn first_noted<L: ExerciseLog>(
     log: &L,
     key: &Key,
     before: usize,
-    hint: &mut Hint,
+    hint: &mut StridePredictor,
 ) -> Option<u32>
     requires { AreFirsts (L.recording log.now) before firsts.now }
     ensures { result ≡ first_under (L.recording log.now) key.now before }
@@ -193,7 +193,7 @@ pub(crate) fn first_noted<L: ExerciseLog>(
     let Some(entry) = first_under(firsts, log, key, key_base(key), before) else {
         return None;
     };
-    hint.found(kept_place(firsts, entry));
+    hint.found(place_of_entry(firsts, entry));
     Some(entry)
 }
 
@@ -204,13 +204,13 @@ pub(crate) fn first_near<L: ExerciseLog>(
     log: &L,
     key: &Key,
     before: usize,
-    hint: &mut Hint,
+    hint: &mut StridePredictor,
 ) -> Option<u32>
     requires { AreFirsts (L.recording log.now) before firsts.now }
     ensures { result ≡ first_under (L.recording log.now) key.now before }
 {
     let place = hint.next();
-    if let Some(entry) = kept_at(firsts, place, &Keyed { log, key }) {
+    if let Some(entry) = kept_at(firsts, place, &KeySearch { log, key }) {
         hint.found(place);
         return Some(entry);
     }
@@ -236,7 +236,7 @@ fn keep_first<L: ExerciseLog>(
     match first_hashed(firsts, log, hash, key, entry) {
         Some(_) => Ok(false),
         None => {
-            keep_behind(firsts, hash, entry as u32)?;
+            append_entry(firsts, hash, entry as u32)?;
             Ok(true)
         }
     }

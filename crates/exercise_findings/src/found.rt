@@ -14,22 +14,22 @@ ghost use Rattle.exercise_findings.specs.declared.key.Key.{Key};
 ghost use Rattle.exercise_findings.specs.Firsts.{answer_base, sent_key, received_key};
 ghost use Rattle.exercise_findings.specs.Hashed.{key_base};
 ghost use Rattle.exercise_findings.specs.Answered.{is_unasked};
-ghost use Rattle.exercise_findings.specs.Behind.{key_behind};
+ghost use Rattle.exercise_findings.specs.Behind.{change_key};
 ghost use Rattle.exercise_findings.specs.Requests.{AreRequests};
-ghost use Rattle.exercise_findings.specs.Rising.{AreRising};
+ghost use Rattle.exercise_findings.specs.HighWaterMarks.{AreHighWaterMarks};
 ghost use Rattle.exercise_findings.specs.Sent.{Sends, Receives};
-ghost use Rattle.exercise_findings.specs.Tables.{AreTied, IsFound};
+ghost use Rattle.exercise_findings.specs.Tables.{AreTablesBelow, IsFound};
 
-use crate::behind::key_behind;
+use crate::behind::change_key;
 use crate::cause::{judge_sent, judge_unsent};
 use crate::change::is_change;
 use crate::exchange::taken_up;
-use crate::firsts::{LastBase, answer_base, base_near};
-use crate::hint::Hint;
+use crate::firsts::{BaseCache, answer_base, cached_base};
+use crate::hint::StridePredictor;
 use crate::key::{Key, received_key, sent_key};
 use crate::requests::{Requests, note_request};
-use crate::rising::{Rising, note_rise};
-use crate::sender::{Places, sender_of};
+use crate::rising::{HighWaterMarks, raise_mark};
+use crate::sender::{StationCache, sender_of};
 use crate::state::change_by;
 use crate::tables::Tables;
 use exercise_model::{Cause, Change, ExerciseLog, is_answer, is_from, meaning_view};
@@ -81,7 +81,7 @@ fn judged(cause: Option<Cause>) -> Found
 }
 
 /// Findings about an entry with an "other" datagram.
-fn found_other() -> Found
+fn other_findings() -> Found
     ensures { result ≡ record { cause = None; pair = None; is_unasked = false; change = None; key = None; base = 0; behind = None; is_source = false; is_new = false; other = true } }
 {
     Found {
@@ -102,11 +102,11 @@ fn pair_of(taken: &Option<(u32, PduView<'_>)>) -> Option<u32>
 
 /// Findings about a PDU that a station sends at an entry. `reused`: whether it reuses its request
 /// identifier; `is_new`: whether it is known to be new.
-fn found_sent<L: ExerciseLog>(
+fn pdu_send_findings<L: ExerciseLog>(
     log: &L,
     tables: &Tables,
-    hint: &mut Hint,
-    last: &mut LastBase,
+    hint: &mut StridePredictor,
+    last: &mut BaseCache,
     station: u16,
     entry: usize,
     pdu: &PduView<'_>,
@@ -115,7 +115,7 @@ fn found_sent<L: ExerciseLog>(
 ) -> Found
     requires at { station < length (L.recording log.now).setting.stations }
     requires within { entry < length (L.recording log.now).entries }
-    requires tied { AreTied (L.recording log.now) entry tables.now }
+    requires tied { AreTablesBelow (L.recording log.now) entry tables.now }
     requires reused { let r = L.recording log.now in reused ≡ (is_request_body (pdu_of pdu.now).body && is_reused r.setting.exercise (pdu_of pdu.now) (log_before r station entry)) }
     ensures cause { let r = L.recording log.now in result.cause ≡ send_cause r.setting.exercise (station_at r station) (log_before r station entry) (pdu_of pdu.now) }
     ensures pair { result.pair ≡ pair_of_sent (L.recording log.now) station entry (pdu_of pdu.now) }
@@ -150,20 +150,20 @@ fn found_sent<L: ExerciseLog>(
 }
 
 /// The hash base of a key, or 0 without a key.
-fn base_of(last: &mut LastBase, key: Option<Key>) -> u32
+fn base_of(last: &mut BaseCache, key: Option<Key>) -> u32
     ensures { (k : Key) → Some k ≡ key → result ≡ key_base k }
 {
     match key {
-        Some(key) => base_near(last, &key),
+        Some(key) => cached_base(last, &key),
         None => 0,
     }
 }
 
 /// Findings about a PDU that a station receives.
-fn found_received<L: ExerciseLog>(
+fn pdu_receipt_findings<L: ExerciseLog>(
     log: &L,
-    places: &Places,
-    last: &mut LastBase,
+    places: &StationCache,
+    last: &mut BaseCache,
     station: u16,
     pdu: &PduView<'_>,
 ) -> Found
@@ -174,7 +174,7 @@ fn found_received<L: ExerciseLog>(
     ensures change { result.change ≡ None }
     ensures key { let r = L.recording log.now in result.key ≡ received_key station (station_at r station).address (pdu_of pdu.now) }
     ensures base { (k : Key) → Some k ≡ result.key → result.base ≡ key_base k }
-    ensures behind { let p = pdu_of pdu.now in result.behind ≡ key_behind (sender_of (L.recording log.now) p) p }
+    ensures behind { let p = pdu_of pdu.now in result.behind ≡ change_key (sender_of (L.recording log.now) p) p }
     ensures source { result.is_source ≡ false }
     ensures new { result.is_new ≡ false }
     ensures other { result.other ≡ false }
@@ -185,19 +185,19 @@ fn found_received<L: ExerciseLog>(
     Found {
         key,
         base: base_of(last, key),
-        behind: key_behind(sender, pdu),
+        behind: change_key(sender, pdu),
         ..judged(judge_unsent(log.form(), sender.is_some()))
     }
 }
 
 /// Findings about the next entry of a log, by which a station sends a datagram.
-pub(crate) fn find_sent<L: ExerciseLog>(
+pub(crate) fn send_findings<L: ExerciseLog>(
     log: &L,
     tables: &Tables,
     requests: &mut Requests,
-    rising: &mut Rising,
-    hint: &mut Hint,
-    last: &mut LastBase,
+    rising: &mut HighWaterMarks,
+    hint: &mut StridePredictor,
+    last: &mut BaseCache,
     entry: usize,
     station: u16,
     bytes: &[u8],
@@ -207,19 +207,19 @@ pub(crate) fn find_sent<L: ExerciseLog>(
     requires few { entry < 4294967295 }
     requires within { entry < length (L.recording log.now).entries }
     requires sends { Sends (L.recording log.now) entry station bytes.now }
-    requires tied { AreTied (L.recording log.now) entry tables.now }
+    requires tied { AreTablesBelow (L.recording log.now) entry tables.now }
     requires requests { AreRequests (L.recording log.now) entry requests.old }
-    requires rising { AreRising (L.recording log.now) entry rising.old }
+    requires rising { AreHighWaterMarks (L.recording log.now) entry rising.old }
     ensures found { IfOk result (IsFound (L.recording log.now) entry) }
     ensures requests { OnOk result (AreRequests (L.recording log.now) (entry + 1) requests.new) }
-    ensures rising { OnOk result (AreRising (L.recording log.now) (entry + 1) rising.new) }
+    ensures rising { OnOk result (AreHighWaterMarks (L.recording log.now) (entry + 1) rising.new) }
 {
     match meaning_view(log.exercise(), bytes) {
         Some(pdu) => {
             let asked = note_request(requests, log, station, entry, &pdu)?;
-            let is_above = note_rise(rising, log, station, entry, &pdu);
+            let is_above = raise_mark(rising, log, station, entry, &pdu);
             let is_new = asked.first | is_above;
-            Ok(found_sent(
+            Ok(pdu_send_findings(
                 log,
                 tables,
                 hint,
@@ -231,15 +231,15 @@ pub(crate) fn find_sent<L: ExerciseLog>(
                 is_new,
             ))
         }
-        None => Ok(found_other()),
+        None => Ok(other_findings()),
     }
 }
 
 /// Findings about an entry of a log, by which a station receives a datagram.
-pub(crate) fn find_received<L: ExerciseLog>(
+pub(crate) fn receipt_findings<L: ExerciseLog>(
     log: &L,
-    places: &Places,
-    last: &mut LastBase,
+    places: &StationCache,
+    last: &mut BaseCache,
     entry: usize,
     station: u16,
     bytes: &[u8],
@@ -249,7 +249,7 @@ pub(crate) fn find_received<L: ExerciseLog>(
     ensures { IsFound (L.recording log.now) entry result }
 {
     match meaning_view(log.exercise(), bytes) {
-        Some(pdu) => found_received(log, places, last, station, &pdu),
-        None => found_other(),
+        Some(pdu) => pdu_receipt_findings(log, places, last, station, &pdu),
+        None => other_findings(),
     }
 }

@@ -3,7 +3,7 @@
 /// Stride predictor: the place of the last hit and the expected distance to the next. It affects
 /// speed alone, never the result of a look-up.
 #[derive(Clone, Copy)]
-pub struct Hint {
+pub struct StridePredictor {
     /// Place of the last hit.
     place: usize,
     /// Predicted distance to the next hit.
@@ -12,10 +12,10 @@ pub struct Hint {
     way: usize,
 }
 
-impl Hint {
+impl StridePredictor {
     /// A predictor without hits: it predicts place 1.
-    pub const fn new() -> Hint {
-        Hint {
+    pub const fn new() -> StridePredictor {
+        StridePredictor {
             place: 0,
             step: 1,
             way: 1,
@@ -32,6 +32,6 @@ impl Hint {
     pub fn found(&mut self, place: usize) {
         let way = place.wrapping_sub(self.place);
         let step = if way == self.way { way } else { self.step };
-        *self = Hint { place, step, way };
+        *self = StridePredictor { place, step, way };
     }
 }

@@ -8,7 +8,7 @@
 //! tables refer to the bytes of the log and are safe against keys that an attacker has chosen.
 //!
 //! The crates above rely on the contracts of [`Findings`] and [`Account`], and on [`Missing`], the
-//! description of a send that a log lacks; [`number_at`], [`put_number`], [`replace`] and [`Hint`]
+//! description of a send that a log lacks; [`number_at`], [`put_number`], [`replace`] and [`StridePredictor`]
 //! are shared helpers for columns and sequential look-ups of their own.
 #![tactic(auto)]
 
@@ -48,5 +48,5 @@ mod tagged;
 pub use account::Account;
 pub use column::{number_at, put_number, replace};
 pub use findings::Findings;
-pub use hint::Hint;
+pub use hint::StridePredictor;
 pub use missing::Missing;

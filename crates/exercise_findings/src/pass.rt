@@ -4,27 +4,27 @@ ghost use Rattle.std.specs.Prelude.{◌≡◌, ◌<◌, ◌+◌, ◌||◌, lengt
 ghost use Rattle.exercise_model.specs.Entry.{Told};
 ghost use Rattle.exercise_model.specs.Recording.{IsRecording};
 ghost use Rattle.exercise_findings.specs.Requests.{AreRequests};
-ghost use Rattle.exercise_findings.specs.Rising.{AreRising};
+ghost use Rattle.exercise_findings.specs.HighWaterMarks.{AreHighWaterMarks};
 ghost use Rattle.exercise_findings.specs.Senders.{AreSenders};
 ghost use Rattle.exercise_findings.specs.Sent.{Sends, Receives};
 ghost use Rattle.exercise_findings.specs.Tables.{IsPass, AreFound, AreFindings};
 
-use crate::answered::{Answered, none_answered, note_answer};
-use crate::behind::note_behind;
+use crate::answered::{Answered, no_answer_marks, note_answer};
+use crate::behind::note_change_key;
 use crate::cause::judge_told;
 use crate::change_number::{NO_CHANGE, change_number};
 use crate::column::put_number;
-use crate::earlier::{Looks, all_earlier, earlier_so_far, settle_source};
+use crate::earlier::{Looks, back_reference_so_far, back_references, settle_source};
 use crate::first_sends::{FirstSends, hash_all, no_sends, note_send};
-use crate::firsts::{LastBase, no_base};
-use crate::found::{find_received, find_sent};
-use crate::hint::Hint;
+use crate::firsts::{BaseCache, empty_base_cache};
+use crate::found::{receipt_findings, send_findings};
+use crate::hint::StridePredictor;
 use crate::number::{NO_ENTRY, entry_number};
 use crate::requests::{Requests, no_requests};
-use crate::rising::{Rising, none_risen};
-use crate::sender::{Places, places_of};
-use crate::senders::{Hints, Senders, no_hints};
-use crate::tables::{Tables, no_tables, note_key, note_tables};
+use crate::rising::{HighWaterMarks, no_high_water_marks};
+use crate::sender::{StationCache, places_of};
+use crate::senders::{SenderHints, Senders, no_hints};
+use crate::tables::{Tables, no_tables, note_entry_key, note_entry_tables};
 use dis_records::EntityState;
 use exercise_model::{Cause, EntryView, ExerciseLog};
 use std::alloc::{AllocError, Global};
@@ -36,14 +36,14 @@ const MANY: usize = 16;
 #[derive(Drop)]
 pub(crate) struct Pass {
     /// Cache of station indices by address.
-    pub places: Places,
+    pub places: StationCache,
     /// Look-up tables of the entries so far.
     pub tables: Tables,
     /// Predicted place of the request that the next answer takes up.
-    pub answers: Hint,
+    pub answers: StridePredictor,
     /// The last key of a send, with its hash base.
-    pub sent: LastBase,
-    pub received: LastBase,
+    pub sent: BaseCache,
+    pub received: BaseCache,
     /// The first cause that its station's log shows against each entry.
     pub causes: Vec<Option<Cause>>,
     /// For each entry, the number of the change that it makes at its station.
@@ -64,9 +64,9 @@ pub(crate) struct Pass {
 }
 
 /// Result of the pass.
-pub(crate) struct Passed {
+pub(crate) struct PassResult {
     /// Cache of station indices by address.
-    pub places: Places,
+    pub places: StationCache,
     /// Look-up tables of all entries.
     pub tables: Tables,
     /// The first cause that its station's log shows against each entry.
@@ -78,7 +78,7 @@ pub(crate) struct Passed {
     /// The first send of each datagram by its originating station, while sources are open.
     pub senders: Option<Senders>,
     /// Predicted places of sources.
-    pub hints: Hints,
+    pub hints: SenderHints,
     /// The entries that received an Able with a key for the change behind it.
     pub ables: Vec<u32>,
     /// Number of "other" datagrams.
@@ -86,9 +86,9 @@ pub(crate) struct Passed {
 }
 
 // Not derived, so that a caller that drops it makes one call instead of dropping each field inline.
-impl Drop for Passed {
+impl Drop for PassResult {
     fn drop(self) {
-        let Passed {
+        let PassResult {
             places: _places,
             tables: _tables,
             causes: _causes,
@@ -102,13 +102,13 @@ impl Drop for Passed {
     }
 }
 
-impl Passed {
+impl PassResult {
     /// The back-references and the number of "other" datagrams. All other memory is freed.
-    pub(crate) fn into_earlier(self) -> (Vec<u32>, u32)
+    pub(crate) fn into_back_references(self) -> (Vec<u32>, u32)
         ensures earlier { result.0 ≡ self.earlier }
         ensures others { result.1 ≡ self.others }
     {
-        let Passed {
+        let PassResult {
             places: _places,
             tables: _tables,
             causes: _causes,
@@ -124,21 +124,21 @@ impl Passed {
 }
 
 /// State before the first entry, with room for the causes of all entries.
-fn nothing_found<L: ExerciseLog>(alloc: Global, log: &L) -> Result<Pass, AllocError>
+fn empty_pass<L: ExerciseLog>(alloc: Global, log: &L) -> Result<Pass, AllocError>
     ensures { IfOk result (λ found. IsPass (L.recording log.now) 0 found) }
 {
     let entries = log.entry_count();
     let causes = Vec::with_capacity(alloc, entries)?;
     let tables = no_tables(alloc, log)?;
     let places = places_of(alloc, log)?;
-    let answers = Hint::new();
-    let answered = none_answered(alloc, log);
+    let answers = StridePredictor::new();
+    let answered = no_answer_marks(alloc, log);
     Ok(Pass {
         places,
         tables,
         answers,
-        sent: no_base(),
-        received: no_base(),
+        sent: empty_base_cache(),
+        received: empty_base_cache(),
         causes,
         changes: Vec::new(alloc),
         earlier: Vec::new(alloc),
@@ -163,7 +163,7 @@ fn one_if(so: bool) -> u32
 
 /// Whether a send is known to be new by its request identifier, its key, or the request that it
 /// takes up.
-fn is_known_new(identifier: bool, key: bool, request: bool) -> bool
+fn is_new_send(identifier: bool, key: bool, request: bool) -> bool
     ensures { result ≡ (identifier || (key || request)) }
 {
     identifier || key || request
@@ -173,7 +173,7 @@ fn is_known_new(identifier: bool, key: bool, request: bool) -> bool
 fn keep_sent<L: ExerciseLog>(
     found: &mut Pass,
     requests: &mut Requests,
-    rising: &mut Rising,
+    rising: &mut HighWaterMarks,
     log: &L,
     entry: usize,
     station: u16,
@@ -186,10 +186,10 @@ fn keep_sent<L: ExerciseLog>(
     requires sends { Sends (L.recording log.now) entry station bytes.now }
     requires found { IsPass (L.recording log.now) entry found.old }
     requires requests { AreRequests (L.recording log.now) entry requests.old }
-    requires rising { AreRising (L.recording log.now) entry rising.old }
+    requires rising { AreHighWaterMarks (L.recording log.now) entry rising.old }
     ensures found { OnOk result (IsPass (L.recording log.now) (entry + 1) found.new) }
     ensures requests { OnOk result (AreRequests (L.recording log.now) (entry + 1) requests.new) }
-    ensures rising { OnOk result (AreRising (L.recording log.now) (entry + 1) rising.new) }
+    ensures rising { OnOk result (AreHighWaterMarks (L.recording log.now) (entry + 1) rising.new) }
 {
     let Pass {
         tables,
@@ -197,7 +197,7 @@ fn keep_sent<L: ExerciseLog>(
         sent,
         ..
     } = found;
-    let here = find_sent(
+    let here = send_findings(
         log, tables, requests, rising, answers, sent, entry, station, bytes,
     )?;
     found.causes.push(here.cause)?;
@@ -212,9 +212,9 @@ fn keep_sent<L: ExerciseLog>(
     put_number(&mut found.earlier, NO_ENTRY, log.entry_count(), entry, pair)?;
     found.others += one_if(here.other);
     let (key, is_unasked) = (here.key, here.is_unasked);
-    let first = note_tables(&mut found.tables, log, entry, here.change, key, here.base)?;
+    let first = note_entry_tables(&mut found.tables, log, entry, here.change, key, here.base)?;
     let fresh = note_answer(&mut found.answered, log, entry, here.pair, is_unasked, key)?;
-    let is_new = is_known_new(here.is_new, first, fresh);
+    let is_new = is_new_send(here.is_new, first, fresh);
     note_send(&mut found.sends, log, entry, bytes, here.is_source, is_new)
 }
 
@@ -239,9 +239,9 @@ fn keep_received<L: ExerciseLog>(
         received,
         ..
     } = found;
-    let here = find_received(log, places, received, entry, station, bytes);
+    let here = receipt_findings(log, places, received, entry, station, bytes);
     found.causes.push(here.cause)?;
-    let earlier = earlier_so_far(&mut found.sends, &mut found.looks, log, entry, bytes)?;
+    let earlier = back_reference_so_far(&mut found.sends, &mut found.looks, log, entry, bytes)?;
     put_number(
         &mut found.earlier,
         NO_ENTRY,
@@ -250,8 +250,8 @@ fn keep_received<L: ExerciseLog>(
         earlier,
     )?;
     found.others += one_if(here.other);
-    note_behind(&mut found.ables, log, entry, here.behind)?;
-    note_key(&mut found.tables, log, entry, here.key, here.base)
+    note_change_key(&mut found.ables, log, entry, here.behind)?;
+    note_entry_key(&mut found.tables, log, entry, here.key, here.base)
 }
 
 /// Finds and stores the first cause against the next entry, by which a station tells a state.
@@ -279,7 +279,7 @@ fn keep_told<L: ExerciseLog>(
 fn find_entry<L: ExerciseLog>(
     found: &mut Pass,
     requests: &mut Requests,
-    rising: &mut Rising,
+    rising: &mut HighWaterMarks,
     log: &L,
     entry: usize,
 ) -> Result<(), AllocError>
@@ -287,10 +287,10 @@ fn find_entry<L: ExerciseLog>(
     requires within { entry < length (L.recording log.now).entries }
     requires found { IsPass (L.recording log.now) entry found.old }
     requires requests { AreRequests (L.recording log.now) entry requests.old }
-    requires rising { AreRising (L.recording log.now) entry rising.old }
+    requires rising { AreHighWaterMarks (L.recording log.now) entry rising.old }
     ensures found { OnOk result (IsPass (L.recording log.now) (entry + 1) found.new) }
     ensures requests { OnOk result (AreRequests (L.recording log.now) (entry + 1) requests.new) }
-    ensures rising { OnOk result (AreRising (L.recording log.now) (entry + 1) rising.new) }
+    ensures rising { OnOk result (AreHighWaterMarks (L.recording log.now) (entry + 1) rising.new) }
 {
     match log.entry(entry) {
         EntryView::Sent { station, bytes, .. } => {
@@ -312,9 +312,9 @@ fn pass_over<L: ExerciseLog>(alloc: Global, log: &L) -> Result<Pass, AllocError>
     ensures found { let r = L.recording log.now in IfOk result (IsPass r (length r.entries)) }
     ensures limits { OnOk result (IsRecording (L.recording log.now)) }
 {
-    let mut found = nothing_found(alloc, log)?;
+    let mut found = empty_pass(alloc, log)?;
     let mut requests = no_requests(alloc, log);
-    let mut rising = none_risen(alloc, log)?;
+    let mut rising = no_high_water_marks(alloc, log)?;
     for entry in 0..log.entry_count() {
         find_entry(&mut found, &mut requests, &mut rising, log, entry)?;
     }
@@ -322,7 +322,7 @@ fn pass_over<L: ExerciseLog>(alloc: Global, log: &L) -> Result<Pass, AllocError>
 }
 
 /// Result of a pass that found all sources; the index of first sends is freed.
-fn with_sources<L: ExerciseLog>(log: &L, pass: Pass, hints: Hints) -> Passed
+fn complete_result<L: ExerciseLog>(log: &L, pass: Pass, hints: SenderHints) -> PassResult
     requires pass { let r = L.recording log.now in IsPass r (length r.entries) pass }
     requires found { pass.looks.later ≡ 0 }
     ensures { AreFound (L.recording log.now) result }
@@ -337,7 +337,7 @@ fn with_sources<L: ExerciseLog>(log: &L, pass: Pass, hints: Hints) -> Passed
         others,
         ..
     } = pass;
-    Passed {
+    PassResult {
         places,
         tables,
         causes,
@@ -352,7 +352,7 @@ fn with_sources<L: ExerciseLog>(log: &L, pass: Pass, hints: Hints) -> Passed
 
 /// Result of a pass with few open sources: they are looked up now, and the index of first sends is
 /// freed.
-fn with_all_sources<L: ExerciseLog>(log: &L, pass: Pass, hints: Hints) -> Passed
+fn resolved_result<L: ExerciseLog>(log: &L, pass: Pass, hints: SenderHints) -> PassResult
     requires limits { IsRecording (L.recording log.now) }
     requires pass { let r = L.recording log.now in IsPass r (length r.entries) pass }
     requires senders { let r = L.recording log.now in AreSenders r (length r.entries) pass.sends.kept }
@@ -370,12 +370,12 @@ fn with_all_sources<L: ExerciseLog>(log: &L, pass: Pass, hints: Hints) -> Passed
         ..
     } = pass;
     let mut hints = hints;
-    Passed {
+    PassResult {
         places,
         tables,
         causes,
         changes,
-        earlier: all_earlier(&sends.kept, &mut hints, log, earlier),
+        earlier: back_references(&sends.kept, &mut hints, log, earlier),
         senders: None,
         hints,
         ables,
@@ -385,7 +385,7 @@ fn with_all_sources<L: ExerciseLog>(log: &L, pass: Pass, hints: Hints) -> Passed
 
 /// Result of a pass with many open sources: the index of first sends is retained for look-ups on
 /// demand.
-fn with_senders<L: ExerciseLog>(log: &L, pass: Pass, hints: Hints) -> Passed
+fn open_result<L: ExerciseLog>(log: &L, pass: Pass, hints: SenderHints) -> PassResult
     requires pass { let r = L.recording log.now in IsPass r (length r.entries) pass }
     requires senders { let r = L.recording log.now in AreSenders r (length r.entries) pass.sends.kept }
     ensures { AreFound (L.recording log.now) result }
@@ -401,7 +401,7 @@ fn with_senders<L: ExerciseLog>(log: &L, pass: Pass, hints: Hints) -> Passed
         others,
         ..
     } = pass;
-    Passed {
+    PassResult {
         places,
         tables,
         causes,
@@ -426,24 +426,24 @@ fn hash_sends<L: ExerciseLog>(pass: &mut Pass, log: &L) -> Result<(), AllocError
 /// Passes over all entries and returns the result. If all sources were found, or only few are open,
 /// which are then looked up at once, the memory of the index of first sends is freed. If many are
 /// open, each is found faster on demand, since callers mostly ask for it right after its send.
-pub(crate) fn find<L: ExerciseLog>(alloc: Global, log: &L) -> Result<Passed, AllocError>
+pub(crate) fn find<L: ExerciseLog>(alloc: Global, log: &L) -> Result<PassResult, AllocError>
     ensures { IfOk result (AreFindings (L.recording log.now)) }
 {
     let mut pass = pass_over(alloc, log)?;
     let hints = no_hints(alloc)?;
     if pass.looks.later == 0 {
-        return Ok(with_sources(log, pass, hints));
+        return Ok(complete_result(log, pass, hints));
     }
     hash_sends(&mut pass, log)?;
     if pass.looks.later > pass.looks.most {
-        Ok(with_senders(log, pass, hints))
+        Ok(open_result(log, pass, hints))
     } else {
-        Ok(with_all_sources(log, pass, hints))
+        Ok(resolved_result(log, pass, hints))
     }
 }
 
 /// Looks up the source of an entry if it is still open.
-pub(crate) fn settle<L: ExerciseLog>(found: &mut Passed, log: &L, entry: usize)
+pub(crate) fn settle<L: ExerciseLog>(found: &mut PassResult, log: &L, entry: usize)
     requires limits { IsRecording (L.recording log.now) }
     requires within { entry < length (L.recording log.now).entries }
     requires found { AreFound (L.recording log.now) found.old }

@@ -16,9 +16,9 @@ ghost use Rattle.exercise_findings.specs.Requests.{identifier_of, request_under,
 ghost use Rattle.exercise_findings.specs.Hashed.{identifier_fed, identifier_hash};
 ghost use Rattle.exercise_findings.specs.Decided.{identifier_decides};
 
-use crate::change::sent_by;
+use crate::change::pdu_sent;
 use crate::hashed::word;
-use crate::kept::{Kept, keep_behind, nothing_kept};
+use crate::kept::{Kept, append_entry, empty_table};
 use crate::slots::{Sought, find};
 use crate::table::{Table, keep_first};
 use exercise_model::{EntryView, ExerciseLog, meaning_again};
@@ -68,7 +68,7 @@ pub(crate) fn no_requests<L: ExerciseLog>(alloc: Global, log: &L) -> Requests
     ensures { AreRequests (L.recording log.now) 0 result }
 {
     Requests {
-        firsts: nothing_kept(alloc, log.entry_count()),
+        firsts: empty_table(alloc, log.entry_count()),
         mixed: Table::with_hasher(alloc, BuildHasherDefault::default()),
     }
 }
@@ -121,12 +121,12 @@ fn asks_at<L: ExerciseLog>(log: &L, identifier: &Identifier, entry: usize) -> bo
 
 /// Search for an entry that sends a request under an identifier.
 #[derive(Drop)]
-struct Asking<'a, L: ExerciseLog> {
+struct RequestSearch<'a, L: ExerciseLog> {
     log: &'a L,
     identifier: &'a Identifier,
 }
 
-impl<'a, L: ExerciseLog> Sought for Asking<'a, L> {
+impl<'a, L: ExerciseLog> Sought for RequestSearch<'a, L> {
     ghost is_sought = { λ s. asks_at (L.recording s.log.now) s.identifier.now };
 
     ghost is_known = { λ s. is_meant (L.recording s.log.now) };
@@ -149,7 +149,11 @@ fn first_request<L: ExerciseLog>(
     ensures { result ≡ first_request (L.recording log.now) identifier.now before }
 {
     let _before = before;
-    find(&requests.firsts.slots, hash, &Asking { log, identifier })
+    find(
+        &requests.firsts.slots,
+        hash,
+        &RequestSearch { log, identifier },
+    )
 }
 
 /// Whether a PDU is a different request from the PDU that a station sends at an entry, whose
@@ -158,7 +162,7 @@ fn differs<L: ExerciseLog>(log: &L, station: u16, entry: usize, pdu: &PduView<'_
     requires { is_meant (L.recording log.now) entry ≡ true }
     ensures { let r = L.recording log.now in result ≡ option_map_or (λ q. not (is_same_order (pdu_of pdu.now) q)) (option_and_then (meant_by_send r.setting.exercise) (own_event r station entry)) false }
 {
-    match sent_by(log, station, entry) {
+    match pdu_sent(log, station, entry) {
         Some(other) => !same_order(pdu, &other),
         None => false,
     }
@@ -229,7 +233,7 @@ fn note_under<L: ExerciseLog>(
             })
         }
         None => {
-            keep_behind(&mut requests.firsts, hash, entry as u32)?;
+            append_entry(&mut requests.firsts, hash, entry as u32)?;
             Ok(IdentifierUse {
                 reused: false,
                 first: true,

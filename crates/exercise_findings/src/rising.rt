@@ -6,7 +6,7 @@ ghost use Rattle.std.specs.Prelude.{◌≡◌, ◌<◌, ◌+◌, ◌*◌, ◌^�
 ghost use Rattle.siman_pdus.specs.Reading.{pdu_of};
 ghost use Rattle.exercise_findings.specs.FirstSends.{IsNewSend};
 ghost use Rattle.exercise_findings.specs.Requests.{IsSendOf};
-ghost use Rattle.exercise_findings.specs.Rising.{mark_of, AreRising};
+ghost use Rattle.exercise_findings.specs.HighWaterMarks.{mark_of, AreHighWaterMarks};
 
 use exercise_model::ExerciseLog;
 use siman_pdus::{PduView, request_id};
@@ -14,17 +14,20 @@ use std::alloc::{AllocError, Global};
 
 /// The highest mark that each station sent so far.
 #[derive(Drop)]
-pub(crate) struct Rising {
+pub(crate) struct HighWaterMarks {
     /// For each station; 0 if it sent nothing.
     pub tops: Vec<u64>,
 }
 
 /// The highest marks before the first entry: all 0.
 #[tactic(auto, using(crate::proofs::HigherMarks::none_rising))]
-pub(crate) fn none_risen<L: ExerciseLog>(alloc: Global, log: &L) -> Result<Rising, AllocError>
-    ensures { IfOk result (AreRising (L.recording log.now) 0) }
+pub(crate) fn no_high_water_marks<L: ExerciseLog>(
+    alloc: Global,
+    log: &L,
+) -> Result<HighWaterMarks, AllocError>
+    ensures { IfOk result (AreHighWaterMarks (L.recording log.now) 0) }
 {
-    Ok(Rising {
+    Ok(HighWaterMarks {
         tops: vec![in alloc; 0; log.station_count()]?,
     })
 }
@@ -63,8 +66,8 @@ fn rise(tops: &mut Vec<u64>, station: usize, mark: u64) -> bool
 
 /// Updates a station's highest mark with its next send. Returns whether the mark is above all
 /// earlier ones; the datagram is new then.
-pub(crate) fn note_rise<L: ExerciseLog>(
-    rising: &mut Rising,
+pub(crate) fn raise_mark<L: ExerciseLog>(
+    rising: &mut HighWaterMarks,
     log: &L,
     station: u16,
     entry: usize,
@@ -72,8 +75,8 @@ pub(crate) fn note_rise<L: ExerciseLog>(
 ) -> bool
     requires at { station < length (L.recording log.now).setting.stations }
     requires sends { IsSendOf (L.recording log.now) entry station (pdu_of pdu.now) }
-    requires tied { AreRising (L.recording log.now) entry rising.old }
-    ensures tied { AreRising (L.recording log.now) (entry + 1) rising.new }
+    requires tied { AreHighWaterMarks (L.recording log.now) entry rising.old }
+    ensures tied { AreHighWaterMarks (L.recording log.now) (entry + 1) rising.new }
     ensures new { result ≡ true → IsNewSend (L.recording log.now) entry }
 {
     let (_log, _entry) = (log, entry);

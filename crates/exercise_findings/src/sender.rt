@@ -11,7 +11,7 @@ use std::alloc::{AllocError, Global};
 
 /// Cache of station indices under a small hash of their addresses. It affects speed alone, never
 /// the result.
-pub(crate) type Places = Vec<u16>;
+pub(crate) type StationCache = Vec<u16>;
 
 /// Number of places in the cache.
 const PLACES: usize = 1024;
@@ -22,14 +22,17 @@ fn number_of(site: u16, application: u16) -> usize {
 }
 
 /// Stores a station's index at a place of the cache.
-fn keep_place(places: &mut Places, number: usize, station: u16) {
+fn keep_place(places: &mut StationCache, number: usize, station: u16) {
     if number < places.len() {
         places[number] = station;
     }
 }
 
 /// The cache, filled with the stations of a log.
-pub(crate) fn places_of<L: ExerciseLog>(alloc: Global, log: &L) -> Result<Places, AllocError> {
+pub(crate) fn places_of<L: ExerciseLog>(
+    alloc: Global,
+    log: &L,
+) -> Result<StationCache, AllocError> {
     let mut places = vec![in alloc; 0; PLACES]?;
     for station in 0..log.station_count() {
         let address = log.station(station).address();
@@ -40,7 +43,7 @@ pub(crate) fn places_of<L: ExerciseLog>(alloc: Global, log: &L) -> Result<Places
 }
 
 /// The recorded station that sent a PDU, if the cache holds it.
-fn sender_at_place<L: ExerciseLog>(log: &L, places: &Places, pdu: &PduView<'_>) -> Option<u16>
+fn sender_at_place<L: ExerciseLog>(log: &L, places: &StationCache, pdu: &PduView<'_>) -> Option<u16>
     ensures { IfSome result (λ station. sender_of (L.recording log.now) (pdu_of pdu.now) ≡ Some station) }
 {
     let origin = pdu.origin();
@@ -59,7 +62,11 @@ fn sender_at_place<L: ExerciseLog>(log: &L, places: &Places, pdu: &PduView<'_>) 
 }
 
 /// The recorded station that sent a PDU; the cache is tried first.
-pub(crate) fn sender_of<L: ExerciseLog>(log: &L, places: &Places, pdu: &PduView<'_>) -> Option<u16>
+pub(crate) fn sender_of<L: ExerciseLog>(
+    log: &L,
+    places: &StationCache,
+    pdu: &PduView<'_>,
+) -> Option<u16>
     ensures sender { result ≡ sender_of (L.recording log.now) (pdu_of pdu.now) }
     ensures recorded { is_some result ≡ is_recorded (L.recording log.now).setting (pdu_of pdu.now) }
 {

@@ -6,8 +6,8 @@ ghost use Rattle.exercise_findings.specs.Sent.{Sends};
 ghost use Rattle.exercise_findings.specs.Source.{source_at, first_source};
 ghost use Rattle.exercise_findings.specs.Senders.{sends_at, AreSenders};
 
-use crate::hint::Hint;
-use crate::kept::{Kept, kept_at, kept_place};
+use crate::hint::StridePredictor;
+use crate::kept::{Kept, kept_at, place_of_entry};
 use crate::slots::{Sought, find};
 use exercise_model::{EntryView, ExerciseLog};
 use std::alloc::{AllocError, Global};
@@ -80,7 +80,7 @@ pub(crate) fn first_source<L: ExerciseLog>(
 }
 
 /// The entry at a place of the order, if it sends these bytes.
-fn source_kept_at<L: ExerciseLog>(
+fn stored_source_at<L: ExerciseLog>(
     senders: &Senders,
     log: &L,
     place: usize,
@@ -92,14 +92,14 @@ fn source_kept_at<L: ExerciseLog>(
 }
 
 /// Predictors, one for each small hash of a sender's address.
-pub(crate) type Hints = Vec<Hint>;
+pub(crate) type SenderHints = Vec<StridePredictor>;
 
 /// Number of predictors.
 const HINTS: usize = 256;
 
 /// Predictors without hits.
-pub(crate) fn no_hints(alloc: Global) -> Result<Hints, AllocError> {
-    vec![in alloc; Hint::new(); HINTS]
+pub(crate) fn no_hints(alloc: Global) -> Result<SenderHints, AllocError> {
+    vec![in alloc; StridePredictor::new(); HINTS]
 }
 
 /// The predictor for a datagram, from the sender's address in its bytes (the low bytes of site and
@@ -114,7 +114,7 @@ fn hint_of(datagram: &[u8]) -> usize {
 }
 
 /// The place that a predictor predicts; 0 if there is no such predictor.
-fn place_of(hints: &Hints, number: usize) -> usize {
+fn place_of(hints: &SenderHints, number: usize) -> usize {
     match hints.get(number) {
         Some(hint) => hint.next(),
         None => 0,
@@ -122,7 +122,7 @@ fn place_of(hints: &Hints, number: usize) -> usize {
 }
 
 /// Records a hit of a predictor at a place.
-fn keep_hint(hints: &mut Hints, number: usize, place: usize) {
+fn keep_hint(hints: &mut SenderHints, number: usize, place: usize) {
     if number < hints.len() {
         hints[number].found(place);
     }
@@ -132,7 +132,7 @@ fn keep_hint(hints: &mut Hints, number: usize, place: usize) {
 /// sender's datagrams, or a regular share of them, in the order in which they were sent.
 pub(crate) fn next_source<L: ExerciseLog>(
     senders: &Senders,
-    hints: &mut Hints,
+    hints: &mut SenderHints,
     log: &L,
     datagram: &[u8],
 ) -> Option<u32>
@@ -140,13 +140,13 @@ pub(crate) fn next_source<L: ExerciseLog>(
 {
     let hint = hint_of(datagram);
     let place = place_of(hints, hint);
-    if let Some(source) = source_kept_at(senders, log, place, datagram) {
+    if let Some(source) = stored_source_at(senders, log, place, datagram) {
         keep_hint(hints, hint, place);
         return Some(source);
     }
     let Some(source) = first_source(senders, log, datagram) else {
         return None;
     };
-    keep_hint(hints, hint, kept_place(senders, source));
+    keep_hint(hints, hint, place_of_entry(senders, source));
     Some(source)
 }

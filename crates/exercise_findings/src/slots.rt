@@ -3,7 +3,7 @@
 //! read from the log.
 
 ghost use Rattle.std.specs.Prelude.{◌≡◌, ◌≢◌, ◌<◌, ◌⊎◌, ℕ, Bool, false, true, length, IfSome, IfNone, IfOk, OnOk};
-ghost use Rattle.exercise_findings.specs.Slots.{home, slot_behind, IsFirstFree, IsReached, IsPut, Stands};
+ghost use Rattle.exercise_findings.specs.Slots.{home, slot_behind, IsFirstFree, IsReached, IsPut, HasSlot};
 
 use crate::number::NO_ENTRY;
 use crate::tagged::{Look, TaggedSlots};
@@ -91,8 +91,8 @@ fn slot_behind(place: usize, count: usize) -> usize
 
 /// The sought entry under a hash.
 pub(crate) fn find<S: Sought>(slots: &Slots, hash: u32, sought: &S) -> Option<u32>
-    requires { (e : ℕ) → Stands slots.now.slots e → S.is_known sought.now e ≡ true }
-    ensures found { IfSome result (λ e. Stands slots.now.slots e × (S.is_sought sought.now e ≡ true)) }
+    requires { (e : ℕ) → HasSlot slots.now.slots e → S.is_known sought.now e ≡ true }
+    ensures found { IfSome result (λ e. HasSlot slots.now.slots e × (S.is_sought sought.now e ≡ true)) }
     ensures absent { IfNone result ((e : ℕ) → IsReached slots.now.slots hash e → S.is_sought sought.now e ≡ false) }
 {
     let count = slots.slots.count();
@@ -139,7 +139,7 @@ fn put(slots: &mut TaggedSlots, hash: u32, entry: u32) -> Result<(), AllocError>
     requires some { entry ≢ 4294967295 }
     ensures reached { OnOk result (IsReached slots.new hash entry) }
     ensures kept { OnOk result ((h e : ℕ) → IsReached slots.old h e → IsReached slots.new h e) }
-    ensures only { OnOk result ((e : ℕ) → Stands slots.new e → Stands slots.old e ⊎ (e ≡ entry)) }
+    ensures only { OnOk result ((e : ℕ) → HasSlot slots.new e → HasSlot slots.old e ⊎ (e ≡ entry)) }
 {
     match first_free(slots, hash) {
         Some(place) => {
@@ -154,7 +154,7 @@ fn put(slots: &mut TaggedSlots, hash: u32, entry: u32) -> Result<(), AllocError>
 fn put_slot(slots: &mut TaggedSlots, slot: Slot) -> Result<(), AllocError>
     ensures reached { OnOk result (slot.entry ≢ 4294967295 → IsReached slots.new slot.hash slot.entry) }
     ensures kept { OnOk result ((h e : ℕ) → IsReached slots.old h e → IsReached slots.new h e) }
-    ensures only { OnOk result ((e : ℕ) → Stands slots.new e → Stands slots.old e ⊎ ((e ≡ slot.entry) × (e ≢ 4294967295))) }
+    ensures only { OnOk result ((e : ℕ) → HasSlot slots.new e → HasSlot slots.old e ⊎ ((e ≡ slot.entry) × (e ≢ 4294967295))) }
 {
     if slot.entry == NO_ENTRY {
         Ok(())
@@ -166,7 +166,7 @@ fn put_slot(slots: &mut TaggedSlots, slot: Slot) -> Result<(), AllocError>
 /// A new array of `count` slots with all entries of another.
 fn spread(alloc: Global, from: &TaggedSlots, count: usize) -> Result<TaggedSlots, AllocError>
     ensures kept { IfOk result (λ to. (h e : ℕ) → IsReached from.now h e → IsReached to h e) }
-    ensures only { IfOk result (λ to. (e : ℕ) → Stands to e → Stands from.now e) }
+    ensures only { IfOk result (λ to. (e : ℕ) → HasSlot to e → HasSlot from.now e) }
 {
     let mut to = TaggedSlots::free(alloc, count)?;
     for place in 0..from.count() {
@@ -178,7 +178,7 @@ fn spread(alloc: Global, from: &TaggedSlots, count: usize) -> Result<TaggedSlots
 /// Doubles the slots if at most a quarter are free.
 fn make_room(slots: &mut Slots) -> Result<(), AllocError>
     ensures kept { OnOk result ((h e : ℕ) → IsReached slots.old.slots h e → IsReached slots.new.slots h e) }
-    ensures only { OnOk result ((e : ℕ) → Stands slots.new.slots e → Stands slots.old.slots e) }
+    ensures only { OnOk result ((e : ℕ) → HasSlot slots.new.slots e → HasSlot slots.old.slots e) }
 {
     let count = slots.slots.count();
     if slots.used < count - count / 4 {

@@ -9,10 +9,10 @@ ghost use Rattle.exercise_model.specs.State.{change_by, state_after, present_bel
 ghost use Rattle.exercise_model.specs.Place.{log_before};
 ghost use Rattle.exercise_model.specs.Account.{entities_of};
 ghost use Rattle.exercise_findings.specs.TakenUp.{request_of_sent};
-ghost use Rattle.exercise_findings.specs.States.{has_page, known_in};
-ghost use Rattle.exercise_findings.specs.Tables.{AreTied};
+ghost use Rattle.exercise_findings.specs.States.{has_page, state_or_absent};
+ghost use Rattle.exercise_findings.specs.Tables.{AreTablesBelow};
 
-use crate::states::{Held, PAGE, PAGES, States, known_in};
+use crate::states::{PAGE, PAGES, SingleState, States, state_or_absent};
 use crate::tables::Tables;
 use dis_records::EntityState;
 use exercise_model::{Change, ExerciseLog};
@@ -52,10 +52,10 @@ pub(crate) fn state_before<L: ExerciseLog>(
 ) -> EntityState
     requires at { station < length (L.recording log.now).setting.stations }
     requires within { before ≤ length (L.recording log.now).entries }
-    requires tied { AreTied (L.recording log.now) before tables.now }
+    requires tied { AreTablesBelow (L.recording log.now) before tables.now }
     ensures { let r = L.recording log.now in result ≡ state_after r.setting.exercise (station_at r station) (log_before r station before) entity }
 {
-    known_in(&tables.states[usize::from(station)], entity)
+    state_or_absent(&tables.states[usize::from(station)], entity)
 }
 
 /// Appends an entity with its state if it is not Absent.
@@ -73,7 +73,7 @@ fn push_present(
 }
 
 /// Whether a page holds states of single entities.
-fn has_page(pages: &[Vec<Held>], page: u16) -> bool
+fn has_page(pages: &[Vec<SingleState>], page: u16) -> bool
     ensures { result ≡ has_page pages.now page }
 {
     let page = usize::from(page);
@@ -87,22 +87,22 @@ fn push_page(
     page: u16,
 ) -> Result<(), AllocError>
     requires page { page < 256 }
-    requires so_far { entities.old.items ≡ present_below (known_in states.now) (page * 256) }
-    ensures { OnOk result (entities.new.items ≡ present_below (known_in states.now) ((page + 1) * 256)) }
+    requires so_far { entities.old.items ≡ present_below (state_or_absent states.now) (page * 256) }
+    ensures { OnOk result (entities.new.items ≡ present_below (state_or_absent states.now) ((page + 1) * 256)) }
 {
     if states.rest == EntityState::Absent && !has_page(&states.pages, page) {
         return Ok(());
     }
     for place in 0..PAGE {
         let entity = page * PAGE + place;
-        push_present(entities, entity, known_in(states, entity))?;
+        push_present(entities, entity, state_or_absent(states, entity))?;
     }
     Ok(())
 }
 
 /// The entities that are not Absent, by rising numbers.
 fn present(alloc: Global, states: &States) -> Result<Vec<(u16, EntityState)>, AllocError>
-    ensures { IfOk result (λ entities. entities.items ≡ present_below (known_in states.now) 65536) }
+    ensures { IfOk result (λ entities. entities.items ≡ present_below (state_or_absent states.now) 65536) }
 {
     let mut entities = Vec::new(alloc);
     for page in 0..PAGES {
@@ -119,7 +119,7 @@ pub(crate) fn entities<L: ExerciseLog>(
     station: usize,
 ) -> Result<Vec<(u16, EntityState)>, AllocError>
     requires at { station < length (L.recording log.now).setting.stations }
-    requires tied { let r = L.recording log.now in AreTied r (length r.entries) tables.now }
+    requires tied { let r = L.recording log.now in AreTablesBelow r (length r.entries) tables.now }
     ensures { let r = L.recording log.now in IfOk result (λ entities. entities.items ≡ entities_of r station) }
 {
     present(alloc, &tables.states[station])

@@ -6,7 +6,7 @@ ghost use Rattle.std.specs.Prelude.{◌≡◌, ◌<◌, ◌+◌, ℕ, ◌==◌, 
 ghost use Rattle.dis_records.specs.declared.entity_state.EntityState.TheVariants.{Absent};
 ghost use Rattle.exercise_model.specs.Station.{is_absent, listed_state};
 ghost use Rattle.exercise_model.specs.State.{state_made, changed};
-ghost use Rattle.exercise_findings.specs.States.{held_at, state_in, known_in, AreUpTo, IsPut, AreStates};
+ghost use Rattle.exercise_findings.specs.States.{held_at, state_in, state_or_absent, AreUpTo, IsPut, AreStates};
 ghost use Rattle.exercise_model.specs.Account.{change_at};
 
 use dis_records::{EntityState, Kind, Scope};
@@ -21,7 +21,7 @@ pub(crate) const PAGES: u16 = 256;
 
 /// The state of an entity that was set singly.
 #[derive(Clone, Copy)]
-pub(crate) struct Held {
+pub(crate) struct SingleState {
     pub state: EntityState,
     /// Number of the change that set it.
     pub since: u32,
@@ -33,7 +33,7 @@ pub(crate) struct Held {
 pub(crate) struct States {
     alloc: Global,
     /// States set singly: entity `e` is at place `e % 256` of page `e / 256`.
-    pub pages: Vec<Vec<Held>>,
+    pub pages: Vec<Vec<SingleState>>,
     /// The state of every entity that was not set singly since `alike`.
     pub rest: EntityState,
     /// Number of the last change that set all entities to one state: a Create or Remove of all.
@@ -61,7 +61,7 @@ fn no_entities(alloc: Global) -> States
 }
 
 /// The state of an entity that was set singly, or `None`.
-fn held_at(states: &States, entity: u16) -> Option<Held>
+fn held_at(states: &States, entity: u16) -> Option<SingleState>
     ensures { result ≡ held_at states.now.pages.items entity }
 {
     let page = usize::from(entity / PAGE);
@@ -92,8 +92,8 @@ pub(crate) fn state_in(states: &States, entity: u16) -> EntityState
 }
 
 /// The state under an entity number; Absent if no entity can have that number.
-pub(crate) fn known_in(states: &States, entity: u16) -> EntityState
-    ensures { result ≡ known_in states.now entity }
+pub(crate) fn state_or_absent(states: &States, entity: u16) -> EntityState
+    ensures { result ≡ state_or_absent states.now entity }
 {
     if is_entity(entity) {
         state_in(states, entity)
@@ -103,7 +103,11 @@ pub(crate) fn known_in(states: &States, entity: u16) -> EntityState
 }
 
 /// Adds empty pages up to and including this one.
-fn reach_page(pages: &mut Vec<Vec<Held>>, alloc: Global, page: usize) -> Result<(), AllocError>
+fn reach_page(
+    pages: &mut Vec<Vec<SingleState>>,
+    alloc: Global,
+    page: usize,
+) -> Result<(), AllocError>
     requires { page < 256 }
     ensures held { (e : ℕ) → held_at pages.new.items e ≡ held_at pages.old.items e }
     ensures within { OnOk result (page < length pages.new.items) }
@@ -115,7 +119,12 @@ fn reach_page(pages: &mut Vec<Vec<Held>>, alloc: Global, page: usize) -> Result<
 }
 
 /// Sets a place of a page, filling new places before it with `filler`.
-fn put_at(page: &mut Vec<Held>, filler: Held, place: usize, held: Held) -> Result<(), AllocError>
+fn put_at(
+    page: &mut Vec<SingleState>,
+    filler: SingleState,
+    place: usize,
+    held: SingleState,
+) -> Result<(), AllocError>
     requires { place < 256 }
     ensures { OnOk result (IsPut filler place held page.old.items page.new.items) }
 {
@@ -134,11 +143,11 @@ fn hold(states: &mut States, entity: u16, state: EntityState, number: u32) -> Re
 {
     let page = usize::from(entity / PAGE);
     let place = usize::from(entity % PAGE);
-    let filler = Held {
+    let filler = SingleState {
         state: states.rest,
         since: number,
     };
-    let held = Held {
+    let held = SingleState {
         state,
         since: number,
     };
@@ -147,7 +156,7 @@ fn hold(states: &mut States, entity: u16, state: EntityState, number: u32) -> Re
 }
 
 /// Sets all entities to one state, by the change of this entry.
-fn make_alike(states: &mut States, state: EntityState, entry: u32)
+fn set_all(states: &mut States, state: EntityState, entry: u32)
     requires few { entry < 4294967295 }
     requires up_to { AreUpTo entry states.old }
     ensures up_to { AreUpTo (entry + 1) states.new }
@@ -168,7 +177,7 @@ fn moved(before: EntityState, state: EntityState) -> EntityState
 }
 
 /// Sets all present entities to one state, by the change of this entry.
-fn move_all(states: &mut States, state: EntityState, entry: u32)
+fn set_all_present(states: &mut States, state: EntityState, entry: u32)
     requires few { entry < 4294967295 }
     requires there { is_absent state ≡ false }
     requires up_to { AreUpTo entry states.old }
@@ -188,10 +197,10 @@ fn change_all(states: &mut States, kind: Kind, entry: u32)
     ensures states { (e : ℕ) → state_in states.new e ≡ state_made kind (state_in states.old e) }
 {
     match kind {
-        Kind::CreateEntity => make_alike(states, EntityState::Stopped, entry),
-        Kind::RemoveEntity => make_alike(states, EntityState::Absent, entry),
-        Kind::StartResume => move_all(states, EntityState::Running, entry),
-        Kind::StopFreeze => move_all(states, EntityState::Stopped, entry),
+        Kind::CreateEntity => set_all(states, EntityState::Stopped, entry),
+        Kind::RemoveEntity => set_all(states, EntityState::Absent, entry),
+        Kind::StartResume => set_all_present(states, EntityState::Running, entry),
+        Kind::StopFreeze => set_all_present(states, EntityState::Stopped, entry),
         _ => {}
     }
 }

@@ -4,10 +4,10 @@ ghost use Rattle.std.specs.Prelude.{◌≡◌, ◌<◌, ◌+◌, length, None, t
 ghost use Rattle.exercise_model.specs.Account.{change_at};
 ghost use Rattle.exercise_findings.specs.Firsts.{key_at, IsBased};
 ghost use Rattle.exercise_findings.specs.FirstSends.{IsNewSend};
-ghost use Rattle.exercise_findings.specs.Tables.{AreTied};
+ghost use Rattle.exercise_findings.specs.Tables.{AreTablesBelow};
 
 use crate::firsts::{Firsts, note_entry};
-use crate::kept::nothing_kept;
+use crate::kept::empty_table;
 use crate::key::Key;
 use crate::states::{States, no_changes, note_change};
 use exercise_model::{Change, ExerciseLog};
@@ -33,11 +33,11 @@ impl Drop for Tables {
 
 /// The tables before the first entry.
 pub(crate) fn no_tables<L: ExerciseLog>(alloc: Global, log: &L) -> Result<Tables, AllocError>
-    ensures { IfOk result (λ tables. AreTied (L.recording log.now) 0 tables) }
+    ensures { IfOk result (λ tables. AreTablesBelow (L.recording log.now) 0 tables) }
 {
     let states = no_changes(alloc, log)?;
     Ok(Tables {
-        firsts: nothing_kept(alloc, log.entry_count()),
+        firsts: empty_table(alloc, log.entry_count()),
         states,
     })
 }
@@ -45,7 +45,7 @@ pub(crate) fn no_tables<L: ExerciseLog>(alloc: Global, log: &L) -> Result<Tables
 /// Adds the next entry of a log, with its change, its key and the key's hash base. Returns whether
 /// it is the first under its key; a send is a new datagram then.
 #[tactic(auto, using(crate::proofs::FirstSends::new_key))]
-pub(crate) fn note_tables<L: ExerciseLog>(
+pub(crate) fn note_entry_tables<L: ExerciseLog>(
     tables: &mut Tables,
     log: &L,
     entry: usize,
@@ -55,11 +55,11 @@ pub(crate) fn note_tables<L: ExerciseLog>(
 ) -> Result<bool, AllocError>
     requires few { entry < 4294967295 }
     requires within { entry < length (L.recording log.now).entries }
-    requires tied { AreTied (L.recording log.now) entry tables.old }
+    requires tied { AreTablesBelow (L.recording log.now) entry tables.old }
     requires change { change ≡ change_at (L.recording log.now) entry }
     requires key { key ≡ key_at (L.recording log.now) entry }
     requires base { IsBased (L.recording log.now) entry base }
-    ensures tied { OnOk result (AreTied (L.recording log.now) (entry + 1) tables.new) }
+    ensures tied { OnOk result (AreTablesBelow (L.recording log.now) (entry + 1) tables.new) }
     ensures new { IfOk result (λ new. new ≡ true → IsNewSend (L.recording log.now) entry) }
 {
     note_change(&mut tables.states, log, change, entry)?;
@@ -67,7 +67,7 @@ pub(crate) fn note_tables<L: ExerciseLog>(
 }
 
 /// Adds the next entry of a log, which makes no change, with its key and the key's hash base.
-pub(crate) fn note_key<L: ExerciseLog>(
+pub(crate) fn note_entry_key<L: ExerciseLog>(
     tables: &mut Tables,
     log: &L,
     entry: usize,
@@ -76,11 +76,11 @@ pub(crate) fn note_key<L: ExerciseLog>(
 ) -> Result<(), AllocError>
     requires few { entry < 4294967295 }
     requires within { entry < length (L.recording log.now).entries }
-    requires tied { AreTied (L.recording log.now) entry tables.old }
+    requires tied { AreTablesBelow (L.recording log.now) entry tables.old }
     requires change { change_at (L.recording log.now) entry ≡ None }
     requires key { key ≡ key_at (L.recording log.now) entry }
     requires base { IsBased (L.recording log.now) entry base }
-    ensures { OnOk result (AreTied (L.recording log.now) (entry + 1) tables.new) }
+    ensures { OnOk result (AreTablesBelow (L.recording log.now) (entry + 1) tables.new) }
 {
     note_entry(&mut tables.firsts, log, entry, key, base)?;
     Ok(())

@@ -7,11 +7,11 @@ use Rattle.exercise_model.specs.Exchange.{request_taken_up}
 use Rattle.exercise_model.specs.Change.{is_change}
 use Rattle.exercise_model.specs.State.{state_after}
 use Rattle.exercise_model.specs.Place.{log_before}
-use Rattle.exercise_model.specs.Run.{Explains, StandsFor, Contains}
+use Rattle.exercise_model.specs.Run.{Explains, Represents, Contains}
 use Rattle.exercise_model.proofs.Beginnings.{same_beginnings, log_before-beginning, log_at-append}
 
 -- what happened at the station before an event is what stands before its entry
-pub same_logs : (r : PlainRecording) (h before : History) (v : Event) (i : ℕ) → Explains r h → Contains h before v → StandsFor r i before v
+pub same_logs : (r : PlainRecording) (h before : History) (v : Event) (i : ℕ) → Explains r h → Contains h before v → Represents r i before v
     → log_at (station_of v) before ≡ log_before r (station_of v) i
 same_logs r h before v i explains within stands =
     let s : ℕ = station_of v in
@@ -19,14 +19,14 @@ same_logs r h before v i explains within stands =
     sym (log_at-append s (within.0 ++ v ∷ []) before) ∙ ap (log_at s) (append_assoc within.0 (v ∷ []) before ∙ within.1) ∙ explains.logs s in
     same_beginnings _ _ (log_of r s) (log_at s (within.0 ++ v ∷ []), parts) (log_before-beginning r s i) stands.place
 
-pub same_requests : (r : PlainRecording) (h before : History) (v : Event) (i : ℕ) → Explains r h → Contains h before v → StandsFor r i before v
+pub same_requests : (r : PlainRecording) (h before : History) (v : Event) (i : ℕ) → Explains r h → Contains h before v → Represents r i before v
     → (p : Pdu)
     → request_taken_up r.setting.exercise (station_at r (station_of v)).address p (log_at (station_of v) before) ≡ request_taken_up r.setting.exercise
     (station_at r (station_of v)).address p (log_before r (station_of v) i)
 same_requests r h before v i explains within stands p =
     ap (request_taken_up r.setting.exercise (station_at r (station_of v)).address p) (same_logs r h before v i explains within stands)
 
-pub same_changes : (r : PlainRecording) (h before : History) (v : Event) (i : ℕ) → Explains r h → Contains h before v → StandsFor r i before v
+pub same_changes : (r : PlainRecording) (h before : History) (v : Event) (i : ℕ) → Explains r h → Contains h before v → Represents r i before v
     → (p : Pdu) → is_change r.setting.exercise p (log_at (station_of v) before) ≡ is_change r.setting.exercise p (log_before r (station_of v) i)
 same_changes r h before v i explains within stands p = ap (is_change r.setting.exercise p) (same_logs r h before v i explains within stands)
 

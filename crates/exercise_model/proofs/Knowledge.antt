@@ -15,7 +15,7 @@ use Rattle.exercise_model.specs.History.{Event, Send, Get, History, event_of, st
 use Rattle.exercise_model.specs.Meaning.{meaning}
 use Rattle.exercise_model.specs.Change.{able, responds, key_of, same_key, responds_under, sends_under, was_acknowledged, is_change}
 use Rattle.exercise_model.specs.Place.{event_at, own_event, log_before}
-use Rattle.exercise_model.specs.Run.{Explains, IsBeginning, StandsFor, Contains}
+use Rattle.exercise_model.specs.Run.{Explains, IsBeginning, Represents, Contains}
 use Rattle.exercise_model.specs.Account.{change_under, change_behind_pdu, change_behind}
 use Rattle.exercise_model.specs.Pairing.{IsChangeBehind, ReceivesAble}
 use Rattle.exercise_model.specs.Headline.{HadRequest}
@@ -230,7 +230,7 @@ of_first r h before p j explains behind within =
 
 -- WHAT IS KNOWN OF THE CHANGE BEHIND AN ABLE
 pub change_known : (r : PlainRecording) (h before : History) (s : ℕ) (b : List ℕ) (p : Pdu) (i j : ℕ) → IsRecording r → Explains r h
-    → Contains h before (Get s b) → StandsFor r i before (Get s b) → meaning r.setting.exercise b ≡ Some p → change_behind r i ≡ Some j
+    → Contains h before (Get s b) → Represents r i before (Get s b) → meaning r.setting.exercise b ≡ Some p → change_behind r i ≡ Some j
     → IsKnown r h before p j
 change_known r h before s b p i j limits explains got stands meant change =
     let x = r.setting.exercise in
@@ -253,7 +253,7 @@ change_known r h before s b p i j limits explains got stands meant change =
 
 -- EACH ABLE RECEIVED FROM A RECORDED STATION HAS ONE THAT IS KNOWN
 pub able_known : (r : PlainRecording) (h before : History) (s : ℕ) (b : List ℕ) (p : Pdu) (i : ℕ) → IsRecording r → Explains r h
-    → Contains h before (Get s b) → StandsFor r i before (Get s b) → meaning r.setting.exercise b ≡ Some p
+    → Contains h before (Get s b) → Represents r i before (Get s b) → meaning r.setting.exercise b ≡ Some p
     → responds able p ≡ true → is_recorded r.setting p ≡ true → (j : ℕ) × (change_behind r i ≡ Some j) × IsKnown r h before p j
 able_known r h before s b p i limits explains got stands meant is_able recorded =
     let found = able_changed r h before s b p i limits explains got stands meant is_able recorded in

@@ -5,7 +5,7 @@ use Rattle.exercise_model.specs.Recording.{PlainRecording}
 use Rattle.exercise_model.specs.History.{Event, Send, History, station_of, log_at, station_at}
 use Rattle.exercise_model.specs.State.{entities_after}
 use Rattle.exercise_model.specs.Place.{own_event, log_before}
-use Rattle.exercise_model.specs.Run.{Explains, IsBeginning, StandsFor, Contains}
+use Rattle.exercise_model.specs.Run.{Explains, IsBeginning, Represents, Contains}
 use Rattle.exercise_model.specs.Account.{pair_of}
 use Rattle.exercise_model.specs.Pairing.{SendsAnswer}
 use Rattle.exercise_model.specs.Alike.{HasPlace, IsPairIn, IsAsSaid}
@@ -26,7 +26,7 @@ did_more c d v within =
     omega (arith, size, own)
 
 -- so an entry has one place
-one_place : (r : PlainRecording) (h c d : History) (i : ℕ) (v : Event) → Contains h c v → StandsFor r i c v → Contains h d v → StandsFor r i d v → c ≡ d
+one_place : (r : PlainRecording) (h c d : History) (i : ℕ) (v : Event) → Contains h c v → Represents r i c v → Contains h d v → Represents r i d v → c ≡ d
 one_place r h c d i v one here other there =
     ⊎_elim (λ before. absurd (let more = did_more c d v before in omega (arith, more, here.place, there.place)))
     (λ rest. ⊎_elim (λ same. same.0) (λ behind. absurd (let more = did_more d c v behind in omega (arith, more, here.place, there.place))) rest)

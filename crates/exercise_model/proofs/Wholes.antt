@@ -19,7 +19,7 @@ use Rattle.exercise_model.specs.Meaning.{meaning}
 use Rattle.exercise_model.specs.Exchange.{is_answer_body, request_taken_up}
 use Rattle.exercise_model.specs.Change.{able, responds, key_in, key_of, response_of, same_key, responds_under, sends_under, was_acknowledged}
 use Rattle.exercise_model.specs.Place.{log_before, first_below, entry_taken_up}
-use Rattle.exercise_model.specs.Run.{Explains, StandsFor, Contains}
+use Rattle.exercise_model.specs.Run.{Explains, Represents, Contains}
 use Rattle.exercise_model.specs.Account.{pair_of_sent, pair_of_entry, pair_of, sender_of, sends_able, first_able, change_under, change_behind_pdu, change_behind_entry, change_behind}
 use Rattle.exercise_model.specs.Pairing.{IsTakenUp, IsChangeBehind, SendsAnswer, ReceivesAble}
 use Rattle.exercise_model.proofs.Changes.{log_before-all}
@@ -43,7 +43,7 @@ taken_entry r before s i p q logs taken =
 
 -- EVERY ANSWER HAS A PAIR
 pub answer_paired : (r : PlainRecording) (h before : History) (s : ℕ) (b : List ℕ) (p : Pdu) (i : ℕ) → Explains r h → Contains h before (Send s b)
-    → StandsFor r i before (Send s b) → meaning r.setting.exercise b ≡ Some p → is_answer_body p.body ≡ true
+    → Represents r i before (Send s b) → meaning r.setting.exercise b ≡ Some p → is_answer_body p.body ≡ true
     → (j : ℕ) × (pair_of r i ≡ Some j) × IsTakenUp r before s p j
 answer_paired r h before s b p i explains within stands meant answer =
     let had = had_request r h before s b p explains within meant answer in
@@ -163,7 +163,7 @@ contains_on h before earlier v w one other =
 
 -- EVERY ABLE RECEIVED FROM A RECORDED STATION HAS A CHANGE BEHIND IT
 pub able_changed : (r : PlainRecording) (h before : History) (s : ℕ) (b : List ℕ) (p : Pdu) (i : ℕ) → IsRecording r → Explains r h
-    → Contains h before (Get s b) → StandsFor r i before (Get s b) → meaning r.setting.exercise b ≡ Some p
+    → Contains h before (Get s b) → Represents r i before (Get s b) → meaning r.setting.exercise b ≡ Some p
     → responds able p ≡ true → is_recorded r.setting p ≡ true → (j : ℕ) × (change_behind r i ≡ Some j) × IsChangeBehind r h p j
 able_changed r h before s b p i limits explains within stands meant is_able known =
     let x = r.setting.exercise in

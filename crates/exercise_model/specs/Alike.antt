@@ -4,7 +4,7 @@ use Rattle.exercise_model.specs.Recording.{PlainRecording}
 use Rattle.exercise_model.specs.History.{Event, Send, History, station_of, log_at, station_at}
 use Rattle.exercise_model.specs.State.{entities_after}
 use Rattle.exercise_model.specs.Place.{log_before, own_event}
-use Rattle.exercise_model.specs.Run.{Explains, Contains, StandsFor}
+use Rattle.exercise_model.specs.Run.{Explains, Contains, Represents}
 use Rattle.exercise_model.specs.Account.{pair_of, entities_of}
 use Rattle.exercise_model.specs.Pairing.{IsTakenUp, SendsAnswer}
 
@@ -13,9 +13,9 @@ use Rattle.exercise_model.specs.Pairing.{IsTakenUp, SendsAnswer}
 pub record HasPlace (r : PlainRecording) (h : History) (i : ℕ) (v : Event) : Type 0 where
   pub before : History
   pub within : Contains h before v
-  pub stands : StandsFor r i before v
+  pub stands : Represents r i before v
   pub log : log_at (station_of v) before ≡ log_before r (station_of v) i
-  pub only : (place : History) → Contains h place v → StandsFor r i place v → place ≡ before
+  pub only : (place : History) → Contains h place v → Represents r i place v → place ≡ before
 
 -- entry i sends an answer, which has its place in the history h, and entry j is the request that it takes up there
 pub record IsPairIn (r : PlainRecording) (h : History) (i j : ℕ) : Type 0 where

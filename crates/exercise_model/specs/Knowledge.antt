@@ -15,7 +15,7 @@ use Rattle.exercise_model.specs.Change.{key_of, is_change}
 use Rattle.exercise_model.specs.State.{state_made, scope_has, change_of, state_after}
 use Rattle.exercise_model.specs.Cause.{is_hopeless}
 use Rattle.exercise_model.specs.Place.{log_before}
-use Rattle.exercise_model.specs.Run.{Contains, StandsFor}
+use Rattle.exercise_model.specs.Run.{Contains, Represents}
 use Rattle.exercise_model.specs.Account.{sender_of, change_behind}
 use Rattle.exercise_model.specs.Headline.{HadRequest}
 use Rattle.exercise_model.specs.Pairing.{ReceivesAble}
@@ -77,7 +77,7 @@ pub record IsKnown (r : PlainRecording) (h before : History) (p : Pdu) (j : ℕ)
   pub bytes : List ℕ
   pub acknowledge : Pdu
   pub made : MakesChange r before station key earlier bytes acknowledge
-  pub stands : StandsFor r j earlier (Send station bytes)
+  pub stands : Represents r j earlier (Send station bytes)
   -- before the Change it had received the request that the Change takes up and answers
   pub had : HadRequest r earlier station acknowledge
   -- the effect of the Change on its entities is that of this request, in the scope of the request's receiving and the
@@ -94,7 +94,7 @@ pub record IsKnownAt (r : PlainRecording) (h : History) (i j : ℕ) : Type 0 whe
   pub able : ReceivesAble r i
   pub before : History
   pub received : Contains h before (Get able.station able.bytes)
-  pub stands : StandsFor r i before (Get able.station able.bytes)
+  pub stands : Represents r i before (Get able.station able.bytes)
   pub known : IsKnown r h before able.pdu j
 
 -- KNOWLEDGE IN A RUN: each entry that receives an Able from a recorded station has a change behind it, which is known

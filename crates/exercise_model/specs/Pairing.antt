@@ -9,7 +9,7 @@ use Rattle.exercise_model.specs.Meaning.{meaning}
 use Rattle.exercise_model.specs.History.{Send, Get, History, log_at, station_at}
 use Rattle.exercise_model.specs.Exchange.{is_answer_body, request_brought, request_taken_up}
 use Rattle.exercise_model.specs.Change.{able, responds, key_of, sends_under, was_acknowledged}
-use Rattle.exercise_model.specs.Run.{Contains, StandsFor}
+use Rattle.exercise_model.specs.Run.{Contains, Represents}
 use Rattle.exercise_model.specs.Account.{sender_of}
 
 -- entry j is, in the history `before`, the first Get of station s with a request that its answer p may take up
@@ -17,7 +17,7 @@ pub record IsTakenUp (r : PlainRecording) (before : History) (s : ℕ) (p : Pdu)
   pub bytes : List ℕ
   pub earlier : History
   pub received : Contains before earlier (Get s bytes)
-  pub stands : StandsFor r j earlier (Get s bytes)
+  pub stands : Represents r j earlier (Get s bytes)
   pub brings : is_some (request_brought r.setting.exercise (station_at r s).address p (Get s bytes)) ≡ true
   pub first : request_taken_up r.setting.exercise (station_at r s).address p (log_at s earlier) ≡ None
 
@@ -26,7 +26,7 @@ pub record IsFirstAbleSent (r : PlainRecording) (h : History) (t : ℕ) (k : Ack
   pub bytes : List ℕ
   pub earlier : History
   pub sent : Contains h earlier (Send t bytes)
-  pub stands : StandsFor r j earlier (Send t bytes)
+  pub stands : Represents r j earlier (Send t bytes)
   pub sends : sends_under r.setting.exercise able k (Send t bytes) ≡ true
   pub first : was_acknowledged r.setting.exercise able k (log_at t earlier) ≡ false
 

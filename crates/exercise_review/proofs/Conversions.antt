@@ -17,29 +17,29 @@ use Rattle.exercise_review.specs.declared.fault.ReviewFault.{ReviewFault}
 use Rattle.exercise_review.specs.declared.fault.ReviewFault.TheVariants.{OverLimit, Memory}
 use Rattle.exercise_review.specs.declared.life.Stretch.{Stretch}
 use Rattle.exercise_review.specs.declared.outcome.Outcome.{Outcome}
-use Rattle.exercise_review.specs.declared.party.Outsider.{Outsider}
+use Rattle.exercise_review.specs.declared.party.SiteApplication.{SiteApplication}
 use Rattle.exercise_review.specs.declared.party.Party.{Party}
 use Rattle.exercise_review.specs.declared.party.Party.TheVariants as parties
 use Rattle.exercise_review.specs.declared.review.Review.{Review}
 use Rattle.exercise_review.specs.declared.review.TheConstants.{MOST_LINES}
 use Rattle.exercise_review.specs.declared.tally.StationCounts.{StationCounts}
 use Rattle.exercise_review.specs.declared.told.OrderAt.{OrderAt}
-use Rattle.exercise_review.specs.Entries.{bytes_sent, bytes_got, sent_by, got_by, meant_at}
+use Rattle.exercise_review.specs.Entries.{bytes_sent, bytes_received, pdu_sent, pdu_received, pdu_at}
 use Rattle.exercise_review.specs.Order.{OrderData, sends_order, gets_order, gets_anywhere, is_outside, is_meant, head_of, order_at, sends_of, sends_under_id, is_first_under_id}
-use Rattle.exercise_review.specs.Party.{first_copy, is_party, is_told_from, is_at, is_party_outside}
-use Rattle.exercise_review.specs.Parties.{pair_numbered, outsider_at, addresses, party_at, parties_below, parties_of}
+use Rattle.exercise_review.specs.Party.{first_copy, is_party, is_heard_from, is_at, is_party_outside}
+use Rattle.exercise_review.specs.Parties.{pair_numbered, site_application, addresses, party_at, parties_below, parties_of}
 use Rattle.exercise_review.specs.Reply.{is_reply, is_changing_reply, change_of_order, replies_in, has_reply_in, is_news}
-use Rattle.exercise_review.specs.Word.{word_at, settles_at, first_settling, telling}
+use Rattle.exercise_review.specs.Word.{word_at, settles_at, first_settling, decisive_entry}
 use Rattle.exercise_review.specs.Fate.{traces_of, fate_of}
 use Rattle.exercise_findings.specs.State.{state_before}
-use Rattle.exercise_review.specs.Life.{stretch_of, lived_on, life_before, lives_of}
+use Rattle.exercise_review.specs.Life.{stretch_of, life_after, life_before, lives_of}
 use Rattle.exercise_findings.specs.Missing.{gets_bytes, missing_at}
-use Rattle.exercise_review.specs.Outcome.{stamp_at, outcome_here, outcome_outside, outcome_nowhere, outcome_at, outcomes_at, outcomes_of}
-use Rattle.exercise_review.specs.Review.{line_count, TellsReview, Reviews}
+use Rattle.exercise_review.specs.Outcome.{stamp_at, recorded_outcome, outsider_outcome, partyless_outcome, outcome_at, outcomes_at, outcomes_of}
+use Rattle.exercise_review.specs.Review.{line_count, GivesReview, Reviews}
 use Rattle.exercise_review.specs.Room.{lists_below}
-use Rattle.exercise_review.specs.Span.{request_behind, entity_at, span_of, entity_spans, spans_behind, spans_of, all_spans}
+use Rattle.exercise_review.specs.Span.{request_behind, entity_at, span_of, entity_spans, spans_of_next, spans_of, all_spans}
 use Rattle.exercise_review.specs.Tally.{many, fates_of, fates_at, is_entry_of, is_made_by, is_running, station_counts}
-use Rattle.exercise_review.specs.Told.{order_told, order_at_parties, orders_at, orders_of, orders_told}
+use Rattle.exercise_review.specs.Told.{order_at_party, order_at_parties, orders_at, orders_of, reviewed_orders}
 use Rattle.exercise_review.specs.Alike.{AreReviewedAlike}
 
 -- ---- lists of what is alike
@@ -68,11 +68,11 @@ abbrev firstly : PlainRecording → PlainRecording
 firstly r = record r { setting = record r.setting { form = First } }
 
 heads : (r : PlainRecording) (i : ℕ) → head_of (firstly r) i ≡ head_of (converted r) i
-unfolding head_of sends_order sent_by bytes_sent is_outside gets_anywhere
+unfolding head_of sends_order pdu_sent bytes_sent is_outside gets_anywhere
 heads r i = refl
 
 order_same : (r : PlainRecording) (i : ℕ) → order_at (firstly r) i ≡ order_at (converted r) i
-unfolding order_at head_of sends_order sent_by bytes_sent is_outside gets_anywhere
+unfolding order_at head_of sends_order pdu_sent bytes_sent is_outside gets_anywhere
 order_same r i = refl
 
 orders_same : (r : PlainRecording) → orders_of (firstly r) ≡ orders_of (converted r)
@@ -81,16 +81,16 @@ orders_same r = lists_same (orders_at (firstly r)) (orders_at (converted r)) (λ
 
 -- ---- what became of an order
 
-here_same : (r : PlainRecording) (o : OrderData) (t : ℕ) → outcome_here (firstly r) o t ≡ outcome_here (converted r) o t
-unfolding sends_of sends_order sent_by bytes_sent gets_order got_by bytes_got first_copy telling first_settling settles_at word_at meant_at is_reply is_news has_reply_in replies_in pair_of entry_taken_up own_event change_of_order is_changing_reply change_at log_before stamp_at fate_of traces_of
+here_same : (r : PlainRecording) (o : OrderData) (t : ℕ) → recorded_outcome (firstly r) o t ≡ recorded_outcome (converted r) o t
+unfolding sends_of sends_order pdu_sent bytes_sent gets_order pdu_received bytes_received first_copy decisive_entry first_settling settles_at word_at pdu_at is_reply is_news has_reply_in replies_in pair_of entry_taken_up own_event change_of_order is_changing_reply change_at log_before stamp_at fate_of traces_of
 here_same r o t = refl
 
-outside_same : (r : PlainRecording) (o : OrderData) (a : Outsider) → outcome_outside (firstly r) o a ≡ outcome_outside (converted r) o a
-unfolding sends_of sends_order sent_by bytes_sent got_by bytes_got telling first_settling settles_at word_at meant_at is_told_from is_first_under_id sends_under_id is_outside stamp_at fate_of
+outside_same : (r : PlainRecording) (o : OrderData) (a : SiteApplication) → outsider_outcome (firstly r) o a ≡ outsider_outcome (converted r) o a
+unfolding sends_of sends_order pdu_sent bytes_sent pdu_received bytes_received decisive_entry first_settling settles_at word_at pdu_at is_heard_from is_first_under_id sends_under_id is_outside stamp_at fate_of
 outside_same r o a = refl
 
-nowhere_same : (r : PlainRecording) (o : OrderData) → outcome_nowhere (firstly r) o ≡ outcome_nowhere (converted r) o
-unfolding sends_of sends_order sent_by bytes_sent
+nowhere_same : (r : PlainRecording) (o : OrderData) → partyless_outcome (firstly r) o ≡ partyless_outcome (converted r) o
+unfolding sends_of sends_order pdu_sent bytes_sent
 nowhere_same r o = refl
 
 outcome_same : (r : PlainRecording) (o : OrderData) (party : Party) → outcome_at (firstly r) o party ≡ outcome_at (converted r) o party
@@ -101,7 +101,7 @@ outcome_same r o (parties.Outside a) = outside_same r o a
 -- ---- its parties
 
 party_same : (r : PlainRecording) (o : OrderData) (a : Pair) → party_at (firstly r) o a ≡ party_at (converted r) o a
-unfolding party_at is_at is_party is_meant first_copy gets_order got_by bytes_got is_party_outside
+unfolding party_at is_at is_party is_meant first_copy gets_order pdu_received bytes_received is_party_outside
 party_same r o a = refl
 
 parties_same : (r : PlainRecording) (o : OrderData) (n : ℕ) → parties_below (firstly r) o n ≡ parties_below (converted r) o n
@@ -123,16 +123,16 @@ outcomes_same : (r : PlainRecording) (o : OrderData) → outcomes_of (firstly r)
 unfolding outcomes_of
 outcomes_same r o = outcomes_at_same r o (parties_of (firstly r) o) ∙ ap (outcomes_at (converted r) o) (all_parties_same r o)
 
-told_same : (r : PlainRecording) (o : OrderData) (x : Outcome) → order_told (firstly r) o x ≡ order_told (converted r) o x
+told_same : (r : PlainRecording) (o : OrderData) (x : Outcome) → order_at_party (firstly r) o x ≡ order_at_party (converted r) o x
 told_same r o x = refl
 
 at_parties_same : (r : PlainRecording) (o : OrderData) → order_at_parties (firstly r) o ≡ order_at_parties (converted r) o
 at_parties_same r o =
-    map_same (order_told (firstly r) o) (order_told (converted r) o) (told_same r o) (outcomes_of (firstly r) o)
-    ∙ ap (map (order_told (converted r) o)) (outcomes_same r o)
+    map_same (order_at_party (firstly r) o) (order_at_party (converted r) o) (told_same r o) (outcomes_of (firstly r) o)
+    ∙ ap (map (order_at_party (converted r) o)) (outcomes_same r o)
 
-all_told_same : (r : PlainRecording) → orders_told (firstly r) ≡ orders_told (converted r)
-unfolding orders_told
+all_told_same : (r : PlainRecording) → reviewed_orders (firstly r) ≡ reviewed_orders (converted r)
+unfolding reviewed_orders
 all_told_same r =
     flat_map_same (order_at_parties (firstly r)) (order_at_parties (converted r)) (at_parties_same r) (orders_of (firstly r))
     ∙ ap (flat_map (order_at_parties (converted r))) (orders_same r)
@@ -142,14 +142,14 @@ all_told_same r =
 life_same : (r : PlainRecording) (s e n : ℕ) → life_before (firstly r) s e n ≡ life_before (converted r) s e n
 unfolding life_before log_before
 life_same r s e zero = refl
-life_same r s e (suc n) = ap (λ l. lived_on l n (state_before (converted r) s e (suc n))) (life_same r s e n)
+life_same r s e (suc n) = ap (λ l. life_after l n (state_before (converted r) s e (suc n))) (life_same r s e n)
 
 lives_same : (r : PlainRecording) (s e : ℕ) → lives_of (firstly r) s e ≡ lives_of (converted r) s e
 unfolding lives_of
 lives_same r s e = ap (λ l. l.ended ++ stretch_of l None) (life_same r s e (length r.entries))
 
 span_same : (r : PlainRecording) (id : EntityId) (x : Stretch) → span_of (firstly r) id x ≡ span_of (converted r) id x
-unfolding request_behind meant_at pair_of entry_taken_up own_event stamp_at
+unfolding request_behind pdu_at pair_of entry_taken_up own_event stamp_at
 span_same r id x = refl
 
 entity_same : (r : PlainRecording) (s e : ℕ) → entity_spans (firstly r) s e ≡ entity_spans (converted r) s e
@@ -160,7 +160,7 @@ entity_same r s e =
 
 station_spans_same : (r : PlainRecording) (s : ℕ) → spans_of (firstly r) s ≡ spans_of (converted r) s
 unfolding spans_of
-station_spans_same r s = lists_same (spans_behind (firstly r) s) (spans_behind (converted r) s) (λ n. entity_same r s (n + 1)) LARGEST_ENTITY
+station_spans_same r s = lists_same (spans_of_next (firstly r) s) (spans_of_next (converted r) s) (λ n. entity_same r s (n + 1)) LARGEST_ENTITY
 
 spans_same : (r : PlainRecording) → all_spans (firstly r) ≡ all_spans (converted r)
 unfolding all_spans
@@ -171,7 +171,7 @@ spans_same r = lists_same (spans_of (firstly r)) (spans_of (converted r)) (stati
 -- what is counted of a station, by the orders and what is told of them
 abbrev counted : PlainRecording → ℕ → List OrderData → List OrderAt → StationCounts
 counted r s os told = record {
-  at = outsider_at (station_at r s).address;
+  at = site_application (station_at r s).address;
   records = many (is_entry_of s) r.entries;
   made = many (is_made_by s) os;
   fates = fates_at s told;
@@ -182,13 +182,13 @@ counted r s os told = record {
 station_same : (r : PlainRecording) (s : ℕ) → station_counts (firstly r) s ≡ station_counts (converted r) s
 unfolding station_counts log_of
 station_same r s =
-    ap (λ os. counted (converted r) s os (orders_told (firstly r))) (orders_same r)
+    ap (λ os. counted (converted r) s os (reviewed_orders (firstly r))) (orders_same r)
     ∙ ap (λ told. counted (converted r) s (orders_of (converted r)) told) (all_told_same r)
 
 lines_same : (r : PlainRecording) → line_count (firstly r) ≡ line_count (converted r)
 lines_same r =
     ap (λ told. 1 + length r.setting.stations + length told + length (all_spans (firstly r))) (all_told_same r)
-    ∙ ap (λ spans. 1 + length r.setting.stations + length (orders_told (converted r)) + length spans) (spans_same r)
+    ∙ ap (λ spans. 1 + length r.setting.stations + length (reviewed_orders (converted r)) + length spans) (spans_same r)
 
 missing_same : (r : PlainRecording) (i : ℕ) → missing_at (firstly r) i ≡ missing_at (converted r) i
 unfolding missing_at gets_bytes source_of first_send own_event sender_of entry_taken_up
@@ -231,7 +231,7 @@ turned a b alike = record {
 }
 
 -- what is told of the one is told of the other
-told_on : (a b : PlainRecording) → length a.setting.stations ≡ length b.setting.stations → AreReviewedAlike a b → (v : Review) → TellsReview a v → TellsReview b v
+told_on : (a b : PlainRecording) → length a.setting.stations ≡ length b.setting.stations → AreReviewedAlike a b → (v : Review) → GivesReview a v → GivesReview b v
 told_on a b many alike v told = record {
   orders = told.orders ∙ ap length alike.orders;
   others = told.others ∙ alike.others;

@@ -22,15 +22,15 @@ use Rattle.exercise_model.specs.Place.{event_at, own_event, log_before}
 use Rattle.exercise_model.specs.Account.{changed_by, change_at}
 use Rattle.exercise_model.proofs.Offered.{log_before-none}
 use Rattle.exercise_review.specs.declared.changes.Made.{Made}
-use Rattle.exercise_review.specs.declared.course.Own.{Own}
-use Rattle.exercise_review.specs.declared.course.Course.{Course}
+use Rattle.exercise_review.specs.declared.course.OwnChanges.{OwnChanges}
+use Rattle.exercise_review.specs.declared.course.StationChanges.{StationChanges}
 use Rattle.exercise_findings.specs.State.{state_before}
-use Rattle.exercise_review.specs.Life.{LifeSoFar, stretch_of, lived_on, lives_of}
+use Rattle.exercise_review.specs.Life.{LifeSoFar, stretch_of, life_after, lives_of}
 use Rattle.exercise_review.specs.Room.{lists_below}
-use Rattle.exercise_review.specs.Span.{own_change, made_of, made_at, changes_made, lived_by}
-use Rattle.exercise_review.specs.Course.{AreChanges, no_made, change_in, is_one, is_all, is_of, moves_all, IsNextIn, AreNextIn, AreUpTo, AreOwn, IsCourse, IsStill, lived_in, lives_in}
+use Rattle.exercise_review.specs.Span.{own_change, made_of, made_at, changes_made, life_by_changes}
+use Rattle.exercise_review.specs.Course.{AreChanges, no_made, change_in, is_one, is_all, is_of, is_change_of_all_in, IsNextIn, AreNextIn, AreUpTo, AreOwn, IsCourse, IsUnaffected, course_life, course_stretches}
 use Rattle.exercise_review.proofs.Lists.{lists_none}
-use Rattle.exercise_review.proofs.Spans.{state_is, lived_by-more, lives_on, lives_are, change_more, change_none}
+use Rattle.exercise_review.proofs.Spans.{state_is, life_by_changes-more, lives_on, lives_are, change_more, change_none}
 
 -- ---- the changes of all stations
 
@@ -185,7 +185,7 @@ all_same n k d = ⊎_elim
     (λ (past : n ≤ k). get_or_past (replicate n d) k d (omega (arith, past, length-replicate n d)))
     (cases_lt k n)
 
-pub own_starts : (ms : List Made) (last a : ℕ) (o : Own) → a ≡ length ms → o.first.items ≡ replicate (last + 1) (length ms)
+pub own_starts : (ms : List Made) (last a : ℕ) (o : OwnChanges) → a ≡ length ms → o.first.items ≡ replicate (last + 1) (length ms)
     → o.next.items ≡ replicate (length ms) (length ms) → AreOwn ms last a o
 own_starts ms last a o end first next = record {
   numbers = ap length first ∙ length-replicate (last + 1) (length ms);
@@ -205,7 +205,7 @@ up_to ms last k n numbers within one = ⊎_elim
     (cases_lt last n)
 
 -- a change of all entities
-pub own_still : (ms : List Made) (last k : ℕ) (o : Own) → (change_in ms k).scope ≡ All → AreOwn ms last (k + 1) o → AreOwn ms last k o
+pub own_still : (ms : List Made) (last k : ℕ) (o : OwnChanges) → (change_in ms k).scope ≡ All → AreOwn ms last (k + 1) o → AreOwn ms last k o
 own_still ms last k o all own = record {
   numbers = own.numbers;
   count = own.count;
@@ -218,7 +218,7 @@ own_still ms last k o all own = record {
 }
 
 -- a change of entity n alone
-pub own_more : (ms : List Made) (last k n : ℕ) (old new : Own) → (change_in ms k).scope ≡ One n → k < length ms
+pub own_more : (ms : List Made) (last k n : ℕ) (old new : OwnChanges) → (change_in ms k).scope ≡ One n → k < length ms
     → length new.first.items ≡ length old.first.items → length new.next.items ≡ length old.next.items
     → ((e : ℕ) → slice_index_or new.first.items e (length ms) ≡ (if nat_eq e n then k else slice_index_or old.first.items e (length ms)))
     → ((j : ℕ) → slice_index_or new.next.items j 0 ≡ (if nat_eq j k then slice_index_or old.first.items n (length ms) else slice_index_or old.next.items j 0))
@@ -286,55 +286,55 @@ unmoved : (e : ℕ) (y : EntityState) (k : Kind) (s : Scope) → is_one e s ≡ 
 unmoved e y k (One n) other moves = ap (λ b. if b then state_made k y else y) other
 unmoved e y k All other moves = same_from (state_made k y) y moves
 
-pub still_up_to : (e : ℕ) (y : EntityState) (ms : List Made) (a own all b : ℕ) → IsNextIn (is_of e) ms a own → IsNextIn (moves_all y) ms a all
-    → b ≤ own → b ≤ all → IsStill e y ms a b
+pub still_up_to : (e : ℕ) (y : EntityState) (ms : List Made) (a own all b : ℕ) → IsNextIn (is_of e) ms a own → IsNextIn (is_change_of_all_in y) ms a all
+    → b ≤ own → b ≤ all → IsUnaffected e y ms a b
 still_up_to e y ms a own all b of moves up_to_own up_to_all = λ i l m.
     unmoved e y (change_in ms i).kind (change_in ms i).scope (of.none i l (omega (arith, m, up_to_own))) (moves.none i l (omega (arith, m, up_to_all)))
 
-lived_far : (e : ℕ) (l : LifeSoFar) (ms : List Made) (a d : ℕ) → a + d ≤ length ms → IsStill e (lived_by e l (take a ms)).state ms a (a + d)
-    → lived_by e l (take (a + d) ms) ≡ lived_by e l (take a ms)
-lived_far e l ms a zero within still = let same : a + 0 ≡ a = omega arith in ap (λ n. lived_by e l (take n ms)) same
+lived_far : (e : ℕ) (l : LifeSoFar) (ms : List Made) (a d : ℕ) → a + d ≤ length ms → IsUnaffected e (life_by_changes e l (take a ms)).state ms a (a + d)
+    → life_by_changes e l (take (a + d) ms) ≡ life_by_changes e l (take a ms)
+lived_far e l ms a zero within still = let same : a + 0 ≡ a = omega arith in ap (λ n. life_by_changes e l (take n ms)) same
 lived_far e l ms a (suc d) within still =
     let so_far = lived_far e l ms a d (omega (arith, within)) (λ i low high. still i low (omega (arith, high))) in
     let next : a + suc d ≡ a + d + 1 = omega arith in
     let m = get_or ms (a + d) no_made in
-    ap (λ n. lived_by e l (take n ms)) next
-    ∙ ap (lived_by e l) (take_more ms (a + d) no_made (omega (arith, within)))
-    ∙ lived_by-more e l (take (a + d) ms) m
-    ∙ ap (λ x. lived_on x m.entry (changed e x.state m.change)) so_far
-    ∙ ap (lived_on (lived_by e l (take a ms)) m.entry) (still (a + d) (omega arith) (omega arith))
-    ∙ lives_on (lived_by e l (take a ms)) m.entry
+    ap (λ n. life_by_changes e l (take n ms)) next
+    ∙ ap (life_by_changes e l) (take_more ms (a + d) no_made (omega (arith, within)))
+    ∙ life_by_changes-more e l (take (a + d) ms) m
+    ∙ ap (λ x. life_after x m.entry (changed e x.state m.change)) so_far
+    ∙ ap (life_after (life_by_changes e l (take a ms)) m.entry) (still (a + d) (omega arith) (omega arith))
+    ∙ lives_on (life_by_changes e l (take a ms)) m.entry
 
 -- where an entity stays in its state, so does its life
-pub lived_over : (e : ℕ) (l now : LifeSoFar) (ms : List Made) (a b : ℕ) → a ≤ b → b ≤ length ms → now ≡ lived_by e l (take a ms)
-    → IsStill e now.state ms a b → now ≡ lived_by e l (take b ms)
+pub lived_over : (e : ℕ) (l now : LifeSoFar) (ms : List Made) (a b : ℕ) → a ≤ b → b ≤ length ms → now ≡ life_by_changes e l (take a ms)
+    → IsUnaffected e now.state ms a b → now ≡ life_by_changes e l (take b ms)
 lived_over e l now ms a b from within so_far still =
     let far : b ≡ a + (b - a) = omega (arith, from) in
-    so_far ∙ sym (ap (λ n. lived_by e l (take n ms)) far
+    so_far ∙ sym (ap (λ n. life_by_changes e l (take n ms)) far
     ∙ lived_far e l ms a (b - a) (omega (arith, within, from))
     (λ i low high. subst (λ (x : LifeSoFar). changed e x.state (change_in ms i) ≡ x.state) so_far (still i low (omega (arith, high, from)))))
 
 -- an entity that stays Absent has nothing to tell
-pub none_lived : (c : Course) (e : ℕ) → slice_index_or c.starts.items e Absent ≡ Absent → IsStill e Absent c.changes.now 0 (length c.changes.now)
-    → lives_in c e ≡ []
+pub none_lived : (c : StationChanges) (e : ℕ) → slice_index_or c.starts.items e Absent ≡ Absent → IsUnaffected e Absent c.changes.now 0 (length c.changes.now)
+    → course_stretches c e ≡ []
 none_lived c e absent still =
     let idle : LifeSoFar = record { ended = []; state = Absent; since = None } in
     let ms = c.changes.now in
     let stays = lived_over e idle idle ms 0 (length ms) (omega arith) (omega arith) refl still in
-    ap (λ y. let l = lived_by e (record { ended = []; state = y; since = None }) ms in l.ended ++ stretch_of l None) absent
-    ∙ ap (λ xs. let l = lived_by e idle xs in l.ended ++ stretch_of l None) (sym (take_all (length ms) ms (omega arith)))
+    ap (λ y. let l = life_by_changes e (record { ended = []; state = y; since = None }) ms in l.ended ++ stretch_of l None) absent
+    ∙ ap (λ xs. let l = life_by_changes e idle xs in l.ended ++ stretch_of l None) (sym (take_all (length ms) ms (omega arith)))
     ∙ ap (λ (l : LifeSoFar). l.ended ++ stretch_of l None) (sym stays)
 
 -- ---- a life by the course of a station is the life of the entity
 
-start_is : (r : PlainRecording) (s e : ℕ) (c : Course) → is_entity e ≡ true → IsCourse r s c → slice_index_or c.starts.items e Absent ≡ state_before r s e 0
+start_is : (r : PlainRecording) (s e : ℕ) (c : StationChanges) → is_entity e ≡ true → IsCourse r s c → slice_index_or c.starts.items e Absent ≡ state_before r s e 0
 unfolding entity_state
 start_is r s e c entity course =
     course.starts e ∙ sym (state_is r s e 0 entity ∙ ap (λ log. entity_state r.setting.exercise (station_at r s) log e) (log_before-none r s))
 
-pub lives_in_are : (r : PlainRecording) (s e : ℕ) (c : Course) → is_entity e ≡ true → IsCourse r s c → lives_in c e ≡ lives_of r s e
+pub lives_in_are : (r : PlainRecording) (s e : ℕ) (c : StationChanges) → is_entity e ≡ true → IsCourse r s c → course_stretches c e ≡ lives_of r s e
 lives_in_are r s e c entity course =
-    lives_are r s e [] (lives_in c e) (slice_index_or c.starts.items e Absent) (lived_in c e) c.changes.now entity refl
+    lives_are r s e [] (course_stretches c e) (slice_index_or c.starts.items e Absent) (course_life c e) c.changes.now entity refl
     (start_is r s e c entity course) course.changes refl refl
 
 -- ---- as many changes as there are entries at most

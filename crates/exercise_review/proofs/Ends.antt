@@ -9,7 +9,7 @@ use Rattle.exercise_model.proofs.Offered.{first_found}
 use Rattle.exercise_review.specs.Counted.{last_below, count_below}
 use Rattle.exercise_review.specs.Digest.{digest, digest_of, at_station}
 use Rattle.exercise_review.specs.Order.{OrderData, sends_order, order_at, sends_of}
-use Rattle.exercise_review.specs.Outcome.{sends_told}
+use Rattle.exercise_review.specs.Outcome.{known_sends}
 use Rattle.exercise_review.specs.Register.{request_digest, order_key, key_at, has_key, IsUnder}
 use Rattle.exercise_review.proofs.Digests.{digest_whole}
 use Rattle.exercise_review.proofs.FirstOnes.{off}
@@ -39,7 +39,7 @@ one_counted f h n i under first last =
 
 -- AN ORDER WAS SENT ONCE where its head is the last entry under its key
 pub sent_once : (r : PlainRecording) (o : OrderData) (s : ℕ) → order_at r o.head ≡ Some o → o.maker ≡ Some s
-    → ((k : ℕ) → has_key r k o.head ≡ true → last_below (has_key r k) (length r.entries) ≡ Some o.head) → Some 1 ≡ sends_told r o
+    → ((k : ℕ) → has_key r k o.head ≡ true → last_below (has_key r k) (length r.entries) ≡ Some o.head) → Some 1 ≡ known_sends r o
 unfolding sends_of order_key
 sent_once r o s order maker last =
     let made = order_made r o.head s o order maker in

@@ -9,7 +9,7 @@ use Rattle.exercise_model.specs.History.{Event, Send, Get, Tell, History, event_
 use Rattle.exercise_model.specs.Place.{event_at, own_event, log_before}
 use Rattle.exercise_model.specs.Run.{Explains, Contains}
 use Rattle.exercise_model.proofs.Offered.{log_at-append, log_before-all, log_before-more, log_before-next, log_before-none}
-use Rattle.exercise_review.specs.Entries.{bytes_sent_by, bytes_got_by, bytes_sent, bytes_got}
+use Rattle.exercise_review.specs.Entries.{bytes_sent_by, bytes_received_by, bytes_sent, bytes_received}
 
 head_same : (v w : Event) (h k : History) → v ∷ h ≡ w ∷ k → v ≡ w
 head_same v w h k e = ap (λ xs. get_or xs 0 v) e
@@ -95,29 +95,29 @@ event_of_entry r h t i v explains own =
 -- ---- the bytes of an event
 
 -- what an entry of a station receives
-pub got_is : (r : PlainRecording) (t i : ℕ) (b : List ℕ) → own_event r t i ≡ Some (Get t b) → bytes_got r t i ≡ Some b
-unfolding own_event bytes_got
+pub got_is : (r : PlainRecording) (t i : ℕ) (b : List ℕ) → own_event r t i ≡ Some (Get t b) → bytes_received r t i ≡ Some b
+unfolding own_event bytes_received
 got_is r t i b =
-    elim (slice_get r.entries i) as (λ o. option_and_then (λ e. event_at t (event_of e)) o ≡ Some (Get t b) → option_and_then (bytes_got_by t) o ≡ Some b) [
+    elim (slice_get r.entries i) as (λ o. option_and_then (λ e. event_at t (event_of e)) o ≡ Some (Get t b) → option_and_then (bytes_received_by t) o ≡ Some b) [
       | None ↦ λ e. absurd (cc)
       | Some e ↦ of_entry e
     ]
   where
-    of_entry : (e : Entry) → event_at t (event_of e) ≡ Some (Get t b) → bytes_got_by t e ≡ Some b
+    of_entry : (e : Entry) → event_at t (event_of e) ≡ Some (Get t b) → bytes_received_by t e ≡ Some b
     of_entry (Sent s stamp c) = elim (nat_eq s t) as (λ q. cond q (Some (Send s c)) None ≡ Some (Get t b) → None ≡ Some b) [ true ↦ λ e. absurd (cc) | false ↦ λ e. absurd (cc) ]
     of_entry (Received s stamp c) = elim (nat_eq s t) as (λ q. cond q (Some (Get s c)) None ≡ Some (Get t b) → cond q (Some c) None ≡ Some b) [ true ↦ λ e. cc | false ↦ λ e. absurd (cc) ]
     of_entry (Told s n y) = elim (nat_eq s t) as (λ q. cond q (Some (Tell s n y)) None ≡ Some (Get t b) → None ≡ Some b) [ true ↦ λ e. absurd (cc) | false ↦ λ e. absurd (cc) ]
 
 -- and the other way round
-pub got_event : (r : PlainRecording) (t i : ℕ) (b : List ℕ) → bytes_got r t i ≡ Some b → own_event r t i ≡ Some (Get t b)
-unfolding own_event bytes_got
+pub got_event : (r : PlainRecording) (t i : ℕ) (b : List ℕ) → bytes_received r t i ≡ Some b → own_event r t i ≡ Some (Get t b)
+unfolding own_event bytes_received
 got_event r t i b =
-    elim (slice_get r.entries i) as (λ o. option_and_then (bytes_got_by t) o ≡ Some b → option_and_then (λ e. event_at t (event_of e)) o ≡ Some (Get t b)) [
+    elim (slice_get r.entries i) as (λ o. option_and_then (bytes_received_by t) o ≡ Some b → option_and_then (λ e. event_at t (event_of e)) o ≡ Some (Get t b)) [
       | None ↦ λ e. absurd (cc)
       | Some e ↦ of_entry e
     ]
   where
-    of_entry : (e : Entry) → bytes_got_by t e ≡ Some b → event_at t (event_of e) ≡ Some (Get t b)
+    of_entry : (e : Entry) → bytes_received_by t e ≡ Some b → event_at t (event_of e) ≡ Some (Get t b)
     of_entry (Sent s stamp c) = λ e. absurd (cc)
     of_entry (Received s stamp c) =
         elim (nat_eq s t) as (λ q. nat_eq s t ≡ q → cond q (Some c) None ≡ Some b → cond q (Some (Get s c)) None ≡ Some (Get t b)) [

@@ -10,12 +10,12 @@ use Rattle.exercise_model.proofs.Offered.{first_found}
 use Rattle.exercise_review.specs.declared.fate.Fate.{Fate}
 use Rattle.exercise_review.specs.declared.party.Party.TheVariants.{Station}
 use Rattle.exercise_review.specs.declared.word.Word.{Word}
-use Rattle.exercise_review.specs.Entries.{meant_at}
+use Rattle.exercise_review.specs.Entries.{pdu_at}
 use Rattle.exercise_review.specs.Order.{OrderData, gets_order}
 use Rattle.exercise_review.specs.Party.{first_copy}
 use Rattle.exercise_review.specs.Reply.{is_reply, is_news}
 use Rattle.exercise_review.specs.Word.{word_of, word_at, settles_at, is_settling, first_settling}
-use Rattle.exercise_review.specs.Fate.{fate_by, word_heard, has_replied, traces_of, fate_of}
+use Rattle.exercise_review.specs.Fate.{fate_of_traces, word_heard, has_replied, traces_of, fate_of}
 use Rattle.exercise_review.specs.InRuns.{Receives, HasReplied, HasSettled, Hears, HearsWord}
 use Rattle.exercise_review.proofs.Runs.{none_passes, some_passes, both, copy_received, received_copy, reply_sent, sent_reply}
 use Rattle.exercise_review.proofs.Heard.{sent_settles, settles_sent, word_settling, news_heard, heard_news, heard_sent}
@@ -27,7 +27,7 @@ pub told : (r : PlainRecording) (o : OrderData) (s t : ℕ) (fate : Fate) → o.
 unfolding fate_of traces_of
 told r o s t fate maker is =
     subst (λ f. Says f (word_heard r o t) (is_some (first_settling r (is_reply r o t))) (has_replied r o t) (is_some (first_copy r o t)))
-    (sym (ap (λ m. fate_by (record { made = is_some m; heard = word_heard r o t; settled = is_some (first_settling r (is_reply r o t)); replied = has_replied r o t; got = is_some (first_copy r o t) })) maker) ∙ is)
+    (sym (ap (λ m. fate_of_traces (record { made = is_some m; heard = word_heard r o t; settled = is_some (first_settling r (is_reply r o t)); replied = has_replied r o t; got = is_some (first_copy r o t) })) maker) ∙ is)
     (fate_says (word_heard r o t) (is_some (first_settling r (is_reply r o t))) (has_replied r o t) (is_some (first_copy r o t)))
 
 -- no copy
@@ -88,7 +88,7 @@ unfolding first_settling word_at
 word_was_heard r h o s t word limits explains within maker some = at (first_below (is_settling r (is_news r o t)) (length r.entries)) refl some
   where
     at : (x : Option ℕ) → first_below (is_settling r (is_news r o t)) (length r.entries) ≡ x
-        → option_and_then (λ i. option_and_then (λ (p : Pdu). word_of p.body) (meant_at r i)) x ≡ Some word → HearsWord r h o s t word
+        → option_and_then (λ i. option_and_then (λ (p : Pdu). word_of p.body) (pdu_at r i)) x ≡ Some word → HearsWord r h o s t word
     at None is e = absurd (cc)
     at (Some i) is e =
         let parts = both (is_news r o t i) (settles_at r i) (first_found (is_settling r (is_news r o t)) (length r.entries) i is).passes in

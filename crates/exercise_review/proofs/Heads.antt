@@ -7,10 +7,10 @@ use Rattle.siman_pdus.specs.Role.{is_request_body}
 use Rattle.exercise_model.specs.Recording.{PlainRecording}
 use Rattle.exercise_model.specs.Place.{first_below}
 use Rattle.exercise_model.specs.Setting.{is_open, is_recorded}
-use Rattle.exercise_review.specs.Order.{is_outside, is_for_station, gets_anywhere, head_got}
+use Rattle.exercise_review.specs.Order.{is_outside, is_for_station, gets_anywhere, received_head}
 
 -- what is received in a recording that is not open makes no order
-pub nobody_outside : (r : PlainRecording) (i : ℕ) (m : Option Pdu) → is_open r.setting.form ≡ false → same_id (option_and_then (head_got r) m) (Some i) ≡ false
+pub nobody_outside : (r : PlainRecording) (i : ℕ) (m : Option Pdu) → is_open r.setting.form ≡ false → same_id (option_and_then (received_head r) m) (Some i) ≡ false
 unfolding is_outside
 nobody_outside r i None closed = refl
 nobody_outside r i (Some p) closed =

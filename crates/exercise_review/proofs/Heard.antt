@@ -18,7 +18,7 @@ use Rattle.exercise_model.specs.Run.{IsRun, Explains, Contains}
 use Rattle.exercise_model.proofs.Offered.{explained_holds, own_address, sender_found}
 use Rattle.exercise_findings.proofs.Offered.{recorded_sender}
 use Rattle.exercise_review.specs.declared.word.Word.{Word}
-use Rattle.exercise_review.specs.Entries.{bytes_sent_by, bytes_got_by, bytes_of, bytes_sent, bytes_got, meant_at}
+use Rattle.exercise_review.specs.Entries.{bytes_sent_by, bytes_received_by, bytes_of, bytes_sent, bytes_received, pdu_at}
 use Rattle.exercise_review.specs.Order.{OrderData}
 use Rattle.exercise_review.specs.Reply.{is_reply, replies_in, has_reply_in, is_news}
 use Rattle.exercise_review.specs.Word.{word_of, settles, word_at, settles_at}
@@ -28,8 +28,8 @@ use Rattle.exercise_review.proofs.Runs.{none_passes, some_passes, there, both, r
 
 -- ---- what is meant at an entry
 
-pub meant_sent : (r : PlainRecording) (t i : ℕ) (b : List ℕ) → bytes_sent r t i ≡ Some b → meant_at r i ≡ meaning r.setting.exercise b
-unfolding bytes_sent meant_at
+pub meant_sent : (r : PlainRecording) (t i : ℕ) (b : List ℕ) → bytes_sent r t i ≡ Some b → pdu_at r i ≡ meaning r.setting.exercise b
+unfolding bytes_sent pdu_at
 meant_sent r t i b =
     elim (slice_get r.entries i) as (λ o. option_and_then (bytes_sent_by t) o ≡ Some b
     → option_and_then (meaning r.setting.exercise) (option_and_then bytes_of o) ≡ meaning r.setting.exercise b) [ None ↦ λ e. absurd (cc) | Some e ↦ of_entry e ]
@@ -40,26 +40,26 @@ meant_sent r t i b =
     of_entry (Received s stamp c) = λ e. absurd (cc)
     of_entry (Told s n y) = λ e. absurd (cc)
 
-pub meant_got : (r : PlainRecording) (t i : ℕ) (b : List ℕ) → bytes_got r t i ≡ Some b → meant_at r i ≡ meaning r.setting.exercise b
-unfolding bytes_got meant_at
+pub meant_got : (r : PlainRecording) (t i : ℕ) (b : List ℕ) → bytes_received r t i ≡ Some b → pdu_at r i ≡ meaning r.setting.exercise b
+unfolding bytes_received pdu_at
 meant_got r t i b =
-    elim (slice_get r.entries i) as (λ o. option_and_then (bytes_got_by t) o ≡ Some b
+    elim (slice_get r.entries i) as (λ o. option_and_then (bytes_received_by t) o ≡ Some b
     → option_and_then (meaning r.setting.exercise) (option_and_then bytes_of o) ≡ meaning r.setting.exercise b) [ None ↦ λ e. absurd (cc) | Some e ↦ of_entry e ]
   where
-    of_entry : (e : Entry) → bytes_got_by t e ≡ Some b → option_and_then (meaning r.setting.exercise) (bytes_of e) ≡ meaning r.setting.exercise b
+    of_entry : (e : Entry) → bytes_received_by t e ≡ Some b → option_and_then (meaning r.setting.exercise) (bytes_of e) ≡ meaning r.setting.exercise b
     of_entry (Received s stamp c) = elim (nat_eq s t) as (λ k. cond k (Some c) None ≡ Some b → meaning r.setting.exercise c ≡ meaning r.setting.exercise b)
         [ true ↦ λ e. ap (meaning r.setting.exercise) (same_Some c b e) | false ↦ λ e. absurd (cc) ]
     of_entry (Sent s stamp c) = λ e. absurd (cc)
     of_entry (Told s n y) = λ e. absurd (cc)
 
 -- what settles at an entry that means what these bytes mean
-pub settles_in : (r : PlainRecording) (i : ℕ) (b : List ℕ) → meant_at r i ≡ meaning r.setting.exercise b → settles_at r i ≡ true → Settles r b
+pub settles_in : (r : PlainRecording) (i : ℕ) (b : List ℕ) → pdu_at r i ≡ meaning r.setting.exercise b → settles_at r i ≡ true → Settles r b
 unfolding settles_at
 settles_in r i b means settling =
-    let found = there (λ (p : Pdu). settles p.body) (meant_at r i) settling in
+    let found = there (λ (p : Pdu). settles p.body) (pdu_at r i) settling in
     record { answer = found.0; meant = sym means ∙ found.1; settles = found.2 }
 
-pub settles_there : (r : PlainRecording) (i : ℕ) (b : List ℕ) → meant_at r i ≡ meaning r.setting.exercise b → Settles r b → settles_at r i ≡ true
+pub settles_there : (r : PlainRecording) (i : ℕ) (b : List ℕ) → pdu_at r i ≡ meaning r.setting.exercise b → Settles r b → settles_at r i ≡ true
 unfolding settles_at
 settles_there r i b means s = ap (λ o. option_map_or (λ p. settles p.body) o false) (means ∙ s.meant) ∙ s.settles
 
@@ -87,7 +87,7 @@ settling_word (bodies.Comment datums) e = absurd (cc)
 pub word_settling : (r : PlainRecording) (i : ℕ) → settles_at r i ≡ true → is_some (word_at r i) ≡ true
 unfolding settles_at word_at
 word_settling r i =
-    elim (meant_at r i) as (λ o. option_map_or (λ (p : Pdu). settles p.body) o false ≡ true → is_some (option_and_then (λ (p : Pdu). word_of p.body) o) ≡ true) [
+    elim (pdu_at r i) as (λ o. option_map_or (λ (p : Pdu). settles p.body) o false ≡ true → is_some (option_and_then (λ (p : Pdu). word_of p.body) o) ≡ true) [
       | None ↦ λ e. absurd (cc)
       | Some p ↦ settling_word p.body
     ]
@@ -97,7 +97,7 @@ word_settling r i =
 -- what the maker receives at entry i
 pub record GotNews (r : PlainRecording) (o : OrderData) (s t i : ℕ) : Type 0 where
   pub bytes : List ℕ
-  pub at : bytes_got r s i ≡ Some bytes
+  pub at : bytes_received r s i ≡ Some bytes
   pub reply : ℕ
   pub replies : is_reply r o t reply ≡ true
   pub sent : bytes_sent r t reply ≡ Some bytes
@@ -105,9 +105,9 @@ pub record GotNews (r : PlainRecording) (o : OrderData) (s t i : ℕ) : Type 0 w
 pub news_got : (r : PlainRecording) (o : OrderData) (s t i : ℕ) → o.maker ≡ Some s → is_news r o t i ≡ true → GotNews r o s t i
 unfolding is_news has_reply_in replies_in
 news_got r o s t i maker news =
-    let got = there (λ b. is_some (first_below (λ j. is_reply r o t j && option_map_or (bytes_eq b) (bytes_sent r t j) false) (length r.entries))) (bytes_got r s i)
+    let got = there (λ b. is_some (first_below (λ j. is_reply r o t j && option_map_or (bytes_eq b) (bytes_sent r t j) false) (length r.entries))) (bytes_received r s i)
     (sym (ap (λ m. option_map_or (λ b. is_some (first_below (λ j. is_reply r o t j && option_map_or (bytes_eq b) (bytes_sent r t j) false) (length r.entries)))
-    (option_and_then (λ s. bytes_got r s i) m) false) maker) ∙ news) in
+    (option_and_then (λ s. bytes_received r s i) m) false) maker) ∙ news) in
     let b : List ℕ = got.0 in
     let reply = some_passes (λ j. is_reply r o t j && option_map_or (bytes_eq b) (bytes_sent r t j) false) (length r.entries) got.2 in
     let parts = both (is_reply r o t reply.0) (option_map_or (bytes_eq b) (bytes_sent r t reply.0) false) reply.2 in
@@ -127,19 +127,19 @@ is_there f n i within passes =
       | false ↦ λ none. absurd (none_passes f n i none within passes)
     ] refl
 
-pub got_news : (r : PlainRecording) (o : OrderData) (s t i j : ℕ) (b : List ℕ) → o.maker ≡ Some s → bytes_got r s i ≡ Some b → j < length r.entries
+pub got_news : (r : PlainRecording) (o : OrderData) (s t i j : ℕ) (b : List ℕ) → o.maker ≡ Some s → bytes_received r s i ≡ Some b → j < length r.entries
     → is_reply r o t j ≡ true → bytes_sent r t j ≡ Some b → is_news r o t i ≡ true
 unfolding is_news has_reply_in replies_in
 got_news r o s t i j b maker at within replies sent =
     let test = λ (c : List ℕ). is_some (first_below (λ j. is_reply r o t j && option_map_or (bytes_eq c) (bytes_sent r t j) false) (length r.entries)) in
-    ap (λ m. option_map_or test (option_and_then (λ s. bytes_got r s i) m) false) maker
+    ap (λ m. option_map_or test (option_and_then (λ s. bytes_received r s i) m) false) maker
     ∙ ap (λ x. option_map_or test x false) at
     ∙ is_there (λ j. is_reply r o t j && option_map_or (bytes_eq b) (bytes_sent r t j) false) (length r.entries) j within
     (ap (λ c. c && option_map_or (bytes_eq b) (bytes_sent r t j) false) replies ∙ ap (λ x. option_map_or (bytes_eq b) x false) sent ∙ (bytes_decides b b).1 refl)
 
 -- NEWS THAT SETTLES is heard
 pub news_heard : (r : PlainRecording) (h : History) (o : OrderData) (s t i : ℕ) → Explains r h → o.maker ≡ Some s → is_news r o t i ≡ true
-    → settles_at r i ≡ true → (heard : Hears r h o s t) × (meant_at r i ≡ Some heard.settles.answer)
+    → settles_at r i ≡ true → (heard : Hears r h o s t) × (pdu_at r i ≡ Some heard.settles.answer)
 news_heard r h o s t i explains maker news settling =
     let got = news_got r o s t i maker news in
     let event = event_of_entry r h s i (Get s got.bytes) explains (got_event r s i got.bytes got.at) in
@@ -163,7 +163,7 @@ pub heard_news : (r : PlainRecording) (h : History) (o : OrderData) (s t : ℕ) 
     → (i : ℕ) × (i < length r.entries) × ((is_news r o t i && settles_at r i) ≡ true)
 heard_news r h o s t explains maker heard =
     let entry = entry_of r h heard.before (Get s heard.bytes) s explains refl heard.received in
-    let at : bytes_got r s entry.0 ≡ Some heard.bytes = got_is r s entry.0 heard.bytes entry.2.own in
+    let at : bytes_received r s entry.0 ≡ Some heard.bytes = got_is r s entry.0 heard.bytes entry.2.own in
     let reply = sent_reply r h heard.place o t heard.bytes explains heard.reply in
     let news = got_news r o s t entry.0 reply.0 heard.bytes maker at reply.1 reply.3 reply.2 in
     (entry.0, entry.1, ap (λ c. c && settles_at r entry.0) news ∙ settles_there r entry.0 heard.bytes (meant_got r s entry.0 heard.bytes at) heard.settles)

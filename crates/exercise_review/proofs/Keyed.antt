@@ -11,9 +11,9 @@ use Rattle.exercise_model.specs.Place.{first_below}
 use Rattle.exercise_model.specs.Recording.{PlainRecording}
 use Rattle.exercise_model.specs.Setting.{is_open}
 use Rattle.exercise_review.specs.Digest.{digest_of}
-use Rattle.exercise_review.specs.Entries.{bytes_sent_by, bytes_sent, got_by}
-use Rattle.exercise_review.specs.Order.{sends_order, gets_anywhere, is_outside, is_for_station, head_sent, head_got, head_of_entry, head_of, order_of_entry, order_at}
-use Rattle.exercise_review.specs.Register.{order_key, id_key, sent_key, got_key, entry_key, key_at}
+use Rattle.exercise_review.specs.Entries.{bytes_sent_by, bytes_sent, pdu_received}
+use Rattle.exercise_review.specs.Order.{sends_order, gets_anywhere, is_outside, is_for_station, sent_head, received_head, head_of_entry, head_of, order_of_entry, order_at}
+use Rattle.exercise_review.specs.Register.{order_key, id_key, sent_key, receipt_key, entry_key, key_at}
 use Rattle.exercise_model.specs.Account.{pair_of}
 
 -- ---- what has a key means a PDU
@@ -22,9 +22,9 @@ means_by : {X : Type 0} (f : Pdu → Option X) (m : Option Pdu) → is_some (opt
 means_by {X} f None has = absurd (cc)
 means_by {X} f (Some p) has = refl
 
-pub sent_meant : (r : PlainRecording) (s i : ℕ) (b : List ℕ) → bytes_sent r s i ≡ Some b → is_some (key_at r i) ≡ true → is_some (meaning r.setting.exercise b) ≡ true
+pub sent_meaning : (r : PlainRecording) (s i : ℕ) (b : List ℕ) → bytes_sent r s i ≡ Some b → is_some (key_at r i) ≡ true → is_some (meaning r.setting.exercise b) ≡ true
 unfolding bytes_sent key_at
-sent_meant r s i b =
+sent_meaning r s i b =
     elim (slice_get r.entries i) as (λ o. option_and_then (bytes_sent_by s) o ≡ Some b → is_some (option_and_then (entry_key r i) o) ≡ true
     → is_some (meaning r.setting.exercise b) ≡ true) [
       | None ↦ λ h _. absurd (cc)
@@ -43,16 +43,16 @@ sent_meant r s i b =
 -- ---- each order has a key
 
 head_none : (r : PlainRecording) (i : ℕ) (e : Entry) → entry_key r i e ≡ None → head_of_entry r e ≡ None
-unfolding sent_key got_key order_key
+unfolding sent_key receipt_key order_key
 head_none r i (Sent s stamp b) = of_meaning (meaning r.setting.exercise b)
   where
-    of_meaning : (m : Option Pdu) → option_and_then (sent_key r s i) m ≡ None → option_and_then (head_sent r s) m ≡ None
+    of_meaning : (m : Option Pdu) → option_and_then (sent_key r s i) m ≡ None → option_and_then (sent_head r s) m ≡ None
     of_meaning None = λ _. refl
-    of_meaning (Some p) = elim (is_request_body p.body) as (λ k. (if k then (if k then Some (digest_of s p) else None) else option_and_then (order_key s) (option_and_then (got_by r s) (pair_of r i))) ≡ None
+    of_meaning (Some p) = elim (is_request_body p.body) as (λ k. (if k then (if k then Some (digest_of s p) else None) else option_and_then (order_key s) (option_and_then (pdu_received r s) (pair_of r i))) ≡ None
         → (if k then first_below (sends_order r s p) (length r.entries) else None) ≡ None) [ true ↦ λ h. absurd (cc) | false ↦ λ _. refl ]
 head_none r i (Received s stamp b) = of_meaning (meaning r.setting.exercise b)
   where
-    of_meaning : (m : Option Pdu) → option_and_then (got_key r.setting.form s) m ≡ None → option_and_then (head_got r) m ≡ None
+    of_meaning : (m : Option Pdu) → option_and_then (receipt_key r.setting.form s) m ≡ None → option_and_then (received_head r) m ≡ None
     of_meaning None = λ _. refl
     of_meaning (Some p) = elim (is_request_body p.body) as (λ k. (if k then (if k then Some (digest_of s p) else None) else (if is_open r.setting.form then id_key s p else None)) ≡ None
         → (if k && (is_outside r p && is_for_station r p) then first_below (gets_anywhere r p) (length r.entries) else None) ≡ None) [ true ↦ λ h. absurd (cc) | false ↦ λ _. refl ]

@@ -10,7 +10,7 @@ use Rattle.exercise_model.specs.Recording.{PlainRecording}
 use Rattle.exercise_model.specs.Cause.{same_state}
 use Rattle.exercise_review.specs.declared.life.Stretch.{Stretch}
 use Rattle.exercise_findings.specs.State.{state_before}
-use Rattle.exercise_review.specs.Life.{LifeSoFar, stretch_of, lived_on, life_before, lives_of, is_after, is_no_later, covers, states_at, if_there}
+use Rattle.exercise_review.specs.Life.{LifeSoFar, stretch_of, life_after, life_before, lives_of, is_after, is_no_later, covers, states_at, if_there}
 
 -- the states of two lists of stretches, one after the other
 states_at-append : (n : ℕ) (xs ys : List Stretch) → states_at n (xs ++ ys) ≡ states_at n xs ++ states_at n ys
@@ -124,7 +124,7 @@ begins r s e n l life =
           (cases_lt m (suc n));
     }
 
-one_more : (r : PlainRecording) (s e n : ℕ) (l : LifeSoFar) → IsLife r s e n l → IsLife r s e (suc n) (lived_on l n (state_before r s e (suc n)))
+one_more : (r : PlainRecording) (s e n : ℕ) (l : LifeSoFar) → IsLife r s e n l → IsLife r s e (suc n) (life_after l n (state_before r s e (suc n)))
 one_more r s e n l life =
     elim (same_state (state_before r s e (suc n)) l.state) as (λ b. same_state (state_before r s e (suc n)) l.state ≡ b
     → IsLife r s e (suc n) (cond b l (record { ended = l.ended ++ stretch_of l (Some n); state = state_before r s e (suc n); since = Some n }))) [
@@ -160,8 +160,8 @@ pub life_none : (r : PlainRecording) (s e : ℕ) → life_before r s e 0 ≡ rec
 unfolding life_before
 life_none r s e = refl
 
-pub life_more : (r : PlainRecording) (s e n : ℕ) → life_before r s e (n + 1) ≡ lived_on (life_before r s e n) n (state_before r s e (n + 1))
+pub life_more : (r : PlainRecording) (s e n : ℕ) → life_before r s e (n + 1) ≡ life_after (life_before r s e n) n (state_before r s e (n + 1))
 unfolding life_before
-life_more r s e n = ap (life_before r s e) (add-one n) ∙ ap (λ k. lived_on (life_before r s e n) n (state_before r s e k)) (sym (add-one n))
+life_more r s e n = ap (life_before r s e) (add-one n) ∙ ap (λ k. life_after (life_before r s e n) n (state_before r s e k)) (sym (add-one n))
 
 pub ruleset life_steps = (life_none, life_more)

@@ -19,7 +19,7 @@ use Rattle.exercise_model.specs.Exchange.{request_taken_up}
 use Rattle.exercise_model.specs.Change.{able, responds, key_of, was_acknowledged, is_change}
 use Rattle.exercise_model.specs.State.{change_of, carried_out, change_by}
 use Rattle.exercise_model.specs.Place.{event_at, own_event, log_before}
-use Rattle.exercise_model.specs.Run.{Explains, StandsFor, Contains}
+use Rattle.exercise_model.specs.Run.{Explains, Represents, Contains}
 use Rattle.exercise_model.specs.Account.{changed_by, change_at}
 use Rattle.exercise_model.specs.Answered.{IsFirstAble}
 use Rattle.exercise_model.specs.Headline.{HadRequest}
@@ -150,7 +150,7 @@ carried r h place t i b c explains within log found =
     (carried_out_where_allowed r place t b p allowed found.meant is_able change had first)
 
 stands : (r : PlainRecording) (place : History) (t i : ℕ) (b : List ℕ) → own_event r t i ≡ Some (Send t b) → log_at t place ≡ log_before r t i
-    → StandsFor r i place (Send t b)
+    → Represents r i place (Send t b)
 stands r place t i b own log = record { event = own; place = ap length log }
 
 -- A CHANGE THAT A LOG TELLS is carried out

@@ -19,8 +19,8 @@ use Rattle.exercise_model.proofs.Offered.{first_found}
 use Rattle.exercise_findings.specs.Source.{sends_here, first_send, source_of_pdu, source_of}
 use Rattle.exercise_findings.proofs.Offered.{sends_there, source_here}
 use Rattle.exercise_review.specs.Digest.{digest_of}
-use Rattle.exercise_review.specs.Entries.{bytes_got_by, bytes_sent_by, bytes_sent, bytes_got, got_by}
-use Rattle.exercise_review.specs.Register.{order_key, sent_key, got_key, entry_key, key_at}
+use Rattle.exercise_review.specs.Entries.{bytes_received_by, bytes_sent_by, bytes_sent, bytes_received, pdu_received}
+use Rattle.exercise_review.specs.Register.{order_key, sent_key, receipt_key, entry_key, key_at}
 use Rattle.exercise_review.proofs.KnownKeys.{known_key}
 use Rattle.exercise_review.proofs.Paired.{paired, alone_kept}
 
@@ -86,10 +86,10 @@ source_sends r i j s stamp b at source = by_meaning (meaning r.setting.exercise 
 -- what is received in a recording that is not open has the key of the request that it means
 pub key_received : (r : PlainRecording) (i s stamp : ℕ) (b : List ℕ) (p : Pdu) → slice_get r.entries i ≡ Some (Received s stamp b)
     → is_open r.setting.form ≡ false → meaning r.setting.exercise b ≡ Some p → key_at r i ≡ order_key s p
-unfolding got_by bytes_got
+unfolding pdu_received bytes_received
 key_received r i s stamp b p at closed means =
     known_key r s i stamp b at closed
-    ∙ ap (λ o. option_and_then (order_key s) (option_and_then (meaning r.setting.exercise) (option_and_then (bytes_got_by s) o))) at
+    ∙ ap (λ o. option_and_then (order_key s) (option_and_then (meaning r.setting.exercise) (option_and_then (bytes_received_by s) o))) at
     ∙ ap (λ c. option_and_then (order_key s) (option_and_then (meaning r.setting.exercise) (if c then Some b else None))) (eq-eqb s s refl)
     ∙ ap (option_and_then (order_key s)) means
 
@@ -112,11 +112,11 @@ unfolding order_key
 no_order s p asks = ap (λ c. if c then Some (digest_of s p) else None) asks
 
 -- an entry that receives these bytes at a station
-pub got_entry : (r : PlainRecording) (s i : ℕ) (b : List ℕ) → bytes_got r s i ≡ Some b → (stamp : ℕ) × (slice_get r.entries i ≡ Some (Received s stamp b))
-unfolding bytes_got
+pub got_entry : (r : PlainRecording) (s i : ℕ) (b : List ℕ) → bytes_received r s i ≡ Some b → (stamp : ℕ) × (slice_get r.entries i ≡ Some (Received s stamp b))
+unfolding bytes_received
 got_entry r s i b got = by_entry (slice_get r.entries i) refl got
   where
-    by_entry : (o : Option Entry) → slice_get r.entries i ≡ o → option_and_then (bytes_got_by s) o ≡ Some b
+    by_entry : (o : Option Entry) → slice_get r.entries i ≡ o → option_and_then (bytes_received_by s) o ≡ Some b
         → (stamp : ℕ) × (slice_get r.entries i ≡ Some (Received s stamp b))
     by_entry None at h = absurd (cc)
     by_entry (Some (Sent t stamp c)) at h = absurd (cc)
@@ -132,20 +132,20 @@ some_bytes None h = absurd (cc)
 some_bytes (Some b) h = (b, refl)
 
 -- the key of what is received, in whatever form
-pub key_got : (r : PlainRecording) (s i : ℕ) (b : List ℕ) → bytes_got r s i ≡ Some b
-    → key_at r i ≡ option_and_then (got_key r.setting.form s) (meaning r.setting.exercise b)
+pub key_got : (r : PlainRecording) (s i : ℕ) (b : List ℕ) → bytes_received r s i ≡ Some b
+    → key_at r i ≡ option_and_then (receipt_key r.setting.form s) (meaning r.setting.exercise b)
 unfolding key_at
 key_got r s i b got = ap (option_and_then (entry_key r i)) (got_entry r s i b got).1
 
 -- WHAT IS RECEIVED FROM AN ENTRY THAT TAKES UP A REQUEST has no key
-pub answer_brought : (r : PlainRecording) (s i j : ℕ) → is_some (bytes_got r s i) ≡ true → is_open r.setting.form ≡ false → source_of r i ≡ Some j
+pub answer_brought : (r : PlainRecording) (s i j : ℕ) → is_some (bytes_received r s i) ≡ true → is_open r.setting.form ≡ false → source_of r i ≡ Some j
     → is_some (pair_of r j) ≡ true → None ≡ key_at r i
 answer_brought r s i j got closed source pair = by_pair (pair_of r j) refl pair
   where
     by_pair : (o : Option ℕ) → pair_of r j ≡ o → is_some o ≡ true → None ≡ key_at r i
     by_pair None at h = absurd (cc)
     by_pair (Some k) at h =
-        let bytes = some_bytes (bytes_got r s i) got in
+        let bytes = some_bytes (bytes_received r s i) got in
         let b : List ℕ = bytes.0 in
         let entry = got_entry r s i b bytes.1 in
         let from = source_sends r i j s entry.0 b entry.1 source in
@@ -154,11 +154,11 @@ answer_brought r s i j got closed source pair = by_pair (pair_of r j) refl pair
         sym (key_received r i s entry.0 b answer.0 entry.1 closed answer.1 ∙ no_order s answer.0 answer.2)
 
 -- WHAT IS RECEIVED FROM ANOTHER has the key of the request that is sent there, if it is one
-pub request_brought : (r : PlainRecording) (s i j : ℕ) (e : Entry) → is_some (bytes_got r s i) ≡ true → is_open r.setting.form ≡ false → source_of r i ≡ Some j
+pub request_brought : (r : PlainRecording) (s i j : ℕ) (e : Entry) → is_some (bytes_received r s i) ≡ true → is_open r.setting.form ≡ false → source_of r i ≡ Some j
     → slice_get r.entries j ≡ Some e → pair_of r j ≡ None
     → (p : Pdu) × (key_at r j ≡ order_key (station_of (event_of e)) p) × (order_key s p ≡ key_at r i)
 request_brought r s i j e got closed source at pair =
-    let bytes = some_bytes (bytes_got r s i) got in
+    let bytes = some_bytes (bytes_received r s i) got in
     let b : List ℕ = bytes.0 in
     let entry = got_entry r s i b bytes.1 in
     let from = source_sends r i j s entry.0 b entry.1 source in
@@ -171,13 +171,13 @@ request_brought r s i j e got closed source at pair =
     )
 
 -- the key of a request that was received at a station, in a recording that is not open
-pub request_key : (r : PlainRecording) (s j : ℕ) → is_some (got_by r s j) ≡ true → is_open r.setting.form ≡ false
-    → key_at r j ≡ option_and_then (order_key s) (got_by r s j)
-unfolding got_by
-request_key r s j got closed = by_bytes (bytes_got r s j) refl got
+pub request_key : (r : PlainRecording) (s j : ℕ) → is_some (pdu_received r s j) ≡ true → is_open r.setting.form ≡ false
+    → key_at r j ≡ option_and_then (order_key s) (pdu_received r s j)
+unfolding pdu_received
+request_key r s j got closed = by_bytes (bytes_received r s j) refl got
   where
-    by_bytes : (o : Option (List ℕ)) → bytes_got r s j ≡ o → is_some (option_and_then (meaning r.setting.exercise) o) ≡ true
-        → key_at r j ≡ option_and_then (order_key s) (option_and_then (meaning r.setting.exercise) (bytes_got r s j))
+    by_bytes : (o : Option (List ℕ)) → bytes_received r s j ≡ o → is_some (option_and_then (meaning r.setting.exercise) o) ≡ true
+        → key_at r j ≡ option_and_then (order_key s) (option_and_then (meaning r.setting.exercise) (bytes_received r s j))
     by_bytes None is h = absurd (cc)
     by_bytes (Some b) is h = let entry = got_entry r s j b is in known_key r s j entry.0 b entry.1 closed
 

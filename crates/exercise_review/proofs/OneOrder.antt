@@ -18,7 +18,7 @@ use Rattle.exercise_model.specs.Cause.{is_other_order, sends_other, is_reused}
 use Rattle.exercise_model.specs.Place.{first_below}
 use Rattle.exercise_model.specs.Run.{Explains, Contains}
 use Rattle.exercise_model.proofs.Offered.{any_at, first_found, in_order, sent_rows}
-use Rattle.exercise_review.specs.Order.{OrderData, sends_order, head_sent, head_got, head_of_entry, head_of, made_by, order_of_entry, order_at}
+use Rattle.exercise_review.specs.Order.{OrderData, sends_order, sent_head, received_head, head_of_entry, head_of, made_by, order_of_entry, order_at}
 use Rattle.exercise_review.proofs.Runs.{none_passes}
 use Rattle.exercise_review.proofs.Heard.{allowed_at}
 
@@ -134,7 +134,7 @@ order_made r i s o order maker =
         subst (IsOrderOf r i s) same (subst (λ k. IsOrderOf r i k (made_by i (Some t) p)) own (of_made t stamp b at p meant is both.0))
 
     of_sent : (t stamp : ℕ) (b : List ℕ) → slice_get r.entries i ≡ Some (Sent t stamp b) → (m : Option Pdu) → meaning r.setting.exercise b ≡ m
-        → (if same_id (option_and_then (head_sent r t) m) (Some i) then option_map (made_by i (Some t)) m else None) ≡ Some o → IsOrderOf r i s o
+        → (if same_id (option_and_then (sent_head r t) m) (Some i) then option_map (made_by i (Some t)) m else None) ≡ Some o → IsOrderOf r i s o
     of_sent t stamp b at None meant h = absurd (cc)
     of_sent t stamp b at (Some p) meant h = of_request t stamp b at p meant (is_request_body p.body) refl h
 
@@ -148,5 +148,5 @@ order_made r i s o order maker =
     of_entry : (e : Entry) → slice_get r.entries i ≡ Some e → (if same_id (head_of_entry r e) (Some i) then order_of_entry r i e else None) ≡ Some o
         → IsOrderOf r i s o
     of_entry (Sent t stamp b) at h = of_sent t stamp b at (meaning r.setting.exercise b) refl h
-    of_entry (Received t stamp b) at h = of_got (meaning r.setting.exercise b) (option_and_then (head_got r) (meaning r.setting.exercise b)) h
+    of_entry (Received t stamp b) at h = of_got (meaning r.setting.exercise b) (option_and_then (received_head r) (meaning r.setting.exercise b)) h
     of_entry (Told t e y) at h = absurd (cc)

@@ -19,8 +19,8 @@ use Rattle.exercise_model.specs.Place.{brings_request, entry_taken_up, first_bel
 use Rattle.exercise_model.proofs.Offered.{first_found}
 use Rattle.exercise_model.specs.Recording.{PlainRecording}
 use Rattle.exercise_review.specs.Digest.{digest_of}
-use Rattle.exercise_review.specs.Entries.{bytes_sent_by, bytes_sent, got_by}
-use Rattle.exercise_review.specs.Order.{sends_order, head_sent, head_of_entry, head_of, order_of_entry, order_at}
+use Rattle.exercise_review.specs.Entries.{bytes_sent_by, bytes_sent, pdu_received}
+use Rattle.exercise_review.specs.Order.{sends_order, sent_head, head_of_entry, head_of, order_of_entry, order_at}
 use Rattle.exercise_review.specs.Register.{order_key, sent_key, entry_key, key_at}
 use Rattle.exercise_review.proofs.Brought.{brings_is}
 use Rattle.exercise_review.proofs.Runs.{there}
@@ -75,51 +75,51 @@ paired r s i j b sent pair = of_meaning (meaning r.setting.exercise b) refl (sym
 
 -- its key is that of the request
 pub answer_kept : (r : PlainRecording) (s i j : ℕ) (b : List ℕ) → bytes_sent r s i ≡ Some b → pair_of r i ≡ Some j
-    → option_and_then (sent_key r s i) (meaning r.setting.exercise b) ≡ option_and_then (order_key s) (got_by r s j)
+    → option_and_then (sent_key r s i) (meaning r.setting.exercise b) ≡ option_and_then (order_key s) (pdu_received r s j)
 answer_kept r s i j b sent pair =
     let p = paired r s i j b sent pair in
-    ap (option_and_then (sent_key r s i)) p.1 ∙ answer_key r s i p.0 p.2 ∙ ap (λ o. option_and_then (order_key s) (option_and_then (got_by r s) o)) pair
+    ap (option_and_then (sent_key r s i)) p.1 ∙ answer_key r s i p.0 p.2 ∙ ap (λ o. option_and_then (order_key s) (option_and_then (pdu_received r s) o)) pair
 
 -- and of what takes up none it is that of an order, if it is one
 pub alone_kept : (r : PlainRecording) (s i : ℕ) (m : Option Pdu) → pair_of r i ≡ None → option_and_then (sent_key r s i) m ≡ option_and_then (order_key s) m
 unfolding sent_key order_key
 alone_kept r s i None pair = refl
 alone_kept r s i (Some p) pair =
-    ap (λ o. if is_request_body p.body then order_key s p else option_and_then (order_key s) (option_and_then (got_by r s) o)) pair
+    ap (λ o. if is_request_body p.body then order_key s p else option_and_then (order_key s) (option_and_then (pdu_received r s) o)) pair
     ∙ elim (is_request_body p.body) as (λ k. (if k then (if k then Some (digest_of s p) else None) else None) ≡ (if k then Some (digest_of s p) else None)) [ true ↦ refl | false ↦ refl ]
 
 -- nor has it a head
 pub no_head : (r : PlainRecording) (s i j : ℕ) (b : List ℕ) → bytes_sent r s i ≡ Some b → pair_of r i ≡ Some j
-    → same_id (option_and_then (head_sent r s) (meaning r.setting.exercise b)) (Some i) ≡ false
+    → same_id (option_and_then (sent_head r s) (meaning r.setting.exercise b)) (Some i) ≡ false
 no_head r s i j b sent pair =
     let p = paired r s i j b sent pair in
-    ap (λ m. same_id (option_and_then (head_sent r s) m) (Some i)) p.1
+    ap (λ m. same_id (option_and_then (sent_head r s) m) (Some i)) p.1
     ∙ ap (λ k. same_id (if k then first_below (sends_order r s p.0) (length r.entries) else None) (Some i)) p.2
 
 -- what is taken up was received at the station, and asks for something
 taken_asks : (r : PlainRecording) (s i j : ℕ) (b : List ℕ) → bytes_sent r s i ≡ Some b → pair_of r i ≡ Some j
-    → (q : Pdu) × (got_by r s j ≡ Some q) × (is_request_body q.body ≡ true)
+    → (q : Pdu) × (pdu_received r s j ≡ Some q) × (is_request_body q.body ≡ true)
 unfolding entry_taken_up
 taken_asks r s i j b sent pair = of_meaning (meaning r.setting.exercise b) (sym (pair_sent r s i b sent) ∙ pair)
   where
-    asked : (p : Pdu) → brings_request r s p j ≡ true → (q : Pdu) × (got_by r s j ≡ Some q) × (is_request_body q.body ≡ true)
+    asked : (p : Pdu) → brings_request r s p j ≡ true → (q : Pdu) × (pdu_received r s j ≡ Some q) × (is_request_body q.body ≡ true)
     asked p brings =
-        let got = there (is_asked (station_at r s).address p) (got_by r s j) (sym (brings_is r s p j) ∙ brings) in
+        let got = there (is_asked (station_at r s).address p) (pdu_received r s j) (sym (brings_is r s p j) ∙ brings) in
         (got.0, got.1, (and_parts (is_request_body got.0.body) _ got.2).0)
 
-    of_pdu : (p : Pdu) → pair_of_sent r s i p ≡ Some j → (q : Pdu) × (got_by r s j ≡ Some q) × (is_request_body q.body ≡ true)
+    of_pdu : (p : Pdu) → pair_of_sent r s i p ≡ Some j → (q : Pdu) × (pdu_received r s j ≡ Some q) × (is_request_body q.body ≡ true)
     of_pdu p = elim (is_answer_body p.body) as (λ k. (if k then first_below (brings_request r s p) i else None) ≡ Some j
-        → (q : Pdu) × (got_by r s j ≡ Some q) × (is_request_body q.body ≡ true)) [
+        → (q : Pdu) × (pdu_received r s j ≡ Some q) × (is_request_body q.body ≡ true)) [
           | true ↦ λ taken. asked p (first_found (brings_request r s p) i j taken).passes
           | false ↦ λ h. absurd (cc)
         ]
 
-    of_meaning : (m : Option Pdu) → option_and_then (pair_of_sent r s i) m ≡ Some j → (q : Pdu) × (got_by r s j ≡ Some q) × (is_request_body q.body ≡ true)
+    of_meaning : (m : Option Pdu) → option_and_then (pair_of_sent r s i) m ≡ Some j → (q : Pdu) × (pdu_received r s j ≡ Some q) × (is_request_body q.body ≡ true)
     of_meaning None h = absurd (cc)
     of_meaning (Some p) h = of_pdu p h
 
 -- WHAT IS TAKEN UP was received at the station
-pub paired_got : (r : PlainRecording) (s i j : ℕ) (b : List ℕ) → bytes_sent r s i ≡ Some b → pair_of r i ≡ Some j → is_some (got_by r s j) ≡ true
+pub paired_got : (r : PlainRecording) (s i j : ℕ) (b : List ℕ) → bytes_sent r s i ≡ Some b → pair_of r i ≡ Some j → is_some (pdu_received r s j) ≡ true
 paired_got r s i j b sent pair = ap is_some (taken_asks r s i j b sent pair).1
 
 -- WHAT TAKES UP A REQUEST has a key

@@ -15,10 +15,10 @@ use Rattle.exercise_model.specs.Place.{first_below}
 use Rattle.exercise_model.proofs.Offered.{first_found}
 use Rattle.exercise_review.specs.declared.party.Party.{Party}
 use Rattle.exercise_review.specs.declared.party.Party.TheVariants as parties
-use Rattle.exercise_review.specs.Entries.{got_by}
+use Rattle.exercise_review.specs.Entries.{pdu_received}
 use Rattle.exercise_review.specs.Order.{OrderData, is_first_under_id}
-use Rattle.exercise_review.specs.Party.{is_at, names, is_told_from, tells_from, is_party_outside, is_recorded_at}
-use Rattle.exercise_review.specs.Parties.{number_of, pair_numbered, addresses, outsider_at, party_by, party_at, parties_below, number_heard, candidate_at, is_up_to, with_party, nearer, AreNoParties, IsPartyAt, IsNextParty}
+use Rattle.exercise_review.specs.Party.{is_at, names, is_heard_from, is_answer_from, is_party_outside, is_recorded_at}
+use Rattle.exercise_review.specs.Parties.{number_of, pair_numbered, addresses, site_application, party_by, party_at, parties_below, number_heard, candidate_at, is_up_to, with_party, lower_party, AreNoParties, IsPartyAt, IsNextParty}
 use Rattle.exercise_review.proofs.Runs.{some_passes, there}
 use Rattle.exercise_review.proofs.Lives.{append_none}
 
@@ -41,7 +41,7 @@ at_station r a s h =
 
 -- why an address outside is a party
 why_outside : (r : PlainRecording) (o : OrderData) (a : Pair) → is_party_outside r o a ≡ true
-    → (names o.request.target a || is_some (first_below (is_told_from r o a) (length r.entries))) ≡ true
+    → (names o.request.target a || is_some (first_below (is_heard_from r o a) (length r.entries))) ≡ true
 unfolding is_party_outside
 why_outside r o a h =
     let one = and_parts (is_open r.setting.form) _ h in
@@ -54,12 +54,12 @@ named r o a h =
     let parts = and_parts _ _ both.1 in
     same_number (pair_of o.request.target) a (eqb-true _ _ parts.0) (eqb-true _ _ parts.1)
 
-told_number : (r : PlainRecording) (o : OrderData) (a : Pair) (i : ℕ) → is_told_from r o a i ≡ true → number_heard r o i ≡ Some (number_of a)
-unfolding is_told_from
-told_number r o a i h =
+shown_number : (r : PlainRecording) (o : OrderData) (a : Pair) (i : ℕ) → is_heard_from r o a i ≡ true → number_heard r o i ≡ Some (number_of a)
+unfolding is_heard_from
+shown_number r o a i h =
     let one = and_parts (is_first_under_id r o) _ h in
     let two = and_parts (nat_lt o.head i) _ one.1 in
-    let p = there (tells_from r o a) (option_and_then (λ s. got_by r s i) o.maker) two.1 in
+    let p = there (is_answer_from r o a) (option_and_then (λ s. pdu_received r s i) o.maker) two.1 in
     let from = (and_parts _ _ (and_parts _ _ p.2).1).1 in
     let parts = and_parts _ _ from in
     ap (option_map (λ (p : Pdu). number_of (pair_of p.origin))) p.1
@@ -114,13 +114,13 @@ place_outside r o a h = ⊎_elim
     (λ (e : names o.request.target a ≡ true).
     let number = place_target r o ∙ ap Some (named r o a e) in
     record { place = length r.setting.stations; within = omega arith; number = number })
-    (λ (e : is_some (first_below (is_told_from r o a) (length r.entries)) ≡ true).
-    let told = some_passes (is_told_from r o a) (length r.entries) e in
-    let within : told.0 < length r.entries = (first_found (is_told_from r o a) (length r.entries) told.0 told.1).below in
+    (λ (e : is_some (first_below (is_heard_from r o a) (length r.entries)) ≡ true).
+    let told = some_passes (is_heard_from r o a) (length r.entries) e in
+    let within : told.0 < length r.entries = (first_found (is_heard_from r o a) (length r.entries) told.0 told.1).below in
     record {
       place = length r.setting.stations + 1 + told.0;
       within = omega (arith, within);
-      number = place_heard r o told.0 ∙ told_number r o a told.0 told.2;
+      number = place_heard r o told.0 ∙ shown_number r o a told.0 told.2;
     })
     (or_cases _ _ (why_outside r o a h))
 
@@ -135,7 +135,7 @@ party_place r o a p =
     elim (first_below (is_at r a) (length r.setting.stations)) as
     (λ x. first_below (is_at r a) (length r.setting.stations) ≡ x → party_by r o a x ≡ Some p → IsCandidate r o (number_of a)) [
       | Some s ↦ λ found _. place_of_station r o a s (first_found (is_at r a) (length r.setting.stations) s found).passes
-      | None ↦ λ _ h. place_outside r o a (if_some (is_party_outside r o a) (parties.Outside (outsider_at a)) p h)
+      | None ↦ λ _ h. place_outside r o a (if_some (is_party_outside r o a) (parties.Outside (site_application a)) p h)
     ] refl
 
 -- ---- the nearest of those so far
@@ -167,7 +167,7 @@ up_to_more m n (Some x) l h = le-leb x.0 n (omega (arith, l, leb-true x.0 m h))
 -- with the party at one place more, where it is nearer
 nearest_with : (r : PlainRecording) (o : OrderData) (from k n : ℕ) (next : Option (ℕ × Party)) (p : Option Party) → candidate_at r o k ≡ Some n → n < addresses → from ≤ n
     → is_up_to n next ≡ false → party_at r o (pair_numbered n) ≡ p → IsNearest r o from k next → IsNearest r o from (k + 1) (with_party n next p)
-nearest_with r o from k n next None at small above nearer is so_far = record {
+nearest_with r o from k n next None at small above lower_party is so_far = record {
   found = so_far.found;
   least = λ i m p below at' above' party. ⊎_elim
       (λ (less : i < k). so_far.least i m p less at' above' party)
@@ -177,13 +177,13 @@ nearest_with r o from k n next None at small above nearer is so_far = record {
       absurd (cc (number, is, party)))
       (cases_lt i k);
 }
-nearest_with r o from k n next (Some q) at small above nearer is so_far = record {
+nearest_with r o from k n next (Some q) at small above lower_party is so_far = record {
   found = λ x h. subst (IsPartyAt r o from) (same_Some (n, q) x h) record { above = above; below = small; party = is };
   least = λ i m p below at' above' party. ⊎_elim
       (λ (less : i < k).
       let here : is_up_to m next ≡ true = so_far.least i m p less at' above' party in
       ⊎_elim
-      (λ (low : m < n). let more : is_up_to n next ≡ true = up_to_more m n next (omega (arith, low)) here in absurd (cc (more, nearer)))
+      (λ (low : m < n). let more : is_up_to n next ≡ true = up_to_more m n next (omega (arith, low)) here in absurd (cc (more, lower_party)))
       (λ (high : n ≤ m). le-leb n m high)
       (cases_lt m n))
       (λ (most : k ≤ i).
@@ -212,7 +212,7 @@ nearest_kept r o from k n next at kept so_far = record {
 }
 
 pub nearest_more : (r : PlainRecording) (o : OrderData) (from k n : ℕ) (next : Option (ℕ × Party)) → candidate_at r o k ≡ Some n → n < addresses
-    → IsNearest r o from k next → IsNearest r o from (k + 1) (nearer r o from next n)
+    → IsNearest r o from k next → IsNearest r o from (k + 1) (lower_party r o from next n)
 nearest_more r o from k n next at small so_far =
     elim (nat_lt n from || is_up_to n next) as (λ b. (nat_lt n from || is_up_to n next) ≡ b
     → IsNearest r o from (k + 1) (if b then next else with_party n next (party_at r o (pair_numbered n)))) [

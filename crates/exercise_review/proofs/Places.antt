@@ -13,14 +13,14 @@ use Rattle.exercise_review.specs.declared.fate.Fate.{Fate}
 use Rattle.exercise_review.specs.declared.fate.Fate.TheVariants as fates
 use Rattle.exercise_review.specs.declared.party.Party.{Party}
 use Rattle.exercise_review.specs.declared.party.Party.TheVariants as parties
-use Rattle.exercise_review.specs.declared.row.Row.{Row}
+use Rattle.exercise_review.specs.declared.row.OrderRow.{OrderRow}
 use Rattle.exercise_review.specs.declared.told.OrderAt.{OrderAt}
-use Rattle.exercise_review.specs.declared.told.Told.{Told}
+use Rattle.exercise_review.specs.declared.told.OrderReview.{OrderReview}
 use Rattle.exercise_review.specs.declared.tally.Counts.{Counts}
-use Rattle.exercise_review.specs.Told.{orders_of, orders_told}
+use Rattle.exercise_review.specs.Told.{orders_of, reviewed_orders}
 use Rattle.exercise_review.specs.Counted.{count_below, count_at}
 use Rattle.exercise_review.specs.Order.{OrderData}
-use Rattle.exercise_review.specs.Tally.{fate_number, same_fate, is_station, is_fate, is_fate_at, passes_at, many, counts_by, fates_of, fates_at, row_numbers, makers_of, IsTold, AreCounted, is_entry_of, is_made_by, place_at, row_place, row_places, maker_places}
+use Rattle.exercise_review.specs.Tally.{fate_number, same_fate, is_station, is_fate, is_fate_at, passes_at, many, fate_counts, fates_of, fates_at, row_numbers, makers_of, IsReviewBelow, AreCounted, is_entry_of, is_made_by, place_at, row_place, row_places, maker_places}
 use Rattle.exercise_review.specs.Records.{entry_places}
 use Rattle.exercise_review.specs.Row.{AreRows}
 use Rattle.exercise_review.proofs.Orders.{told_all}
@@ -39,18 +39,18 @@ entries_counted r s n end =
     ]
 
 -- what was told on the way is told of all orders, and these are their makers
-pub orders_are_told : (r : PlainRecording) (t : Told) → IsTold r (length r.entries) t → AreRows r t.rows.items (orders_told r)
+pub orders_are_told : (r : PlainRecording) (t : OrderReview) → IsReviewBelow r (length r.entries) t → AreRows r t.rows.items (reviewed_orders r)
 orders_are_told r t told = told.rows ∙ ap (map Some) (told_all r)
 
-pub orders_of_makers : (r : PlainRecording) (t : Told) → IsTold r (length r.entries) t → t.makers.items ≡ makers_of (orders_of r)
+pub orders_of_makers : (r : PlainRecording) (t : OrderReview) → IsReviewBelow r (length r.entries) t → t.makers.items ≡ makers_of (orders_of r)
 unfolding orders_of
 orders_of_makers r t told = told.makers
 
-pub order_count : (r : PlainRecording) (t : Told) → IsTold r (length r.entries) t → length t.makers.items ≡ length (orders_of r)
+pub order_count : (r : PlainRecording) (t : OrderReview) → IsReviewBelow r (length r.entries) t → length t.makers.items ≡ length (orders_of r)
 order_count r t told = ap length (orders_of_makers r t told) ∙ length-map (orders_of r) (λ (o : OrderData). o.maker)
 
 -- the entries of a station that were counted on the way are those of its log
-pub records_told : (r : PlainRecording) (t : Told) (s : ℕ) → IsTold r (length r.entries) t → s < length r.setting.stations
+pub records_told : (r : PlainRecording) (t : OrderReview) (s : ℕ) → IsReviewBelow r (length r.entries) t → s < length r.setting.stations
     → slice_index_or t.records.items s 0 ≡ many (is_entry_of s) r.entries
 records_told r t s told l = told.records.each s l ∙ entries_counted r s (length r.entries) refl
 
@@ -103,7 +103,7 @@ fate_same s f g None = refl
 fate_same s f g (Some (parties.Station t)) = one_place t s (fate_number g) (fate_number f) (few_fates g) (few_fates f)
 fate_same s f g (Some (parties.Outside a)) = refl
 
-pub fates_counted : (r : PlainRecording) (rows : List Row) (xs : List OrderAt) (s n : ℕ) (f : Fate) → AreRows r rows xs → n ≡ length rows
+pub fates_counted : (r : PlainRecording) (rows : List OrderRow) (xs : List OrderAt) (s n : ℕ) (f : Fate) → AreRows r rows xs → n ≡ length rows
     → count_at (row_places rows) (s * 9 + fate_number f) n ≡ many (is_fate_at s f) xs
 unfolding count_at many row_places passes_at
 fates_counted r rows xs s n f are end =
@@ -114,7 +114,7 @@ fates_counted r rows xs s n f are end =
     placed : Option (Option ℕ) → Bool
     placed o = same_id (option_and_then (λ (p : Option ℕ). p) o) (Some (s * 9 + fate_number f))
 
-    of_row : (y : Option Row) → same_id (option_and_then row_place y) (Some (s * 9 + fate_number f)) ≡ placed (option_map row_place y)
+    of_row : (y : Option OrderRow) → same_id (option_and_then row_place y) (Some (s * 9 + fate_number f)) ≡ placed (option_map row_place y)
     of_row None = refl
     of_row (Some y) = refl
 
@@ -133,7 +133,7 @@ fates_counted r rows xs s n f are end =
 pub place_within : (s n : ℕ) (f : Fate) → s < n → s * 9 + fate_number f < n * 9
 place_within s n f l = let few = few_fates f in omega (arith, few, l)
 
-counts_same : (f g : Fate → ℕ) → ((x : Fate) → f x ≡ g x) → counts_by f ≡ counts_by g
+counts_same : (f g : Fate → ℕ) → ((x : Fate) → f x ≡ g x) → fate_counts f ≡ fate_counts g
 counts_same f g same =
     rw (
       same fates.Done,
@@ -149,12 +149,12 @@ counts_same f g same =
 
 -- the nine places of a station are the counts of its fates
 pub fates_are : (r : PlainRecording) (c : Counts) (s : ℕ) → AreCounted r c → s < length r.setting.stations
-    → counts_by (λ f. slice_index_or c.fates.items (s * 9 + fate_number f) 0) ≡ fates_at s (orders_told r)
+    → fate_counts (λ f. slice_index_or c.fates.items (s * 9 + fate_number f) 0) ≡ fates_at s (reviewed_orders r)
 unfolding fates_at
-fates_are r c s are l = counts_same (λ f. slice_index_or c.fates.items (s * 9 + fate_number f) 0) (λ f. many (is_fate_at s f) (orders_told r)) (are.fates s l)
+fates_are r c s are l = counts_same (λ f. slice_index_or c.fates.items (s * 9 + fate_number f) 0) (λ f. many (is_fate_at s f) (reviewed_orders r)) (are.fates s l)
 
 -- the places of all fates are their counts
-fates_numbered : (r : PlainRecording) (rows : List Row) (xs : List OrderAt) (f : Fate) (n : ℕ) → AreRows r rows xs → n ≡ length rows
+fates_numbered : (r : PlainRecording) (rows : List OrderRow) (xs : List OrderAt) (f : Fate) (n : ℕ) → AreRows r rows xs → n ≡ length rows
     → count_at (row_numbers rows) (fate_number f) n ≡ many (is_fate f) xs
 unfolding count_at many row_numbers passes_at
 fates_numbered r rows xs f n are end =
@@ -167,13 +167,13 @@ fates_numbered r rows xs f n are end =
 
     same : (i : ℕ) → same_id (row_numbers rows i) (Some (fate_number f)) ≡ passes_at (is_fate f) xs i
     same i =
-        ap (λ o. same_id o (Some (fate_number f))) (counted_alike r rows xs i (λ (y : Row). fate_number y.fate) (λ (x : OrderAt). fate_number x.outcome.fate) are
+        ap (λ o. same_id o (Some (fate_number f))) (counted_alike r rows xs i (λ (y : OrderRow). fate_number y.fate) (λ (x : OrderAt). fate_number x.outcome.fate) are
         (λ y t fate party. ap fate_number fate))
         ∙ of_told (slice_get xs i)
 
-pub all_fates : (r : PlainRecording) (rows : List Row) (xs : List OrderAt) (counts : List ℕ) (n : ℕ) → AreRows r rows xs → n ≡ length rows
+pub all_fates : (r : PlainRecording) (rows : List OrderRow) (xs : List OrderAt) (counts : List ℕ) (n : ℕ) → AreRows r rows xs → n ≡ length rows
     → ((k : ℕ) → k < 9 → slice_index_or counts k 0 ≡ count_at (row_numbers rows) k n)
-    → counts_by (λ f. slice_index_or counts (0 + fate_number f) 0) ≡ fates_of xs
+    → fate_counts (λ f. slice_index_or counts (0 + fate_number f) 0) ≡ fates_of xs
 unfolding fates_of
 all_fates r rows xs counts n are end each =
     counts_same (λ f. slice_index_or counts (0 + fate_number f) 0) (λ f. many (is_fate f) xs) (λ f.

@@ -14,13 +14,13 @@ use Rattle.std.proofs.lemmas.Option.{same_Some, slice_get_within}
 use Rattle.exercise_findings.specs.Number.{entry_of}
 use Rattle.exercise_review.specs.Counted.{last_below}
 use Rattle.exercise_review.specs.Register.{Keys, holds, no_entry, key_numbered, IsPlaced, AreRegistered, IsKept}
-use Rattle.exercise_review.specs.declared.ways.Ways.{Ways}
+use Rattle.exercise_review.specs.declared.entry_chains.EntryChains.{EntryChains}
 use Rattle.exercise_review.proofs.KeyList.{one_place, at_front, at_either}
 use Rattle.exercise_review.proofs.Runs.{there}
 use Rattle.exercise_review.proofs.FirstOnes.{off}
 use Rattle.exercise_review.proofs.Walks.{last_found}
 
-pub registered_none : (keys : ℕ → Option ℕ) (w : Ways) → length w.keys.keys ≡ 0 → IsDistinct nat_eq w.keys.keys → length w.last.items ≡ 0 → length w.places.items ≡ 0
+pub registered_none : (keys : ℕ → Option ℕ) (w : EntryChains) → length w.keys.keys ≡ 0 → IsDistinct nat_eq w.keys.keys → length w.last.items ≡ 0 → length w.places.items ≡ 0
     → AreRegistered keys 0 w
 unfolding last_below
 registered_none keys w none unique last places = record {
@@ -64,7 +64,7 @@ holds_other keys n k l is other = off (holds keys l n) (λ has. other (same_Some
 
 -- ---- an entry without a key
 
-pub registered_still : (keys : ℕ → Option ℕ) (n : ℕ) (w : Ways) → keys n ≡ None → AreRegistered keys n w → AreRegistered keys (n + 1) w
+pub registered_still : (keys : ℕ → Option ℕ) (n : ℕ) (w : EntryChains) → keys n ≡ None → AreRegistered keys n w → AreRegistered keys (n + 1) w
 registered_still keys n w none so_far = record {
   unique = so_far.unique;
   count = so_far.count;
@@ -84,7 +84,7 @@ registered_still keys n w none so_far = record {
 }
 
 -- none has one from where the column of places ends
-pub unplaced : (keys : ℕ → Option ℕ) (n i : ℕ) (w : Ways) → AreRegistered keys n w → length w.places.items ≤ i → i < n → keys i ≡ None
+pub unplaced : (keys : ℕ → Option ℕ) (n i : ℕ) (w : EntryChains) → AreRegistered keys n w → length w.places.items ≤ i → i < n → keys i ≡ None
 unplaced keys n i w so_far past below =
     sym (so_far.places i below).is ∙ ap (key_numbered w.keys) (get_or-eq_default w.places.items no_entry {n = i} past)
 
@@ -100,7 +100,7 @@ here {X} n x y = ap (λ b. if b then x else y) (eq-eqb n n refl)
 elsewhere : {X : Type 0} (i n : ℕ) (x y : X) → (i ≡ n → ⊥) → (if nat_eq i n then x else y) ≡ y
 elsewhere {X} i n x y other = ap (λ b. if b then x else y) (ne_eqb i n other)
 
-pub registered_more : (keys : ℕ → Option ℕ) (n p k : ℕ) (old new : Ways) → n < no_entry → p < no_entry → keys n ≡ Some k → slice_get old.keys.keys p ≡ Some k
+pub registered_more : (keys : ℕ → Option ℕ) (n p k : ℕ) (old new : EntryChains) → n < no_entry → p < no_entry → keys n ≡ Some k → slice_get old.keys.keys p ≡ Some k
     → IsKept n p old new → AreRegistered keys n old → AreRegistered keys (n + 1) new
 registered_more keys n p k old new few small key at kept so_far = record {
   unique = subst (λ (x : Keys). IsDistinct nat_eq x.keys) (sym kept.keys) so_far.unique;
@@ -146,7 +146,7 @@ registered_more keys n p k old new few small key at kept so_far = record {
 -- ---- a key that is new
 
 -- no entry so far has a key that stands nowhere
-pub none_sought : (keys : ℕ → Option ℕ) (n k : ℕ) (w : Ways) → AreRegistered keys n w → list_any (nat_eq k) w.keys.keys ≡ false → last_below (holds keys k) n ≡ None
+pub none_sought : (keys : ℕ → Option ℕ) (n k : ℕ) (w : EntryChains) → AreRegistered keys n w → list_any (nat_eq k) w.keys.keys ≡ false → last_below (holds keys k) n ≡ None
 none_sought keys n k w so_far absent = by_last (last_below (holds keys k) n) refl
   where
     stands : (i : ℕ) → i < n → keys i ≡ Some k → ⊥
@@ -161,7 +161,7 @@ none_sought keys n k w so_far absent = by_last (last_below (holds keys k) n) ref
     by_last None e = refl
     by_last (Some i) e = let found = last_found (holds keys k) n i e in absurd (stands i found.0 (held_key keys i k found.1))
 
-pub registered_new : (keys : ℕ → Option ℕ) (n k : ℕ) (old new : Ways) → list_any (nat_eq k) old.keys.keys ≡ false → IsDistinct nat_eq new.keys.keys
+pub registered_new : (keys : ℕ → Option ℕ) (n k : ℕ) (old new : EntryChains) → list_any (nat_eq k) old.keys.keys ≡ false → IsDistinct nat_eq new.keys.keys
     → new.keys.keys ≡ old.keys.keys ++ k ∷ [] → new.last.items ≡ old.last.items ++ no_entry ∷ [] → new.places ≡ old.places → new.before ≡ old.before
     → AreRegistered keys n old → AreRegistered keys n new
 registered_new keys n k old new absent unique more last places before so_far = record {
@@ -191,21 +191,21 @@ registered_new keys n k old new absent unique more last places before so_far = r
     place_of (Some l) number was = record { is = at_more l (entry_of number) was.is; none = was.none }
 
 -- AN ENTRY THAT IS KEPT as the last under a key has that key
-pub key_of_last : (keys : ℕ → Option ℕ) (n p k i : ℕ) (w : Ways) → AreRegistered keys n w → slice_get w.keys.keys p ≡ Some k
+pub key_of_last : (keys : ℕ → Option ℕ) (n p k i : ℕ) (w : EntryChains) → AreRegistered keys n w → slice_get w.keys.keys p ≡ Some k
     → entry_of (slice_index_or w.last.items p no_entry) ≡ Some i → (i < n) × (keys i ≡ Some k)
 key_of_last keys n p k i w so_far at is =
     let found = last_found (holds keys k) n i (sym (so_far.last p k at) ∙ is) in
     (found.0, held_key keys i k found.1)
 
 -- where the key of an entry stands, the last entry under it is kept
-pub last_of_key : (keys : ℕ → Option ℕ) (n p k i : ℕ) (w : Ways) → AreRegistered keys n w → i < n → holds keys k i ≡ true
+pub last_of_key : (keys : ℕ → Option ℕ) (n p k i : ℕ) (w : EntryChains) → AreRegistered keys n w → i < n → holds keys k i ≡ true
     → entry_of (slice_index_or w.places.items i no_entry) ≡ Some p → entry_of (slice_index_or w.last.items p no_entry) ≡ last_below (holds keys k) n
 last_of_key keys n p k i w so_far within has at =
     so_far.last p k (ap (option_and_then (slice_get w.keys.keys)) (sym at) ∙ (so_far.places i within).is ∙ held_key keys i k has)
 
 -- ---- what is kept where there was memory for it
 
-pub kept_more : (n p k : ℕ) (old mid new : Ways) (told : Option ℕ) (result : Result (Unit {0}) AllocError) → n < no_entry → p < no_entry → told ≡ Some k
+pub kept_more : (n p k : ℕ) (old mid new : EntryChains) (told : Option ℕ) (result : Result (Unit {0}) AllocError) → n < no_entry → p < no_entry → told ≡ Some k
     → slice_get mid.keys.keys p ≡ Some k → ((keys : ℕ → Option ℕ) → AreRegistered keys n old → AreRegistered keys n mid) → OnOk result (IsKept n p mid new)
     → OnOk result ((keys : ℕ → Option ℕ) → told ≡ keys n → AreRegistered keys n old → AreRegistered keys (n + 1) new)
 kept_more n p k old mid new told (Err e) few small is at same kept = tt
@@ -223,5 +223,5 @@ is_placed keys (Some k) number placed = has (entry_of number) placed.is
     has None h = absurd (cc)
     has (Some x) h = refl
 
-pub is_keyed : (keys : ℕ → Option ℕ) (n i : ℕ) (w : Ways) → AreRegistered keys n w → i < n → is_some (entry_of (slice_index_or w.places.items i no_entry)) ≡ is_some (keys i)
-is_keyed keys n i w tied within = is_placed w.keys (keys i) (slice_index_or w.places.items i no_entry) (tied.places i within)
+pub is_indexed : (keys : ℕ → Option ℕ) (n i : ℕ) (w : EntryChains) → AreRegistered keys n w → i < n → is_some (entry_of (slice_index_or w.places.items i no_entry)) ≡ is_some (keys i)
+is_indexed keys n i w tied within = is_placed w.keys (keys i) (slice_index_or w.places.items i no_entry) (tied.places i within)

@@ -11,16 +11,16 @@ use Rattle.exercise_model.specs.Recording.{PlainRecording}
 use Rattle.exercise_model.specs.Place.{first_below}
 use Rattle.exercise_model.proofs.Offered.{first_found, first_is}
 use Rattle.exercise_review.specs.Counted.{last_below}
-use Rattle.exercise_review.specs.Entries.{bytes_sent, bytes_got, sent_by}
+use Rattle.exercise_review.specs.Entries.{bytes_sent, bytes_received, pdu_sent}
 use Rattle.exercise_review.specs.declared.reply.Reply.{Reply}
-use Rattle.exercise_review.specs.Gathered.{first_news, last_news, word_in}
+use Rattle.exercise_review.specs.StationTrace.{first_news, last_news, word_in}
 use Rattle.exercise_review.specs.Heard.{gets_in}
 use Rattle.exercise_review.specs.News.{hears_at, first_heard, last_heard, earlier, later}
 use Rattle.exercise_review.specs.Order.{OrderData}
 use Rattle.exercise_review.specs.Reply.{answers_order, is_reply, replies_in, has_reply_in, is_news}
 use Rattle.exercise_review.specs.Word.{word_of, word_at, settles, settles_at, is_settling, first_settling}
 use Rattle.exercise_review.proofs.Heard.{meant_got, meant_sent}
-use Rattle.exercise_review.proofs.Runs.{none_passes, some_passes, there, meant_in}
+use Rattle.exercise_review.proofs.Runs.{none_passes, some_passes, there, pdu_in_log}
 use Rattle.exercise_review.proofs.Walks.{past, last_found}
 
 off : (b : Bool) → (b ≡ true → ⊥) → b ≡ false
@@ -290,40 +290,40 @@ greatest_ends p g n best test hears is =
 -- ---- the news of the replies
 
 -- what is heard has the same bytes
-same_bytes : (r : PlainRecording) (s t j i : ℕ) → hears_at r s t j i ≡ true → (b : List ℕ) × ((bytes_sent r t j ≡ Some b) × (bytes_got r s i ≡ Some b))
+same_bytes : (r : PlainRecording) (s t j i : ℕ) → hears_at r s t j i ≡ true → (b : List ℕ) × ((bytes_sent r t j ≡ Some b) × (bytes_received r s i ≡ Some b))
 unfolding gets_in
 same_bytes r s t j i h =
     let sent = there (λ b. gets_in r s b i) (bytes_sent r t j) h in
-    let got = there (bytes_eq sent.0) (bytes_got r s i) sent.2 in
+    let got = there (bytes_eq sent.0) (bytes_received r s i) sent.2 in
     (sent.0, (sent.1, got.1 ∙ ap Some (sym ((bytes_decides sent.0 got.0).0 got.2))))
 
-bytes_same : (r : PlainRecording) (s t j i : ℕ) (b : List ℕ) → bytes_sent r t j ≡ Some b → bytes_got r s i ≡ Some b → hears_at r s t j i ≡ true
+bytes_same : (r : PlainRecording) (s t j i : ℕ) (b : List ℕ) → bytes_sent r t j ≡ Some b → bytes_received r s i ≡ Some b → hears_at r s t j i ≡ true
 unfolding gets_in
 bytes_same r s t j i b sent got =
     ap (λ o. option_map_or (λ c. gets_in r s c i) o false) sent ∙ ap (λ o. option_map_or (bytes_eq b) o false) got ∙ (bytes_decides b b).1 refl
 
-settles_alike : (r : PlainRecording) (s t j i : ℕ) (b : List ℕ) → bytes_sent r t j ≡ Some b → bytes_got r s i ≡ Some b → settles_at r j ≡ settles_at r i
+settles_alike : (r : PlainRecording) (s t j i : ℕ) (b : List ℕ) → bytes_sent r t j ≡ Some b → bytes_received r s i ≡ Some b → settles_at r j ≡ settles_at r i
 unfolding settles_at
 settles_alike r s t j i b sent got = ap (λ o. option_map_or (λ p. settles p.body) o false) (meant_sent r t j b sent ∙ sym (meant_got r s i b got))
 
 -- a reply whose bytes are heard is news
 reply_is_news : (r : PlainRecording) (o : OrderData) (s t j i : ℕ) (b : List ℕ) → o.maker ≡ Some s → is_reply r o t j ≡ true → j < length r.entries
-    → bytes_sent r t j ≡ Some b → bytes_got r s i ≡ Some b → is_news r o t i ≡ true
+    → bytes_sent r t j ≡ Some b → bytes_received r s i ≡ Some b → is_news r o t i ≡ true
 unfolding is_news has_reply_in replies_in
 reply_is_news r o s t j i b maker replies within sent got =
     let here : replies_in r o t b j ≡ true = and_from _ _ replies (ap (λ c. option_map_or (bytes_eq b) c false) sent ∙ (bytes_decides b b).1 refl) in
     let some = first_by (replies_in r o t b) (length r.entries) j here within in
-    ap (λ (m : Option ℕ). option_map_or (has_reply_in r o t) (option_and_then (λ x. bytes_got r x i) m) false) maker
+    ap (λ (m : Option ℕ). option_map_or (has_reply_in r o t) (option_and_then (λ x. bytes_received r x i) m) false) maker
     ∙ ap (λ c. option_map_or (has_reply_in r o t) c false) got
     ∙ ap is_some some.1
 
 -- and news has the bytes of a reply
 news_is_reply : (r : PlainRecording) (o : OrderData) (s t i : ℕ) → o.maker ≡ Some s → is_news r o t i ≡ true
-    → (j : ℕ) × ((j < length r.entries) × ((is_reply r o t j ≡ true) × ((b : List ℕ) × ((bytes_sent r t j ≡ Some b) × (bytes_got r s i ≡ Some b)))))
+    → (j : ℕ) × ((j < length r.entries) × ((is_reply r o t j ≡ true) × ((b : List ℕ) × ((bytes_sent r t j ≡ Some b) × (bytes_received r s i ≡ Some b)))))
 unfolding is_news has_reply_in replies_in
 news_is_reply r o s t i maker news =
-    let got = there (has_reply_in r o t) (bytes_got r s i)
-    (sym (ap (λ (m : Option ℕ). option_map_or (has_reply_in r o t) (option_and_then (λ x. bytes_got r x i) m) false) maker) ∙ news) in
+    let got = there (has_reply_in r o t) (bytes_received r s i)
+    (sym (ap (λ (m : Option ℕ). option_map_or (has_reply_in r o t) (option_and_then (λ x. bytes_received r x i) m) false) maker) ∙ news) in
     let j = some_passes (replies_in r o t got.0) (length r.entries) got.2 in
     let parts = and_parts (is_reply r o t j.0) _ j.2 in
     let sent = there (bytes_eq got.0) (bytes_sent r t j.0) parts.1 in (
@@ -352,9 +352,9 @@ settled_heard r o s t maker = (
       and_from _ _ (reply_is_news r o s t j.0 i b.0 maker parts.0 j.1.0 b.1.0 b.1.1) (sym (settles_alike r s t j.0 i b.0 b.1.0 b.1.1) ∙ parts.1),
 )
 
-pub all_heard : (r : PlainRecording) (o : OrderData) (s t : ℕ) → o.maker ≡ Some s
+pub are_all_received : (r : PlainRecording) (o : OrderData) (s t : ℕ) → o.maker ≡ Some s
     → Hears (is_reply r o t) (hears_at r s t) (length r.entries) (is_news r o t)
-all_heard r o s t maker = (
+are_all_received r o s t maker = (
   λ i within passes.
       let j = news_is_reply r o s t i maker passes in
       let b = j.1.1.1 in
@@ -367,10 +367,10 @@ all_heard r o s t maker = (
 
 -- where a reply was heard
 reply_bytes : (r : PlainRecording) (o : OrderData) (t j : ℕ) → is_reply r o t j ≡ true → (b : List ℕ) × (bytes_sent r t j ≡ Some b)
-unfolding is_reply sent_by
+unfolding is_reply pdu_sent
 reply_bytes r o t j h =
-    let q = there (λ (x : Pdu). is_answer_to x o.request) (sent_by r t j) (and_parts (answers_order r o t j) _ h).0 in
-    let b = meant_in r (bytes_sent r t j) q.0 q.1 in
+    let q = there (λ (x : Pdu). is_answer_to x o.request) (pdu_sent r t j) (and_parts (answers_order r o t j) _ h).0 in
+    let b = pdu_in_log r (bytes_sent r t j) q.0 q.1 in
     (b.0, b.1)
 
 pub first_is_heard : (r : PlainRecording) (o : OrderData) (s t j : ℕ) → is_reply r o t j ≡ true
@@ -391,7 +391,7 @@ last_is_heard r o s t j replies =
 
 no_news : (r : PlainRecording) (o : OrderData) (t i : ℕ) → o.maker ≡ None → is_news r o t i ≡ false
 unfolding is_news
-no_news r o t i none = ap (λ (m : Option ℕ). option_map_or (has_reply_in r o t) (option_and_then (λ s. bytes_got r s i) m) false) none
+no_news r o t i none = ap (λ (m : Option ℕ). option_map_or (has_reply_in r o t) (option_and_then (λ s. bytes_received r s i) m) false) none
 
 pub none_settled : (r : PlainRecording) (o : OrderData) (t : ℕ) → o.maker ≡ None → None ≡ first_settling r (is_news r o t)
 unfolding first_settling
@@ -425,7 +425,7 @@ all_by r o t None none = (
   λ i within passes. absurd (let no : true ≡ false = sym passes ∙ no_news r o t i none in cc),
   λ i heard. absurd (let no : false ≡ true = heard.1.1.1.1 in cc),
 )
-all_by r o t (Some s) is = all_heard r o s t is
+all_by r o t (Some s) is = are_all_received r o s t is
 
 pub all_news : (r : PlainRecording) (o : OrderData) (t : ℕ) → Hears (is_reply r o t) (hears r o.maker t) (length r.entries) (is_news r o t)
 all_news r o t = all_by r o t o.maker refl
@@ -466,7 +466,7 @@ sent_word r t j b sent = ap (option_and_then (λ p. word_of p.body)) (meant_sent
 got_word : (r : PlainRecording) (s i : ℕ) (b : List ℕ) → gets_in r s b i ≡ true → word_at r i ≡ word_in r b
 unfolding word_at gets_in
 got_word r s i b h =
-    let got = there (bytes_eq b) (bytes_got r s i) h in
+    let got = there (bytes_eq b) (bytes_received r s i) h in
     ap (option_and_then (λ p. word_of p.body)) (meant_got r s i b (got.1 ∙ ap Some (sym ((bytes_decides b got.0).0 got.2))))
 
 pub spoken_there : (r : PlainRecording) (t j : ℕ) (found : Option Reply) → IfSome found (λ (x : Reply). bytes_sent r t j ≡ Some x.bytes.now)

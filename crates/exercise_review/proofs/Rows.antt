@@ -15,16 +15,16 @@ use Rattle.exercise_model.proofs.Offered.{first_found}
 use Rattle.exercise_review.specs.declared.outcome.Outcome.{Outcome}
 use Rattle.exercise_review.specs.declared.party.Party.{Party}
 use Rattle.exercise_review.specs.declared.party.Party.TheVariants as parties
-use Rattle.exercise_review.specs.declared.row.Row.{Row}
+use Rattle.exercise_review.specs.declared.row.OrderRow.{OrderRow}
 use Rattle.exercise_review.specs.declared.told.OrderAt.{OrderAt}
 use Rattle.exercise_review.specs.Counted.{last_below, count_below}
 use Rattle.exercise_review.specs.Order.{OrderData, made_by, order_of_entry, order_at, head_of, sends_order, sends_of}
-use Rattle.exercise_review.specs.Outcome.{outcome_at, outcome_nowhere}
+use Rattle.exercise_review.specs.Outcome.{outcome_at, partyless_outcome}
 use Rattle.exercise_review.specs.Party.{first_copy, is_copy}
 use Rattle.exercise_review.specs.Reply.{change_of_order}
-use Rattle.exercise_review.specs.Row.{outcome_kept, row_told, AreRows, IsAmong, IsKept}
-use Rattle.exercise_review.specs.Told.{order_told}
-use Rattle.exercise_review.specs.Word.{telling, first_settling}
+use Rattle.exercise_review.specs.Row.{row_outcome, row_order, AreRows, IsAmong, IsKept}
+use Rattle.exercise_review.specs.Told.{order_at_party}
+use Rattle.exercise_review.specs.Word.{decisive_entry, first_settling}
 use Rattle.exercise_review.proofs.Tallies.{count_most}
 use Rattle.exercise_review.proofs.Walks.{last_found}
 
@@ -44,8 +44,8 @@ among_either : (r : PlainRecording) (a b : Option ℕ) → IsAmong r a → IsAmo
 among_either r None b first second = second
 among_either r (Some i) b first second = first
 
-among_telling : (r : PlainRecording) (test : ℕ → Bool) → IsAmong r (telling r test)
-unfolding telling first_settling
+among_telling : (r : PlainRecording) (test : ℕ → Bool) → IsAmong r (decisive_entry r test)
+unfolding decisive_entry first_settling
 among_telling r test = among_either r (first_settling r test) (last_below test (length r.entries)) (among_first r _) (among_last r test)
 
 among_copies : (r : PlainRecording) (o : OrderData) (t : ℕ) → IsAmong r (first_copy r o t)
@@ -88,7 +88,7 @@ pub kept_is : (r : PlainRecording) (o : OrderData) (x : Outcome) (p : Party) →
 kept_is r o x p is = subst (IsKept r o) (sym is) (kept_at r o p)
 
 -- and where there is none
-pub kept_nowhere : (r : PlainRecording) (o : OrderData) → IsKept r o (outcome_nowhere r o)
+pub kept_nowhere : (r : PlainRecording) (o : OrderData) → IsKept r o (partyless_outcome r o)
 kept_nowhere r o = record { sends = refl; receipts = refl; count = tt; said = refl; heard = refl; took = refl; got = tt; answer = tt; news = tt; change = tt }
 
 few : (n m : ℕ) (o : Option ℕ) → n < m → IfSome o (λ i. i ≤ n) → IfSome o (λ i. i < m)
@@ -163,65 +163,65 @@ head_among r i some = here (order_at r i) refl
     here (Some o) is = among_entries r i o is
 
 -- a row that tells something has its order
-pub order_there : (r : PlainRecording) (y : Row) → is_some (row_told r y) ≡ true → is_some (order_at r y.head) ≡ true
-unfolding row_told
+pub order_there : (r : PlainRecording) (y : OrderRow) → is_some (row_order r y) ≡ true → is_some (order_at r y.head) ≡ true
+unfolding row_order
 order_there r y some = here (order_at r y.head) some
   where
-    here : (o : Option OrderData) → is_some (option_map (λ p. order_told r p (outcome_kept r p y)) o) ≡ true → is_some o ≡ true
+    here : (o : Option OrderData) → is_some (option_map (λ p. order_at_party r p (row_outcome r p y)) o) ≡ true → is_some o ≡ true
     here None some = some
     here (Some o) some = refl
 
 -- ---- what rows are counted by
 
-same_fate_kept : (r : PlainRecording) (y : Row) (t : OrderAt) → row_told r y ≡ Some t → (y.fate ≡ t.outcome.fate) × (y.party ≡ t.outcome.party)
-unfolding row_told
+same_fate_kept : (r : PlainRecording) (y : OrderRow) (t : OrderAt) → row_order r y ≡ Some t → (y.fate ≡ t.outcome.fate) × (y.party ≡ t.outcome.party)
+unfolding row_order
 same_fate_kept r y t told = here (order_at r y.head) told
   where
-    here : (o : Option OrderData) → option_map (λ p. order_told r p (outcome_kept r p y)) o ≡ Some t → (y.fate ≡ t.outcome.fate) × (y.party ≡ t.outcome.party)
+    here : (o : Option OrderData) → option_map (λ p. order_at_party r p (row_outcome r p y)) o ≡ Some t → (y.fate ≡ t.outcome.fate) × (y.party ≡ t.outcome.party)
     here None is = absurd (cc)
     here (Some p) is =
-        let same : order_told r p (outcome_kept r p y) ≡ t = same_Some (order_told r p (outcome_kept r p y)) t is in
+        let same : order_at_party r p (row_outcome r p y) ≡ t = same_Some (order_at_party r p (row_outcome r p y)) t is in
         (ap (λ (x : OrderAt). x.outcome.fate) same, ap (λ (x : OrderAt). x.outcome.party) same)
 
-pub rows_count : (r : PlainRecording) (rows : List Row) (told : List OrderAt) → AreRows r rows told → length rows ≡ length told
-rows_count r rows told are = sym (length-map rows (row_told r)) ∙ ap length are ∙ length-map told Some
+pub rows_count : (r : PlainRecording) (rows : List OrderRow) (told : List OrderAt) → AreRows r rows told → length rows ≡ length told
+rows_count r rows told are = sym (length-map rows (row_order r)) ∙ ap length are ∙ length-map told Some
 
 -- the row at each place tells what stands there
-pub row_at : (r : PlainRecording) (rows : List Row) (told : List OrderAt) (i : ℕ) → AreRows r rows told
-    → option_map (row_told r) (slice_get rows i) ≡ option_map Some (slice_get told i)
-row_at r rows told i are = sym (slice_get-map (row_told r) rows i) ∙ ap (λ (xs : List (Option OrderAt)). slice_get xs i) are ∙ slice_get-map Some told i
+pub row_at : (r : PlainRecording) (rows : List OrderRow) (told : List OrderAt) (i : ℕ) → AreRows r rows told
+    → option_map (row_order r) (slice_get rows i) ≡ option_map Some (slice_get told i)
+row_at r rows told i are = sym (slice_get-map (row_order r) rows i) ∙ ap (λ (xs : List (Option OrderAt)). slice_get xs i) are ∙ slice_get-map Some told i
 
 -- what rows and what they tell are counted by is the same, where it goes by the fate and the party
-pub counted_alike : {X : Type 0} (r : PlainRecording) (rows : List Row) (told : List OrderAt) (i : ℕ) (f : Row → X) (g : OrderAt → X) → AreRows r rows told
-    → ((y : Row) (t : OrderAt) → y.fate ≡ t.outcome.fate → y.party ≡ t.outcome.party → f y ≡ g t)
+pub counted_alike : {X : Type 0} (r : PlainRecording) (rows : List OrderRow) (told : List OrderAt) (i : ℕ) (f : OrderRow → X) (g : OrderAt → X) → AreRows r rows told
+    → ((y : OrderRow) (t : OrderAt) → y.fate ≡ t.outcome.fate → y.party ≡ t.outcome.party → f y ≡ g t)
     → option_map f (slice_get rows i) ≡ option_map g (slice_get told i)
 counted_alike r rows told i f g are same = here (slice_get rows i) (slice_get told i) (row_at r rows told i are)
   where
-    here : (y : Option Row) (t : Option OrderAt) → option_map (row_told r) y ≡ option_map Some t → option_map f y ≡ option_map g t
+    here : (y : Option OrderRow) (t : Option OrderAt) → option_map (row_order r) y ≡ option_map Some t → option_map f y ≡ option_map g t
     here None None is = refl
     here None (Some t) is = absurd (cc)
     here (Some y) None is = absurd (cc)
     here (Some y) (Some t) is =
-        let kept = same_fate_kept r y t (same_Some (row_told r y) (Some t) is) in
+        let kept = same_fate_kept r y t (same_Some (row_order r y) (Some t) is) in
         ap Some (same y t kept.0 kept.1)
 
 -- ---- rows one by one
 
 -- the row at a place that has a line tells that
-pub row_there : (r : PlainRecording) (rows : List Row) (told : List OrderAt) (i : ℕ) (y : Row) → AreRows r rows told → i < length told → y ≡ get_or rows i y
-    → slice_get told i ≡ row_told r y
+pub row_there : (r : PlainRecording) (rows : List OrderRow) (told : List OrderAt) (i : ℕ) (y : OrderRow) → AreRows r rows told → i < length told → y ≡ get_or rows i y
+    → slice_get told i ≡ row_order r y
 row_there r rows told i y are within at =
-    of_told (slice_get told i) (ap (option_map (row_told r)) (sym here) ∙ row_at r rows told i are)
+    of_told (slice_get told i) (ap (option_map (row_order r)) (sym here) ∙ row_at r rows told i are)
   where
     here : slice_get rows i ≡ Some y
     here = slice_get_read rows (length told) i y (sym (rows_count r rows told are)) within at
 
-    of_told : (t : Option OrderAt) → Some (row_told r y) ≡ option_map Some t → t ≡ row_told r y
+    of_told : (t : Option OrderAt) → Some (row_order r y) ≡ option_map Some t → t ≡ row_order r y
     of_told None is = absurd (cc)
-    of_told (Some t) is = sym (same_Some (row_told r y) (Some t) is)
+    of_told (Some t) is = sym (same_Some (row_order r y) (Some t) is)
 
-pub row_some : (r : PlainRecording) (rows : List Row) (told : List OrderAt) (i : ℕ) (y : Row) → AreRows r rows told → i < length told → y ≡ get_or rows i y
-    → is_some (row_told r y) ≡ true
+pub row_some : (r : PlainRecording) (rows : List OrderRow) (told : List OrderAt) (i : ℕ) (y : OrderRow) → AreRows r rows told → i < length told → y ≡ get_or rows i y
+    → is_some (row_order r y) ≡ true
 row_some r rows told i y are within at =
     ap is_some (sym (row_there r rows told i y are within at)) ∙ there told i within
   where

@@ -22,7 +22,7 @@ use Rattle.exercise_model.specs.Place.{event_at, own_event, log_before, first_be
 use Rattle.exercise_model.specs.Run.{Explains}
 use Rattle.exercise_model.specs.Account.{pair_of_sent, pair_of_entry, pair_of}
 use Rattle.exercise_model.proofs.Offered.{first_found, log_before-more, log_before-none}
-use Rattle.exercise_review.specs.Entries.{bytes_sent_by, bytes_got_by, bytes_sent, bytes_got, sent_by, got_by}
+use Rattle.exercise_review.specs.Entries.{bytes_sent_by, bytes_received_by, bytes_sent, bytes_received, pdu_sent, pdu_received}
 use Rattle.exercise_review.specs.Order.{OrderData, gets_order}
 use Rattle.exercise_review.specs.Reply.{answers_order, takes_copy, is_reply}
 use Rattle.exercise_review.specs.InRuns.{Receives, Replies}
@@ -63,19 +63,19 @@ both true c e = (refl, e)
 both false c e = absurd (cc)
 
 -- what is meant where something is
-pub meant_in : (r : PlainRecording) (o : Option (List ℕ)) (p : Pdu) → option_and_then (meaning r.setting.exercise) o ≡ Some p
+pub pdu_in_log : (r : PlainRecording) (o : Option (List ℕ)) (p : Pdu) → option_and_then (meaning r.setting.exercise) o ≡ Some p
     → (b : List ℕ) × (o ≡ Some b) × (meaning r.setting.exercise b ≡ Some p)
-meant_in r None p e = absurd (cc)
-meant_in r (Some b) p e = (b, refl, e)
+pdu_in_log r None p e = absurd (cc)
+pdu_in_log r (Some b) p e = (b, refl, e)
 
 -- ---- copies
 
 -- a copy is an event that receives the order
 pub copy_received : (r : PlainRecording) (h : History) (o : OrderData) (t i : ℕ) → Explains r h → gets_order r t o.request i ≡ true → Receives r h o t
-unfolding gets_order got_by
+unfolding gets_order pdu_received
 copy_received r h o t i explains gets =
-    let found = there (is_same_order o.request) (option_and_then (meaning r.setting.exercise) (bytes_got r t i)) gets in
-    let meant = meant_in r (bytes_got r t i) found.0 found.1 in
+    let found = there (is_same_order o.request) (option_and_then (meaning r.setting.exercise) (bytes_received r t i)) gets in
+    let meant = pdu_in_log r (bytes_received r t i) found.0 found.1 in
     let event = event_of_entry r h t i (Get t meant.0) explains (got_event r t i meant.0 meant.1) in
     record {
       before = event.before;
@@ -89,7 +89,7 @@ copy_received r h o t i explains gets =
 -- and the other way round
 pub received_copy : (r : PlainRecording) (h : History) (o : OrderData) (t : ℕ) → Explains r h → Receives r h o t
     → (i : ℕ) × (i < length r.entries) × (gets_order r t o.request i ≡ true)
-unfolding gets_order got_by
+unfolding gets_order pdu_received
 received_copy r h o t explains got =
     let entry = entry_of r h got.before (Get t got.bytes) t explains refl got.received in (
       entry.0,
@@ -173,11 +173,11 @@ by_entry r s p (suc n) =
     ] refl
 
 -- an entry that brings a request receives it
-brings_got : (r : PlainRecording) (s : ℕ) (p q : Pdu) (j : ℕ) → brought r s p j ≡ Some q → got_by r s j ≡ Some q
-unfolding got_by own_event bytes_got
+brings_got : (r : PlainRecording) (s : ℕ) (p q : Pdu) (j : ℕ) → brought r s p j ≡ Some q → pdu_received r s j ≡ Some q
+unfolding pdu_received own_event bytes_received
 brings_got r s p q j =
     elim (slice_get r.entries j) as (λ o. option_and_then (request_brought r.setting.exercise (station_at r s).address p) (option_and_then (λ e. event_at s (event_of e)) o) ≡ Some q
-    → option_and_then (meaning r.setting.exercise) (option_and_then (bytes_got_by s) o) ≡ Some q) [
+    → option_and_then (meaning r.setting.exercise) (option_and_then (bytes_received_by s) o) ≡ Some q) [
       | None ↦ λ e. absurd (cc)
       | Some e ↦ of_entry e
     ]
@@ -187,7 +187,7 @@ brings_got r s p q j =
     asked (Some m) = elim (is_asked (station_at r s).address p m) as (λ b. (if b then Some m else None) ≡ Some q → Some m ≡ Some q) [ true ↦ λ e. e | false ↦ λ e. absurd (cc) ]
 
     of_entry : (e : Entry) → option_and_then (request_brought r.setting.exercise (station_at r s).address p) (event_at s (event_of e)) ≡ Some q
-        → option_and_then (meaning r.setting.exercise) (bytes_got_by s e) ≡ Some q
+        → option_and_then (meaning r.setting.exercise) (bytes_received_by s e) ≡ Some q
     of_entry (Sent t stamp b) = elim (nat_eq t s) as (λ k. option_and_then (request_brought r.setting.exercise (station_at r s).address p) (cond k (Some (Send t b)) None) ≡ Some q
         → None ≡ Some q) [ true ↦ λ e. absurd (cc) | false ↦ λ e. absurd (cc) ]
     of_entry (Received t stamp b) = elim (nat_eq t s) as (λ k. option_and_then (request_brought r.setting.exercise (station_at r s).address p) (cond k (Some (Get t b)) None) ≡ Some q
@@ -247,12 +247,12 @@ pub record SentReply (r : PlainRecording) (h : History) (o : OrderData) (t i : �
 
 -- A REPLY is an event that replies to the order
 pub reply_sent : (r : PlainRecording) (h : History) (o : OrderData) (t i : ℕ) → Explains r h → is_reply r o t i ≡ true → SentReply r h o t i
-unfolding is_reply sent_by
+unfolding is_reply pdu_sent
 reply_sent r h o t i explains replies =
     let parts = both (answers_order r o t i) (takes_copy r o t i) replies in
     let answer = there (λ (p : Pdu). is_answer_to p o.request) (option_and_then (meaning r.setting.exercise) (bytes_sent r t i)) parts.0 in
     let p : Pdu = answer.0 in
-    let meant = meant_in r (bytes_sent r t i) p answer.1 in
+    let meant = pdu_in_log r (bytes_sent r t i) p answer.1 in
     let event = event_of_entry r h t i (Send t meant.0) explains (sent_event r t i meant.0 meant.1) in
     let taken = there (is_same_order o.request) (request_taken_up r.setting.exercise (station_at r t).address p (log_before r t i))
     (sym (takes_is r o t i meant.0 p meant.1 meant.2 (answers_is p o.request answer.2)) ∙ parts.1) in
@@ -275,7 +275,7 @@ reply_sent r h o t i explains replies =
 -- and the other way round
 pub sent_reply : (r : PlainRecording) (h place : History) (o : OrderData) (t : ℕ) (b : List ℕ) → Explains r h → Replies r h place o t b
     → (i : ℕ) × (i < length r.entries) × (bytes_sent r t i ≡ Some b) × (is_reply r o t i ≡ true)
-unfolding is_reply sent_by
+unfolding is_reply pdu_sent
 sent_reply r h place o t b explains reply =
     let x = r.setting.exercise in
     let p = reply.answer in

@@ -5,7 +5,7 @@ use Rattle.exercise_review.specs.declared.fate.Fate.TheVariants as fates
 use Rattle.exercise_review.specs.declared.fate.Traces.{Traces}
 use Rattle.exercise_review.specs.declared.word.Word.{Word}
 use Rattle.exercise_review.specs.declared.word.Word.TheVariants as words
-use Rattle.exercise_review.specs.Fate.{fate_heard, fate_by}
+use Rattle.exercise_review.specs.Fate.{fate_heard, fate_of_traces}
 
 -- a word was heard that gives this fate
 pub record SaysWord (heard : Option Word) (fate : Fate) : Type 0 where
@@ -51,7 +51,7 @@ word_says (words.Number n) settled replied got = record { word = words.Number n;
 
 -- WHAT THE FATE SAYS of traces whose maker is recorded
 pub fate_says : (heard : Option Word) (settled replied got : Bool)
-    → (let t : Traces = record { made = true; heard = heard; settled = settled; replied = replied; got = got } in Says (fate_by t) heard settled replied got)
+    → (let t : Traces = record { made = true; heard = heard; settled = settled; replied = replied; got = got } in Says (fate_of_traces t) heard settled replied got)
 fate_says (Some word) settled replied got = word_says word settled replied got
 fate_says None true replied got = record { none = refl; settles = refl }
 fate_says None false true got = record { unsettled = refl; replies = refl }

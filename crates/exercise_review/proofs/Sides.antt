@@ -15,23 +15,23 @@ use Rattle.exercise_review.specs.declared.fate.Fate.TheVariants as fates
 use Rattle.exercise_review.specs.declared.fate.Traces.{Traces}
 use Rattle.exercise_review.specs.declared.party.Party.{Party}
 use Rattle.exercise_review.specs.declared.party.Party.TheVariants as parties
-use Rattle.exercise_review.specs.Order.{OrderData, gets_anywhere, is_outside, head_got, head_of_entry, head_of, made_by, order_of_entry, order_at}
+use Rattle.exercise_review.specs.Order.{OrderData, gets_anywhere, is_outside, received_head, head_of_entry, head_of, made_by, order_of_entry, order_at}
 use Rattle.exercise_review.specs.Party.{is_party_outside}
-use Rattle.exercise_review.specs.Fate.{fate_by, traces_of, fate_of, asks_both}
+use Rattle.exercise_review.specs.Fate.{fate_of_traces, traces_of, fate_of, needs_both_logs}
 
 -- the rows that ask the log of the maker are passed where there is none
-unmade : (t : Traces) → t.made ≡ false → asks_both (fate_by t) ≡ false
+unmade : (t : Traces) → t.made ≡ false → needs_both_logs (fate_of_traces t) ≡ false
 unmade t none =
-    rw none (elim t.replied as (λ a. asks_both (if a && not t.settled then fates.Pending else (if t.got && not a then fates.Unanswered else (if not t.got then fates.Lost else fates.Unknown))) ≡ false) [
-      | true ↦ elim t.settled as (λ b. asks_both (if not b then fates.Pending else (if t.got && false then fates.Unanswered else (if not t.got then fates.Lost else fates.Unknown))) ≡ false) [
+    rw none (elim t.replied as (λ a. needs_both_logs (if a && not t.settled then fates.Pending else (if t.got && not a then fates.Unanswered else (if not t.got then fates.Lost else fates.Unknown))) ≡ false) [
+      | true ↦ elim t.settled as (λ b. needs_both_logs (if not b then fates.Pending else (if t.got && false then fates.Unanswered else (if not t.got then fates.Lost else fates.Unknown))) ≡ false) [
         | false ↦ refl
-        | true ↦ elim t.got as (λ c. asks_both (if c && false then fates.Unanswered else (if not c then fates.Lost else fates.Unknown)) ≡ false) [ true ↦ refl | false ↦ refl ]
+        | true ↦ elim t.got as (λ c. needs_both_logs (if c && false then fates.Unanswered else (if not c then fates.Lost else fates.Unknown)) ≡ false) [ true ↦ refl | false ↦ refl ]
       ]
-      | false ↦ elim t.got as (λ c. asks_both (if c && true then fates.Unanswered else (if not c then fates.Lost else fates.Unknown)) ≡ false) [ true ↦ refl | false ↦ refl ]
+      | false ↦ elim t.got as (λ c. needs_both_logs (if c && true then fates.Unanswered else (if not c then fates.Lost else fates.Unknown)) ≡ false) [ true ↦ refl | false ↦ refl ]
     ])
 
 -- WHERE THE MAKER WAS NOT RECORDED the fate asks no log of it
-pub fate_unmade : (r : PlainRecording) (o : OrderData) (party : Party) → o.maker ≡ None → asks_both (fate_of r o party) ≡ false
+pub fate_unmade : (r : PlainRecording) (o : OrderData) (party : Party) → o.maker ≡ None → needs_both_logs (fate_of r o party) ≡ false
 unfolding fate_of traces_of
 fate_unmade r o (parties.Station t) none = unmade (traces_of r o t) (ap is_some none)
 fate_unmade r o (parties.Outside a) none = refl
@@ -56,10 +56,10 @@ made_inside r i o closed =
     sent s None h = absurd (cc)
     sent s (Some p) h = ap (λ (x : OrderData). is_some x.maker) (sym (same_Some (made_by i (Some s) p) o h))
 
-    no_head : (p : Pdu) → head_got r p ≡ None
+    no_head : (p : Pdu) → received_head r p ≡ None
     no_head p = rw closed (elim (is_request_body p.body) as (λ b. (if b && false then first_below (gets_anywhere r p) (length r.entries) else None) ≡ None) [ true ↦ refl | false ↦ refl ])
 
-    got : (m : Option Pdu) → (if same_id (option_and_then (head_got r) m) (Some i) then option_map (made_by i None) m else None) ≡ Some o → is_some o.maker ≡ true
+    got : (m : Option Pdu) → (if same_id (option_and_then (received_head r) m) (Some i) then option_map (made_by i None) m else None) ≡ Some o → is_some o.maker ≡ true
     got None h = absurd (cc)
     got (Some p) h = absurd (cc (no_head p, h))
 

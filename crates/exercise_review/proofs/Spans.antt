@@ -16,9 +16,9 @@ use Rattle.exercise_model.proofs.Offered.{log_before-more}
 use Rattle.exercise_review.specs.declared.life.Stretch.{Stretch}
 use Rattle.exercise_review.specs.declared.changes.Made.{Made}
 use Rattle.exercise_findings.specs.State.{state_before}
-use Rattle.exercise_review.specs.Life.{LifeSoFar, stretch_of, lived_on, life_before, lives_of}
+use Rattle.exercise_review.specs.Life.{LifeSoFar, stretch_of, life_after, life_before, lives_of}
 use Rattle.exercise_review.specs.Room.{lists_below}
-use Rattle.exercise_review.specs.Span.{own_change, made_of, made_at, changes_made, lived_by}
+use Rattle.exercise_review.specs.Span.{own_change, made_of, made_at, changes_made, life_by_changes}
 use Rattle.exercise_review.proofs.Lists.{lists_more}
 use Rattle.exercise_review.proofs.Lives.{append_none, life_none, state_lived}
 
@@ -51,35 +51,35 @@ state_more r s e n is =
     ∙ entity_more r.setting.exercise (station_at r s) e r s n
     ∙ ap (λ y. option_map_or (changed e y) (own_change r s n) y) (sym (state_is r s e n is))
 
-lived_by-append : (e : ℕ) (l : LifeSoFar) (xs ys : List Made) → lived_by e l (xs ++ ys) ≡ lived_by e (lived_by e l xs) ys
-lived_by-append e l [] ys = refl
-lived_by-append e l (x ∷ xs) ys = lived_by-append e (lived_on l x.entry (changed e l.state x.change)) xs ys
+life_by_changes-append : (e : ℕ) (l : LifeSoFar) (xs ys : List Made) → life_by_changes e l (xs ++ ys) ≡ life_by_changes e (life_by_changes e l xs) ys
+life_by_changes-append e l [] ys = refl
+life_by_changes-append e l (x ∷ xs) ys = life_by_changes-append e (life_after l x.entry (changed e l.state x.change)) xs ys
 
-pub lived_by-more : (e : ℕ) (l : LifeSoFar) (xs : List Made) (m : Made)
-    → lived_by e l (xs ++ m ∷ []) ≡ lived_on (lived_by e l xs) m.entry (changed e (lived_by e l xs).state m.change)
-lived_by-more e l xs m = lived_by-append e l xs (m ∷ [])
+pub life_by_changes-more : (e : ℕ) (l : LifeSoFar) (xs : List Made) (m : Made)
+    → life_by_changes e l (xs ++ m ∷ []) ≡ life_after (life_by_changes e l xs) m.entry (changed e (life_by_changes e l xs).state m.change)
+life_by_changes-more e l xs m = life_by_changes-append e l xs (m ∷ [])
 
 -- where the state stays, so does the life
-pub lives_on : (l : LifeSoFar) (n : ℕ) → lived_on l n l.state ≡ l
+pub lives_on : (l : LifeSoFar) (n : ℕ) → life_after l n l.state ≡ l
 lives_on l n = ap (λ b. cond b l (record { ended = l.ended ++ stretch_of l (Some n); state = l.state; since = Some n })) (same_self l.state)
 
 -- what an entry makes of a life, by what its station changes there
 lived_once : (r : PlainRecording) (s e n : ℕ) (l : LifeSoFar) (c : Option Change) → l.state ≡ state_before r s e n
     → state_before r s e (suc n) ≡ option_map_or (changed e (state_before r s e n)) c (state_before r s e n)
-    → lived_by e l (option_to_list (option_map (made_of n) c)) ≡ lived_on l n (state_before r s e (suc n))
-lived_once r s e n l None at next = sym (ap (lived_on l n) (next ∙ sym at) ∙ lives_on l n)
-lived_once r s e n l (Some c) at next = sym (ap (lived_on l n) (next ∙ ap (λ y. changed e y c) (sym at)))
+    → life_by_changes e l (option_to_list (option_map (made_of n) c)) ≡ life_after l n (state_before r s e (suc n))
+lived_once r s e n l None at next = sym (ap (life_after l n) (next ∙ sym at) ∙ lives_on l n)
+lived_once r s e n l (Some c) at next = sym (ap (life_after l n) (next ∙ ap (λ y. changed e y c) (sym at)))
 
 -- THE CHANGES OF A STATION make the lives of its entities
-lived_below : (r : PlainRecording) (s e n : ℕ) → is_entity e ≡ true → lived_by e (life_before r s e 0) (lists_below (made_at r s) n) ≡ life_before r s e n
+lived_below : (r : PlainRecording) (s e n : ℕ) → is_entity e ≡ true → life_by_changes e (life_before r s e 0) (lists_below (made_at r s) n) ≡ life_before r s e n
 unfolding lists_below life_before made_at
 lived_below r s e zero is = refl
 lived_below r s e (suc n) is =
-    lived_by-append e (life_before r s e 0) (lists_below (made_at r s) n) (made_at r s n)
-    ∙ ap (λ l. lived_by e l (made_at r s n)) (lived_below r s e n is)
+    life_by_changes-append e (life_before r s e 0) (lists_below (made_at r s) n) (made_at r s n)
+    ∙ ap (λ l. life_by_changes e l (made_at r s n)) (lived_below r s e n is)
     ∙ lived_once r s e n (life_before r s e n) (own_change r s n) (state_lived r s e n) (state_more r s e n is)
 
-lived_whole : (r : PlainRecording) (s e : ℕ) → is_entity e ≡ true → lived_by e (life_before r s e 0) (changes_made r s) ≡ life_before r s e (length r.entries)
+lived_whole : (r : PlainRecording) (s e : ℕ) → is_entity e ≡ true → life_by_changes e (life_before r s e 0) (changes_made r s) ≡ life_before r s e (length r.entries)
 unfolding changes_made
 lived_whole r s e is = lived_below r s e (length r.entries) is
 
@@ -100,27 +100,27 @@ change_none r s k xs own before =
     ∙ sym (lists_more (made_at r s) k)
 
 -- a life after one change more of a list
-pub lived_more : (e : ℕ) (l before after : LifeSoFar) (xs : List Made) (k : ℕ) (d : Made) (y : EntityState) → k < length xs → before ≡ lived_by e l (take k xs)
-    → y ≡ changed e before.state (get_or xs k d).change → after ≡ lived_on before (get_or xs k d).entry y → after ≡ lived_by e l (take (k + 1) xs)
+pub lived_more : (e : ℕ) (l before after : LifeSoFar) (xs : List Made) (k : ℕ) (d : Made) (y : EntityState) → k < length xs → before ≡ life_by_changes e l (take k xs)
+    → y ≡ changed e before.state (get_or xs k d).change → after ≡ life_after before (get_or xs k d).entry y → after ≡ life_by_changes e l (take (k + 1) xs)
 lived_more e l before after xs k d y within so_far made here =
     here
-    ∙ ap (lived_on before (get_or xs k d).entry) made
-    ∙ ap (λ b. lived_on b (get_or xs k d).entry (changed e b.state (get_or xs k d).change)) so_far
-    ∙ sym (lived_by-more e l (take k xs) (get_or xs k d))
-    ∙ ap (lived_by e l) (sym (take_more xs k d within))
+    ∙ ap (life_after before (get_or xs k d).entry) made
+    ∙ ap (λ b. life_after b (get_or xs k d).entry (changed e b.state (get_or xs k d).change)) so_far
+    ∙ sym (life_by_changes-more e l (take k xs) (get_or xs k d))
+    ∙ ap (life_by_changes e l) (sym (take_more xs k d within))
 
 -- the stretches of a life that the changes made
 pub lives_are : (r : PlainRecording) (s e : ℕ) (items out : List Stretch) (y : EntityState) (l : LifeSoFar) (changes : List Made) → is_entity e ≡ true → items ≡ []
-    → y ≡ state_before r s e 0 → changes ≡ changes_made r s → l ≡ lived_by e (record { ended = items; state = y; since = None }) changes
+    → y ≡ state_before r s e 0 → changes ≡ changes_made r s → l ≡ life_by_changes e (record { ended = items; state = y; since = None }) changes
     → out ≡ l.ended ++ stretch_of l None → out ≡ lives_of r s e
 unfolding lives_of
 lives_are r s e items out y l changes entity none at are lived here =
     let whole : l ≡ life_before r s e (length r.entries) =
     lived
-    ∙ ap (λ xs. lived_by e (record { ended = xs; state = y; since = None }) changes) none
-    ∙ ap (λ z. lived_by e (record { ended = []; state = z; since = None }) changes) at
-    ∙ ap (λ b. lived_by e b changes) (sym (life_none r s e))
-    ∙ ap (lived_by e (life_before r s e 0)) are
+    ∙ ap (λ xs. life_by_changes e (record { ended = xs; state = y; since = None }) changes) none
+    ∙ ap (λ z. life_by_changes e (record { ended = []; state = z; since = None }) changes) at
+    ∙ ap (λ b. life_by_changes e b changes) (sym (life_none r s e))
+    ∙ ap (life_by_changes e (life_before r s e 0)) are
     ∙ lived_whole r s e entity in
     here ∙ ap (λ b. b.ended ++ stretch_of b None) whole
 
@@ -134,8 +134,8 @@ never_lived : (r : PlainRecording) (s e n : ℕ) → is_entity e ≡ false → l
 unfolding life_before
 never_lived r s e zero outside = ap (λ y. record { ended = []; state = y; since = None }) (never_there r s e 0 outside)
 never_lived r s e (suc n) outside =
-    ap (λ l. lived_on l n (state_before r s e (suc n))) (never_lived r s e n outside)
-    ∙ ap (lived_on (record { ended = []; state = states.Absent; since = None }) n) (never_there r s e (suc n) outside)
+    ap (λ l. life_after l n (state_before r s e (suc n))) (never_lived r s e n outside)
+    ∙ ap (life_after (record { ended = []; state = states.Absent; since = None }) n) (never_there r s e (suc n) outside)
 
 pub lives_none : (r : PlainRecording) (s e : ℕ) (items : List Stretch) → is_entity e ≡ false → items ≡ [] → items ≡ lives_of r s e
 unfolding lives_of

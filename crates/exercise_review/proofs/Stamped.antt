@@ -28,9 +28,9 @@ use Rattle.exercise_model.specs.Recording.{PlainRecording}
 use Rattle.exercise_model.proofs.Offered.{first_found}
 use Rattle.exercise_model.specs.Meaning.{is_outside, meant, meaning}
 use Rattle.exercise_review.specs.Digest.{digest, digest_of}
-use Rattle.exercise_review.specs.Entries.{bytes_sent, bytes_got, sent_by}
-use Rattle.exercise_review.specs.Order.{OrderData, sends_order, head_sent, order_at}
-use Rattle.exercise_review.specs.Register.{order_key, got_key, key_at}
+use Rattle.exercise_review.specs.Entries.{bytes_sent, bytes_received, pdu_sent}
+use Rattle.exercise_review.specs.Order.{OrderData, sends_order, sent_head, order_at}
+use Rattle.exercise_review.specs.Register.{order_key, receipt_key, key_at}
 use Rattle.exercise_review.specs.Stamped.{IsResent, stamped, says}
 use Rattle.exercise_review.proofs.FirstOnes.{passes_before}
 use Rattle.exercise_review.proofs.Moved.{key_got, key_of_sent}
@@ -268,11 +268,11 @@ key_again a b is x s = ap (option_and_then (order_key s)) (means_again a b is x)
     unstamped None = refl
     unstamped (Some q) = refl
 
-got_key_again : (a b : List ℕ) → IsResent a b → (x s : ℕ) (f : Form) → option_and_then (got_key f s) (meaning x b) ≡ option_and_then (got_key f s) (meaning x a)
-unfolding got_key order_key digest_of digest
-got_key_again a b is x s f = ap (option_and_then (got_key f s)) (means_again a b is x) ∙ unstamped (meaning x a)
+got_key_again : (a b : List ℕ) → IsResent a b → (x s : ℕ) (f : Form) → option_and_then (receipt_key f s) (meaning x b) ≡ option_and_then (receipt_key f s) (meaning x a)
+unfolding receipt_key order_key digest_of digest
+got_key_again a b is x s f = ap (option_and_then (receipt_key f s)) (means_again a b is x) ∙ unstamped (meaning x a)
   where
-    unstamped : (o : Option Pdu) → option_and_then (got_key f s) (option_map (stamped (spelled_number w32 4 b)) o) ≡ option_and_then (got_key f s) o
+    unstamped : (o : Option Pdu) → option_and_then (receipt_key f s) (option_map (stamped (spelled_number w32 4 b)) o) ≡ option_and_then (receipt_key f s) o
     unstamped None = refl
     unstamped (Some q) = refl
 
@@ -285,14 +285,14 @@ sent_again r s j i a b earlier here none alone is =
     ∙ sym (alone_kept r s i (meaning x b) alone) ∙ sym (key_of_sent r s i b here)
 
 -- and so has what it receives again
-pub got_again : (r : PlainRecording) (s j i : ℕ) (a b : List ℕ) → bytes_got r s j ≡ Some a → bytes_got r s i ≡ Some b → IsResent a b → key_at r j ≡ key_at r i
+pub got_again : (r : PlainRecording) (s j i : ℕ) (a b : List ℕ) → bytes_received r s j ≡ Some a → bytes_received r s i ≡ Some b → IsResent a b → key_at r j ≡ key_at r i
 got_again r s j i a b earlier here is =
     key_got r s j a earlier ∙ sym (got_key_again a b is r.setting.exercise s r.setting.form) ∙ sym (key_got r s i b here)
 
 -- WHAT WAS SENT BEFORE is no head
 pub sent_before : (r : PlainRecording) (s j i : ℕ) (a b : List ℕ) → bytes_sent r s j ≡ Some a → IsResent a b → j < i
-    → same_id (option_and_then (head_sent r s) (meaning r.setting.exercise b)) (Some i) ≡ false
-unfolding sends_order sent_by
+    → same_id (option_and_then (sent_head r s) (meaning r.setting.exercise b)) (Some i) ≡ false
+unfolding sends_order pdu_sent
 sent_before r s j i a b earlier is before = of_meaning (meaning r.setting.exercise b) refl
   where
     sends : (p : Pdu) → meaning r.setting.exercise b ≡ Some p → sends_order r s p j ≡ true
@@ -302,7 +302,7 @@ sent_before r s j i a b earlier is before = of_meaning (meaning r.setting.exerci
         ∙ ap (λ o. option_map_or (is_same_order p) o false) means
         ∙ same_itself p
 
-    of_meaning : (o : Option Pdu) → meaning r.setting.exercise b ≡ o → same_id (option_and_then (head_sent r s) o) (Some i) ≡ false
+    of_meaning : (o : Option Pdu) → meaning r.setting.exercise b ≡ o → same_id (option_and_then (sent_head r s) o) (Some i) ≡ false
     of_meaning None means = refl
     of_meaning (Some p) means =
         elim (is_request_body p.body) as (λ k. same_id (if k then first_below (sends_order r s p) (length r.entries) else None) (Some i) ≡ false) [
@@ -313,7 +313,7 @@ sent_before r s j i a b earlier is before = of_meaning (meaning r.setting.exerci
 -- the bytes by which an order was made say it
 pub head_says : (r : PlainRecording) (o : OrderData) (s : ℕ) (b : List ℕ) → o.maker ≡ Some s → order_at r o.head ≡ Some o → bytes_sent r s o.head ≡ Some b
     → says r o.request b ≡ true
-unfolding sends_order sent_by
+unfolding sends_order pdu_sent
 head_says r o s b maker at sent =
     let made = order_made r o.head s o at maker in
     let passes = (first_found (sends_order r s o.request) (length r.entries) o.head made.first).passes in

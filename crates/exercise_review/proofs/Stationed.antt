@@ -20,7 +20,7 @@ use Rattle.exercise_model.proofs.Offered.{first_found}
 use Rattle.exercise_review.specs.declared.party.Party.{Party}
 use Rattle.exercise_review.specs.declared.party.Party.TheVariants as parties
 use Rattle.exercise_review.specs.Order.{OrderData, is_meant}
-use Rattle.exercise_review.specs.Party.{first_copy, is_at, is_party, is_party_outside, is_recorded_at, names, is_told_from}
+use Rattle.exercise_review.specs.Party.{first_copy, is_at, is_party, is_party_outside, is_recorded_at, names, is_heard_from}
 use Rattle.exercise_review.specs.Parties.{number_of, pair_numbered, addresses, has_outsiders, party_by, party_at, parties_below, parties_of, AreNoParties}
 use Rattle.exercise_review.proofs.PartyPlaces.{number_back, at_station, skipped, no_parties}
 use Rattle.exercise_review.proofs.Lives.{append_none}
@@ -100,9 +100,9 @@ nobody_outside : (r : PlainRecording) (o : OrderData) (a : Pair) → has_outside
 unfolding is_party_outside
 nobody_outside r o a none =
     elim (is_open r.setting.form) as (λ b. (b && is_some o.maker) ≡ false
-    → (b && (is_some o.maker && (not (is_recorded_at r a) && (names o.request.target a || is_some (first_below (is_told_from r o a) (length r.entries)))))) ≡ false) [
+    → (b && (is_some o.maker && (not (is_recorded_at r a) && (names o.request.target a || is_some (first_below (is_heard_from r o a) (length r.entries)))))) ≡ false) [
       | false ↦ λ _. refl
-      | true ↦ λ none. ap (λ c. c && (not (is_recorded_at r a) && (names o.request.target a || is_some (first_below (is_told_from r o a) (length r.entries))))) none
+      | true ↦ λ none. ap (λ c. c && (not (is_recorded_at r a) && (names o.request.target a || is_some (first_below (is_heard_from r o a) (length r.entries))))) none
     ] none
 
 -- no station has this number: no party stands there

@@ -19,11 +19,11 @@ use Rattle.exercise_review.specs.declared.fault.ReviewFault.TheVariants.{OverLim
 use Rattle.exercise_review.specs.declared.life.Stretch.{Stretch}
 use Rattle.exercise_review.specs.declared.span.Span.{Span}
 use Rattle.exercise_review.specs.declared.stay.Stay.{Stay}
-use Rattle.exercise_review.specs.Life.{LifeSoFar, stretch_of, lived_on, life_before, lives_of}
+use Rattle.exercise_review.specs.Life.{LifeSoFar, stretch_of, life_after, life_before, lives_of}
 use Rattle.exercise_review.specs.Room.{lists_below, AddsWithin}
-use Rattle.exercise_review.specs.Span.{lived_by, span_of, entity_at, spans_behind, spans_of, all_spans}
-use Rattle.exercise_review.specs.Course.{IsStill}
-use Rattle.exercise_review.specs.Stay.{span_at, StaysWithin, stay_of, stretch_so_far, stays_behind, stays_of, all_stays, ended_at, ended_by, stays_on}
+use Rattle.exercise_review.specs.Span.{life_by_changes, span_of, entity_at, spans_of_next, spans_of, all_spans}
+use Rattle.exercise_review.specs.Course.{IsUnaffected}
+use Rattle.exercise_review.specs.Stay.{span_at, StaysWithin, stay_of, stretch_so_far, stays_of_next, stays_of, all_stays, stay_ended_at, stay_ended_by, stay_after}
 use Rattle.exercise_review.proofs.Courses.{lived_over}
 use Rattle.exercise_review.proofs.Spans.{lived_more}
 
@@ -34,7 +34,7 @@ pub record AreKept (s e : ℕ) (old : List Stay) (l : LifeSoFar) (stays : List S
   pub kept : stays ≡ old ++ map (stay_of s e) l.ended
   pub now : stay ≡ stay_of s e (stretch_so_far l)
 
-ended_is : (s e : ℕ) (l : LifeSoFar) (end : Option ℕ) → ended_at (stay_of s e (stretch_so_far l)) (entry_number end) ≡ map (stay_of s e) (stretch_of l end)
+ended_is : (s e : ℕ) (l : LifeSoFar) (end : Option ℕ) → stay_ended_at (stay_of s e (stretch_so_far l)) (entry_number end) ≡ map (stay_of s e) (stretch_of l end)
 ended_is s e l end =
     elim (is_absent l.state) as (λ b. cond b [] (stay_of s e (record { state = l.state; from = l.since; until = end }) ∷ [])
     ≡ map (stay_of s e) (cond b [] (record { state = l.state; from = l.since; until = end } ∷ []))) [
@@ -43,18 +43,18 @@ ended_is s e l end =
     ]
 
 on_ended : (s e n : ℕ) (l : LifeSoFar) (y : EntityState)
-    → map (stay_of s e) (lived_on l n y).ended ≡ map (stay_of s e) l.ended ++ ended_by (stay_of s e (stretch_so_far l)) n y
+    → map (stay_of s e) (life_after l n y).ended ≡ map (stay_of s e) l.ended ++ stay_ended_by (stay_of s e (stretch_so_far l)) n y
 on_ended s e n l y =
     let next : LifeSoFar = record { ended = l.ended ++ stretch_of l (Some n); state = y; since = Some n } in
     elim (same_state y l.state) as (λ b. map (stay_of s e) (cond b l next).ended
-    ≡ map (stay_of s e) l.ended ++ cond b [] (ended_at (stay_of s e (stretch_so_far l)) n)) [
+    ≡ map (stay_of s e) l.ended ++ cond b [] (stay_ended_at (stay_of s e (stretch_so_far l)) n)) [
       | true ↦ sym (append-nil (map (stay_of s e) l.ended))
       | false ↦
           map-append (stay_of s e) l.ended (stretch_of l (Some n)) ∙ ap (λ xs. map (stay_of s e) l.ended ++ xs) (sym (ended_is s e l (Some n)))
     ]
 
 on_now : (s e n : ℕ) (l : LifeSoFar) (y : EntityState)
-    → stays_on (stay_of s e (stretch_so_far l)) n y ≡ stay_of s e (stretch_so_far (lived_on l n y))
+    → stay_after (stay_of s e (stretch_so_far l)) n y ≡ stay_of s e (stretch_so_far (life_after l n y))
 on_now s e n l y =
     let next : LifeSoFar = record { ended = l.ended ++ stretch_of l (Some n); state = y; since = Some n } in
     elim (same_state y l.state) as (λ b. cond b (stay_of s e (stretch_so_far l)) (record (stay_of s e (stretch_so_far l)) { state = y; from = n })
@@ -64,37 +64,37 @@ on_now s e n l y =
     ]
 
 pub kept_on : (s e n : ℕ) (old part new : List Stay) (l : LifeSoFar) (stay next : Stay) (y : EntityState) → AreKept s e old l part stay
-    → new ≡ part ++ ended_by stay n y → next ≡ stays_on stay n y → AreKept s e old (lived_on l n y) new next
+    → new ≡ part ++ stay_ended_by stay n y → next ≡ stay_after stay n y → AreKept s e old (life_after l n y) new next
 kept_on s e n old part new l stay next y before added on = record {
-  kept = added ∙ ap (λ x. part ++ ended_by x n y) before.now ∙ ap (λ xs. xs ++ ended_by (stay_of s e (stretch_so_far l)) n y) before.kept
-      ∙ append_assoc old (map (stay_of s e) l.ended) (ended_by (stay_of s e (stretch_so_far l)) n y)
+  kept = added ∙ ap (λ x. part ++ stay_ended_by x n y) before.now ∙ ap (λ xs. xs ++ stay_ended_by (stay_of s e (stretch_so_far l)) n y) before.kept
+      ∙ append_assoc old (map (stay_of s e) l.ended) (stay_ended_by (stay_of s e (stretch_so_far l)) n y)
       ∙ ap (λ xs. old ++ xs) (sym (on_ended s e n l y));
-  now = on ∙ ap (λ x. stays_on x n y) before.now ∙ on_now s e n l y;
+  now = on ∙ ap (λ x. stay_after x n y) before.now ∙ on_now s e n l y;
 }
 
 -- the stay that it is in at the end is the last
 pub kept_whole : (s e : ℕ) (old part : List Stay) (l : LifeSoFar) (stay : Stay) → AreKept s e old l part stay
-    → part ++ ended_at stay 0xFFFFFFFF ≡ old ++ map (stay_of s e) (l.ended ++ stretch_of l None)
+    → part ++ stay_ended_at stay 0xFFFFFFFF ≡ old ++ map (stay_of s e) (l.ended ++ stretch_of l None)
 kept_whole s e old part l stay before =
-    ap (λ x. part ++ ended_at x 0xFFFFFFFF) before.now ∙ ap (λ xs. xs ++ ended_at (stay_of s e (stretch_so_far l)) 0xFFFFFFFF) before.kept
-    ∙ append_assoc old (map (stay_of s e) l.ended) (ended_at (stay_of s e (stretch_so_far l)) 0xFFFFFFFF)
+    ap (λ x. part ++ stay_ended_at x 0xFFFFFFFF) before.now ∙ ap (λ xs. xs ++ stay_ended_at (stay_of s e (stretch_so_far l)) 0xFFFFFFFF) before.kept
+    ∙ append_assoc old (map (stay_of s e) l.ended) (stay_ended_at (stay_of s e (stretch_so_far l)) 0xFFFFFFFF)
     ∙ ap (λ xs. old ++ (map (stay_of s e) l.ended ++ xs)) (ended_is s e l None)
     ∙ ap (λ xs. old ++ xs) (sym (map-append (stay_of s e) l.ended (stretch_of l None)))
 
 -- where the entity stays in its state, so does what is kept of it
 pub kept_over : (s e : ℕ) (old stays : List Stay) (l life : LifeSoFar) (stay : Stay) (ms : List Made) (a b : ℕ) → AreKept s e old life stays stay
-    → life ≡ lived_by e l (take a ms) → a ≤ b → b ≤ length ms → IsStill e stay.state ms a b → AreKept s e old (lived_by e l (take b ms)) stays stay
+    → life ≡ life_by_changes e l (take a ms) → a ≤ b → b ≤ length ms → IsUnaffected e stay.state ms a b → AreKept s e old (life_by_changes e l (take b ms)) stays stay
 kept_over s e old stays l life stay ms a b kept so_far from within still =
     let state : stay.state ≡ life.state = ap (λ (x : Stay). x.state) kept.now in
-    subst (λ x. AreKept s e old x stays stay) (lived_over e l life ms a b from within so_far (subst (λ y. IsStill e y ms a b) state still)) kept
+    subst (λ x. AreKept s e old x stays stay) (lived_over e l life ms a b from within so_far (subst (λ y. IsUnaffected e y ms a b) state still)) kept
 
 -- what the next change makes of a life
 pub next_lived : (s e : ℕ) (old stays : List Stay) (l : LifeSoFar) (stay : Stay) (ms : List Made) (k : ℕ) (d : Made) (y : EntityState)
-    → AreKept s e old (lived_by e l (take k ms)) stays stay → k < length ms → y ≡ changed e stay.state (get_or ms k d).change
-    → lived_on (lived_by e l (take k ms)) (get_or ms k d).entry y ≡ lived_by e l (take (k + 1) ms)
+    → AreKept s e old (life_by_changes e l (take k ms)) stays stay → k < length ms → y ≡ changed e stay.state (get_or ms k d).change
+    → life_after (life_by_changes e l (take k ms)) (get_or ms k d).entry y ≡ life_by_changes e l (take (k + 1) ms)
 next_lived s e old stays l stay ms k d y kept within made =
-    let life : LifeSoFar = lived_by e l (take k ms) in
-    lived_more e l life (lived_on life (get_or ms k d).entry y) ms k d y within refl
+    let life : LifeSoFar = life_by_changes e l (take k ms) in
+    lived_more e l life (life_after life (get_or ms k d).entry y) ms k d y within refl
     (made ∙ ap (λ (x : Stay). changed e x.state (get_or ms k d).change) kept.now) refl
 
 -- ---- room
@@ -117,7 +117,7 @@ over old part added more new last most e (Err x) is fits many =
     of_fault OverLimit many = omega (arith, fits, many)
     of_fault Memory many = tt
 
-ended_more : (l : LifeSoFar) (n : ℕ) (y : EntityState) → length l.ended ≤ length (lived_on l n y).ended
+ended_more : (l : LifeSoFar) (n : ℕ) (y : EntityState) → length l.ended ≤ length (life_after l n y).ended
 ended_more l n y =
     let next : LifeSoFar = record { ended = l.ended ++ stretch_of l (Some n); state = y; since = Some n } in
     elim (same_state y l.state) as (λ b. length l.ended ≤ length (cond b l next).ended) [
@@ -125,27 +125,27 @@ ended_more l n y =
       | false ↦ omega (arith, length-append l.ended (stretch_of l (Some n)))
     ]
 
-ended_grows : (e : ℕ) (l : LifeSoFar) (ms : List Made) → length l.ended ≤ length (lived_by e l ms).ended
+ended_grows : (e : ℕ) (l : LifeSoFar) (ms : List Made) → length l.ended ≤ length (life_by_changes e l ms).ended
 ended_grows e l [] = omega arith
 ended_grows e l (m ∷ ms) =
-    omega (arith, ended_more l m.entry (changed e l.state m.change), ended_grows e (lived_on l m.entry (changed e l.state m.change)) ms)
+    omega (arith, ended_more l m.entry (changed e l.state m.change), ended_grows e (life_after l m.entry (changed e l.state m.change)) ms)
 
-lived_split : (e k : ℕ) (l : LifeSoFar) (ms : List Made) → lived_by e l ms ≡ lived_by e (lived_by e l (take k ms)) (drop k ms)
+lived_split : (e k : ℕ) (l : LifeSoFar) (ms : List Made) → life_by_changes e l ms ≡ life_by_changes e (life_by_changes e l (take k ms)) (drop k ms)
 lived_split e zero l ms = refl
 lived_split e (suc k) l [] = refl
-lived_split e (suc k) l (m ∷ ms) = lived_split e k (lived_on l m.entry (changed e l.state m.change)) ms
+lived_split e (suc k) l (m ∷ ms) = lived_split e k (life_after l m.entry (changed e l.state m.change)) ms
 
 -- what ends at the next change fits among all
 pub next_fits : (s e n k : ℕ) (old part : List Stay) (l before : LifeSoFar) (stay : Stay) (ms : List Made) (y : EntityState) → AreKept s e old before part stay
-    → lived_on before n y ≡ lived_by e l (take (k + 1) ms)
-    → length part + length (ended_by stay n y) ≤ length old + length (map (stay_of s e) (let w = lived_by e l ms in w.ended ++ stretch_of w None))
+    → life_after before n y ≡ life_by_changes e l (take (k + 1) ms)
+    → length part + length (stay_ended_by stay n y) ≤ length old + length (map (stay_of s e) (let w = life_by_changes e l ms in w.ended ++ stretch_of w None))
 next_fits s e n k old part l before stay ms y kept next =
-    let w : LifeSoFar = lived_by e l ms in
+    let w : LifeSoFar = life_by_changes e l ms in
     let on = on_ended s e n before y in
-    let same : length (ended_by stay n y) ≡ length (ended_by (stay_of s e (stretch_so_far before)) n y) = ap (λ x. length (ended_by x n y)) kept.now in
-    let grows = ended_grows e (lived_by e l (take (k + 1) ms)) (drop (k + 1) ms) in
-    let split : length w.ended ≡ length (lived_by e (lived_by e l (take (k + 1) ms)) (drop (k + 1) ms)).ended = ap (λ (x : LifeSoFar). length x.ended) (lived_split e (k + 1) l ms) in
-    let here : length (lived_on before n y).ended ≡ length (lived_by e l (take (k + 1) ms)).ended = ap (λ (x : LifeSoFar). length x.ended) next in
+    let same : length (stay_ended_by stay n y) ≡ length (stay_ended_by (stay_of s e (stretch_so_far before)) n y) = ap (λ x. length (stay_ended_by x n y)) kept.now in
+    let grows = ended_grows e (life_by_changes e l (take (k + 1) ms)) (drop (k + 1) ms) in
+    let split : length w.ended ≡ length (life_by_changes e (life_by_changes e l (take (k + 1) ms)) (drop (k + 1) ms)).ended = ap (λ (x : LifeSoFar). length x.ended) (lived_split e (k + 1) l ms) in
+    let here : length (life_after before n y).ended ≡ length (life_by_changes e l (take (k + 1) ms)).ended = ap (λ (x : LifeSoFar). length x.ended) next in
     omega (
       arith,
       same,
@@ -155,8 +155,8 @@ next_fits s e n k old part l before stay ms y kept next =
       ap length kept.kept,
       length-append old (map (stay_of s e) before.ended),
       ap length on,
-      length-append (map (stay_of s e) before.ended) (ended_by (stay_of s e (stretch_so_far before)) n y),
-      length-map (lived_on before n y).ended (stay_of s e),
+      length-append (map (stay_of s e) before.ended) (stay_ended_by (stay_of s e (stretch_so_far before)) n y),
+      length-map (life_after before n y).ended (stay_of s e),
       length-map (w.ended ++ stretch_of w None) (stay_of s e),
       length-append w.ended (stretch_of w None),
     )
@@ -182,7 +182,7 @@ stretch_below n l end since ends =
       | false ↦ (since, ends, tt)
     ]
 
-on_below : (n i : ℕ) (l : LifeSoFar) (y : EntityState) → i < n → IsBelow n l → IsBelow n (lived_on l i y)
+on_below : (n i : ℕ) (l : LifeSoFar) (y : EntityState) → i < n → IsBelow n l → IsBelow n (life_after l i y)
 on_below n i l y less before =
     let next : LifeSoFar = record { ended = l.ended ++ stretch_of l (Some i); state = y; since = Some i } in
     elim (same_state y l.state) as (λ b. IsBelow n (cond b l next)) [
@@ -228,7 +228,7 @@ lists_told f g h (suc n) each =
 pub station_told : (r : PlainRecording) (s : ℕ) → IsRecording r → map (span_at r) (stays_of r s) ≡ spans_of r s
 unfolding stays_of spans_of
 station_told r s limits =
-    lists_told (span_at r) (stays_behind r s) (spans_behind r s) 65533
+    lists_told (span_at r) (stays_of_next r s) (spans_of_next r s) 65533
     (λ k. stays_told r s (k + 1) (length r.entries) (lives_of r s (k + 1)) (omega (arith, limits.count)) (lives_below r s (k + 1)))
 
 pub all_told : (r : PlainRecording) → IsRecording r → map (span_at r) (all_stays r) ≡ all_spans r

@@ -22,15 +22,15 @@ use Rattle.exercise_model.proofs.Offered.{contains_on, first_found, first_is, lo
 use Rattle.exercise_findings.proofs.Offered.{recorded_sender}
 use Rattle.exercise_review.specs.declared.party.Party.{Party}
 use Rattle.exercise_review.specs.declared.party.Party.TheVariants as parties
-use Rattle.exercise_review.specs.Entries.{bytes_got_by, bytes_sent, bytes_got, sent_by, got_by, meant_at}
+use Rattle.exercise_review.specs.Entries.{bytes_received_by, bytes_sent, bytes_received, pdu_sent, pdu_received, pdu_at}
 use Rattle.exercise_review.specs.Order.{OrderData, sends_order, is_outside, is_meant, order_at, sends_under_id, is_first_under_id}
-use Rattle.exercise_review.specs.Parties.{outsider_at}
-use Rattle.exercise_review.specs.Party.{is_copy, first_copy, is_party, pair_at, tells_from, is_told_from, names, is_at, is_recorded_at, is_party_outside}
+use Rattle.exercise_review.specs.Parties.{site_application}
+use Rattle.exercise_review.specs.Party.{is_copy, first_copy, is_party, pair_at, is_answer_from, is_heard_from, names, is_at, is_recorded_at, is_party_outside}
 use Rattle.exercise_review.specs.Reply.{answers_order, takes_copy, is_reply, is_news}
 use Rattle.exercise_review.specs.Word.{settles, settles_at}
 use Rattle.exercise_review.specs.Knowing.{is_party_of, is_heard_of, IsHeardSettled, IsReceivedSettled}
 use Rattle.exercise_review.proofs.Events.{own_first, entry_of, event_of_entry, got_event, sent_is, sent_event}
-use Rattle.exercise_review.proofs.Runs.{some_passes, there, both, meant_in, received_copy, sent_reply, reply_copied}
+use Rattle.exercise_review.proofs.Runs.{some_passes, there, both, pdu_in_log, received_copy, sent_reply, reply_copied}
 use Rattle.exercise_review.proofs.Heard.{allowed_at, meant_got, is_there, news_got, got_news, sent_before}
 use Rattle.exercise_review.proofs.Made.{sent_own}
 use Rattle.exercise_review.proofs.OneOrder.{ids_same, one_order, no_later, IsOrderOf, order_made}
@@ -61,14 +61,14 @@ earlier_entry r s i j own less =
 -- what a station sends at an entry, where it is the order
 sends_same : (r : PlainRecording) (s k : ℕ) (p q : Pdu) (b : List ℕ) → bytes_sent r s k ≡ Some b → meaning r.setting.exercise b ≡ Some q → is_same_order p q ≡ true
     → sends_order r s p k ≡ true
-unfolding sends_order sent_by
+unfolding sends_order pdu_sent
 sends_same r s k p q b sent means same =
     ap (λ y. option_map_or (is_same_order p) (option_and_then (meaning r.setting.exercise) y) false) sent
     ∙ ap (λ y. option_map_or (is_same_order p) y false) means ∙ same
 
 -- THE ORDER STANDS BEFORE what its maker received of an answer to it
 heard_after : (r : PlainRecording) (h : History) (i s t j : ℕ) (o : OrderData) (b : List ℕ) (p : Pdu) → IsRecording r → Explains r h → IsOrderOf r i s o
-    → t < length r.setting.stations → bytes_got r s j ≡ Some b → meaning r.setting.exercise b ≡ Some p → is_from (station_at r t).address p ≡ true
+    → t < length r.setting.stations → bytes_received r s j ≡ Some b → meaning r.setting.exercise b ≡ Some p → is_from (station_at r t).address p ≡ true
     → is_answer_to p o.request ≡ true → o.head < j
 heard_after r h i s t j o b p limits explains order within got meant own answers =
     let here = got_event r s j b got in
@@ -89,11 +89,11 @@ heard_after r h i s t j o b p limits explains order within got meant own answers
 -- ---- what is told is what was received
 
 -- what an entry means where it receives something
-pub got_parts : (r : PlainRecording) (s j : ℕ) (p : Pdu) → got_by r s j ≡ Some p → (b : List ℕ) × (bytes_got r s j ≡ Some b) × (meaning r.setting.exercise b ≡ Some p)
-unfolding got_by
-got_parts r s j p got = meant_in r (bytes_got r s j) p got
+pub got_parts : (r : PlainRecording) (s j : ℕ) (p : Pdu) → pdu_received r s j ≡ Some p → (b : List ℕ) × (bytes_received r s j ≡ Some b) × (meaning r.setting.exercise b ≡ Some p)
+unfolding pdu_received
+got_parts r s j p got = pdu_in_log r (bytes_received r s j) p got
 
-settles_here : (r : PlainRecording) (j : ℕ) (b : List ℕ) (p : Pdu) → meant_at r j ≡ meaning r.setting.exercise b → meaning r.setting.exercise b ≡ Some p
+settles_here : (r : PlainRecording) (j : ℕ) (b : List ℕ) (p : Pdu) → pdu_at r j ≡ meaning r.setting.exercise b → meaning r.setting.exercise b ≡ Some p
     → settles_at r j ≡ settles p.body
 unfolding settles_at
 settles_here r j b p means meant = ap (λ o. option_map_or (λ (p : Pdu). settles p.body) o false) (means ∙ meant)
@@ -106,7 +106,7 @@ party_within r o t part =
 
 told_station : (r : PlainRecording) (h : History) (i s t j : ℕ) (o : OrderData) → IsRecording r → Explains r h → IsOrderOf r i s o → o.maker ≡ Some s
     → is_party r o t ≡ true → is_news r o t j ≡ true → settles_at r j ≡ true → IsReceivedSettled r o s j
-unfolding is_reply sent_by got_by
+unfolding is_reply pdu_sent pdu_received
 told_station r h i s t j o limits explains order maker part news settling =
     let x = r.setting.exercise in
     let found = news_got r o s t j maker news in
@@ -125,15 +125,15 @@ told_station r h i s t j o limits explains order maker part news settling =
       settles = sym (settles_here r j b p (meant_got r s j b found.at) meant) ∙ settling;
     }
 
-told_outside : (r : PlainRecording) (s j : ℕ) (o : OrderData) (a : Pair) → o.maker ≡ Some s → is_told_from r o a j ≡ true → settles_at r j ≡ true
+told_outside : (r : PlainRecording) (s j : ℕ) (o : OrderData) (a : Pair) → o.maker ≡ Some s → is_heard_from r o a j ≡ true → settles_at r j ≡ true
     → IsReceivedSettled r o s j
-unfolding is_told_from
+unfolding is_heard_from
 told_outside r s j o a maker told settling =
     let one = both (is_first_under_id r o) _ told in
     let two = both (nat_lt o.head j) _ one.1 in
-    let found = there (tells_from r o a) (option_and_then (λ s. got_by r s j) o.maker) two.1 in
+    let found = there (is_answer_from r o a) (option_and_then (λ s. pdu_received r s j) o.maker) two.1 in
     let p : Pdu = found.0 in
-    let got : got_by r s j ≡ Some p = sym (ap (option_and_then (λ s. got_by r s j)) maker) ∙ found.1 in
+    let got : pdu_received r s j ≡ Some p = sym (ap (option_and_then (λ s. pdu_received r s j)) maker) ∙ found.1 in
     let parts = got_parts r s j p got in
     record {
       after = ltb-true o.head j two.0;
@@ -156,7 +156,7 @@ told_received r h i s j o limits explains order maker it = of_party it.party it.
 
 -- of a recorded station
 heard_station : (r : PlainRecording) (h : History) (i s t j : ℕ) (o : OrderData) (b : List ℕ) (p : Pdu) → IsRecording r → Explains r h → IsOrderOf r i s o
-    → o.maker ≡ Some s → t < length r.setting.stations → is_from (station_at r t).address p ≡ true → bytes_got r s j ≡ Some b
+    → o.maker ≡ Some s → t < length r.setting.stations → is_from (station_at r t).address p ≡ true → bytes_received r s j ≡ Some b
     → meaning r.setting.exercise b ≡ Some p → is_answer_to p o.request ≡ true → (is_party r o t ≡ true) × (is_news r o t j ≡ true)
 unfolding is_party is_meant first_copy
 heard_station r h i s t j o b p limits explains order maker within own got meant answers =
@@ -188,7 +188,7 @@ under_same r h i s k o explains order itself is =
     let found = there (λ (q : Pdu). is_request_body q.body && same_id (request_id_of o.request.body) (request_id_of q.body))
     (option_and_then (meaning x) (bytes_sent r s k)) is in
     let q : Pdu = found.0 in
-    let meant = meant_in r (bytes_sent r s k) q found.1 in
+    let meant = pdu_in_log r (bytes_sent r s k) q found.1 in
     let parts = both (is_request_body q.body) (same_id (request_id_of o.request.body) (request_id_of q.body)) found.2 in
     let one = event_of_entry r h s i (Send s order.bytes) explains (sent_own r s i order.stamp order.bytes order.at) in
     let other = event_of_entry r h s k (Send s meant.0) explains (sent_event r s k meant.0 meant.1) in
@@ -209,7 +209,7 @@ under_head r i s o order itself =
 -- AN ORDER is the first that its maker sent under its identifier
 first_under : (r : PlainRecording) (h : History) (i s : ℕ) (o : OrderData) (p : Pdu) → Explains r h → IsOrderOf r i s o → o.maker ≡ Some s
     → is_answer_to p o.request ≡ true → is_first_under_id r o ≡ true
-unfolding is_first_under_id sends_under_id sent_by
+unfolding is_first_under_id sends_under_id pdu_sent
 first_under r h i s o p explains order maker answers =
     let id = request_id_of o.request.body in
     let fits = (answer_parts p o.request answers).id in
@@ -227,7 +227,7 @@ first_under r h i s o p explains order maker answers =
     ∙ eq-eqb i o.head (sym order.head)
 
 -- the recording is open where a station received what comes from outside
-open_there : (r : PlainRecording) (h : History) (s j : ℕ) (b : List ℕ) (p : Pdu) → Explains r h → bytes_got r s j ≡ Some b → meaning r.setting.exercise b ≡ Some p
+open_there : (r : PlainRecording) (h : History) (s j : ℕ) (b : List ℕ) (p : Pdu) → Explains r h → bytes_received r s j ≡ Some b → meaning r.setting.exercise b ≡ Some p
     → is_recorded r.setting p ≡ false → is_open r.setting.form ≡ true
 open_there r h s j b p explains got meant outside =
     let event = event_of_entry r h s j (Get s b) explains (got_event r s j b got) in
@@ -259,42 +259,42 @@ nobody_there r p outside =
 
 -- what is told of an address outside
 told_there : (r : PlainRecording) (s j : ℕ) (o : OrderData) (a : Pair) (b : List ℕ) (p : Pdu) → o.maker ≡ Some s → is_first_under_id r o ≡ true
-    → nat_lt o.head j ≡ true → bytes_got r s j ≡ Some b → meaning r.setting.exercise b ≡ Some p → tells_from r o a p ≡ true → is_told_from r o a j ≡ true
-unfolding is_told_from got_by
+    → nat_lt o.head j ≡ true → bytes_received r s j ≡ Some b → meaning r.setting.exercise b ≡ Some p → is_answer_from r o a p ≡ true → is_heard_from r o a j ≡ true
+unfolding is_heard_from pdu_received
 told_there r s j o a b p maker first after got meant tells =
     let x = r.setting.exercise in
     and_from _ _ first (and_from _ _ after
-    (ap (λ m. option_map_or (tells_from r o a) (option_and_then (λ s. option_and_then (meaning x) (bytes_got r s j)) m) false) maker
-    ∙ ap (λ y. option_map_or (tells_from r o a) (option_and_then (meaning x) y) false) got
-    ∙ ap (λ y. option_map_or (tells_from r o a) y false) meant ∙ tells))
+    (ap (λ m. option_map_or (is_answer_from r o a) (option_and_then (λ s. option_and_then (meaning x) (bytes_received r s j)) m) false) maker
+    ∙ ap (λ y. option_map_or (is_answer_from r o a) (option_and_then (meaning x) y) false) got
+    ∙ ap (λ y. option_map_or (is_answer_from r o a) y false) meant ∙ tells))
 
 told_outsider : (r : PlainRecording) (o : OrderData) (p : Pdu) → is_open r.setting.form ≡ true → is_recorded r.setting p ≡ false → is_answer_to p o.request ≡ true
-    → tells_from r o (pair_of p.origin) p ≡ true
+    → is_answer_from r o (pair_of p.origin) p ≡ true
 unfolding is_outside
 told_outsider r o p opened outside answers =
     and_from _ _ answers (and_from _ _ (and_from _ _ opened (ap not outside))
     (and_from _ _ (eq-eqb p.origin.site p.origin.site refl) (eq-eqb p.origin.application p.origin.application refl)))
 
 heard_outside : (r : PlainRecording) (h : History) (i s j : ℕ) (o : OrderData) (b : List ℕ) (p : Pdu) → Explains r h → IsOrderOf r i s o
-    → o.maker ≡ Some s → is_recorded r.setting p ≡ false → o.head < j → bytes_got r s j ≡ Some b → j < length r.entries
+    → o.maker ≡ Some s → is_recorded r.setting p ≡ false → o.head < j → bytes_received r s j ≡ Some b → j < length r.entries
     → meaning r.setting.exercise b ≡ Some p → is_answer_to p o.request ≡ true
-    → (is_party_outside r o (pair_of p.origin) ≡ true) × (is_told_from r o (pair_of p.origin) j ≡ true)
+    → (is_party_outside r o (pair_of p.origin) ≡ true) × (is_heard_from r o (pair_of p.origin) j ≡ true)
 unfolding is_party_outside
 heard_outside r h i s j o b p explains order maker outside after got within meant answers =
     let a : Pair = pair_of p.origin in
     let opened = open_there r h s j b p explains got meant outside in
-    let told : is_told_from r o a j ≡ true =
+    let told : is_heard_from r o a j ≡ true =
     told_there r s j o a b p maker (first_under r h i s o p explains order maker answers) (lt-ltb o.head j after) got meant
     (told_outsider r o p opened outside answers) in
-    let some = is_there (is_told_from r o a) (length r.entries) j within told in (
+    let some = is_there (is_heard_from r o a) (length r.entries) j within told in (
       and_from _ _ opened (and_from _ _ (ap is_some maker) (and_from _ _ (ap not (nobody_there r p outside)) (or_right (names o.request.target a) _ some))),
       told,
     )
 
-pub got_within : (r : PlainRecording) (s j : ℕ) (b : List ℕ) → bytes_got r s j ≡ Some b → j < length r.entries
-unfolding bytes_got
+pub got_within : (r : PlainRecording) (s j : ℕ) (b : List ℕ) → bytes_received r s j ≡ Some b → j < length r.entries
+unfolding bytes_received
 got_within r s j b got =
-    elim (slice_get r.entries j) as (λ o. slice_get r.entries j ≡ o → option_and_then (bytes_got_by s) o ≡ Some b → j < length r.entries) [
+    elim (slice_get r.entries j) as (λ o. slice_get r.entries j ≡ o → option_and_then (bytes_received_by s) o ≡ Some b → j < length r.entries) [
       | None ↦ λ _ e. absurd (cc)
       | Some e ↦ λ at _. slice_get_within r.entries j e at
     ] refl got
@@ -321,5 +321,5 @@ received_told r h i s j o limits explains made maker it =
           record { party = parties.Station t.0; takes_part = heard.0; heard = heard.1; settles = settling }
       | false ↦ λ outside.
           let heard = heard_outside r h i s j o parts.0 p explains order maker outside it.after parts.1 (got_within r s j parts.0 parts.1) parts.2 it.answers in
-          record { party = parties.Outside (outsider_at (pair_of p.origin)); takes_part = heard.0; heard = heard.1; settles = settling }
+          record { party = parties.Outside (site_application (pair_of p.origin)); takes_part = heard.0; heard = heard.1; settles = settling }
     ] refl

@@ -21,18 +21,18 @@ use Rattle.exercise_model.specs.Account.{pair_of}
 use Rattle.exercise_model.specs.Meaning.{meaning}
 use Rattle.exercise_model.specs.Setting.{is_open}
 use Rattle.exercise_review.specs.Digest.{digest, digest_of, identifier_at}
-use Rattle.exercise_review.specs.Entries.{bytes_sent_by, bytes_got_by, bytes_sent, bytes_got, sent_by, got_by}
+use Rattle.exercise_review.specs.Entries.{bytes_sent_by, bytes_received_by, bytes_sent, bytes_received, pdu_sent, pdu_received}
 use Rattle.exercise_review.specs.Order.{OrderData, sends_order, gets_order, entry_gets, gets_anywhere, is_outside, sends_under_id, is_first_under_id}
-use Rattle.exercise_review.specs.Party.{is_copy, is_told_from, tells_from}
+use Rattle.exercise_review.specs.Party.{is_copy, is_heard_from, is_answer_from}
 use Rattle.exercise_review.specs.Reply.{answers_order, takes_copy, is_reply, is_changing_reply, replies_in}
 use Rattle.exercise_review.specs.Word.{is_settling}
-use Rattle.exercise_review.specs.Register.{order_key, id_key, sent_key, got_key, entry_key, key_at, nowhere, second_key, second_at, holds, has_key, told_key, IsUnder}
+use Rattle.exercise_review.specs.Register.{order_key, id_key, sent_key, receipt_key, entry_key, key_at, nowhere, second_key, second_at, holds, has_key, maker_key, IsUnder}
 use Rattle.exercise_review.proofs.Runs.{there}
 
 -- ---- the keys of entries
 
-sent_keyed : (r : PlainRecording) (s i : ℕ) (q : Pdu) → sent_by r s i ≡ Some q → key_at r i ≡ sent_key r s i q
-unfolding sent_by bytes_sent key_at
+sent_keyed : (r : PlainRecording) (s i : ℕ) (q : Pdu) → pdu_sent r s i ≡ Some q → key_at r i ≡ sent_key r s i q
+unfolding pdu_sent bytes_sent key_at
 sent_keyed r s i q =
     elim (slice_get r.entries i) as (λ o. option_and_then (meaning r.setting.exercise) (option_and_then (bytes_sent_by s) o) ≡ Some q
     → option_and_then (entry_key r i) o ≡ sent_key r s i q) [
@@ -49,28 +49,28 @@ sent_keyed r s i q =
     of_entry (Received t stamp b) = λ h. absurd (cc)
     of_entry (Told t n y) = λ h. absurd (cc)
 
-got_keyed : (r : PlainRecording) (s i : ℕ) (q : Pdu) → got_by r s i ≡ Some q → key_at r i ≡ got_key r.setting.form s q
-unfolding got_by bytes_got key_at
+got_keyed : (r : PlainRecording) (s i : ℕ) (q : Pdu) → pdu_received r s i ≡ Some q → key_at r i ≡ receipt_key r.setting.form s q
+unfolding pdu_received bytes_received key_at
 got_keyed r s i q =
-    elim (slice_get r.entries i) as (λ o. option_and_then (meaning r.setting.exercise) (option_and_then (bytes_got_by s) o) ≡ Some q
-    → option_and_then (entry_key r i) o ≡ got_key r.setting.form s q) [
+    elim (slice_get r.entries i) as (λ o. option_and_then (meaning r.setting.exercise) (option_and_then (bytes_received_by s) o) ≡ Some q
+    → option_and_then (entry_key r i) o ≡ receipt_key r.setting.form s q) [
       | None ↦ λ h. absurd (cc)
       | Some e ↦ of_entry e
     ]
   where
-    of_entry : (e : Entry) → option_and_then (meaning r.setting.exercise) (bytes_got_by s e) ≡ Some q → entry_key r i e ≡ got_key r.setting.form s q
+    of_entry : (e : Entry) → option_and_then (meaning r.setting.exercise) (bytes_received_by s e) ≡ Some q → entry_key r i e ≡ receipt_key r.setting.form s q
     of_entry (Sent t stamp b) = λ h. absurd (cc)
     of_entry (Received t stamp b) = elim (nat_eq t s) as (λ k. nat_eq t s ≡ k → option_and_then (meaning r.setting.exercise) (cond k (Some b) None) ≡ Some q
-        → option_and_then (got_key r.setting.form t) (meaning r.setting.exercise b) ≡ got_key r.setting.form s q) [
-          | true ↦ λ same h. ap (option_and_then (got_key r.setting.form t)) h ∙ ap (λ u. got_key r.setting.form u q) (eqb-true t s same)
+        → option_and_then (receipt_key r.setting.form t) (meaning r.setting.exercise b) ≡ receipt_key r.setting.form s q) [
+          | true ↦ λ same h. ap (option_and_then (receipt_key r.setting.form t)) h ∙ ap (λ u. receipt_key r.setting.form u q) (eqb-true t s same)
           | false ↦ λ _ h. absurd (cc)
         ] refl
     of_entry (Told t n y) = λ h. absurd (cc)
 
 -- the second key of what is sent, where the recording is open
-sent_second : (r : PlainRecording) (s i : ℕ) (q : Pdu) → sent_by r s i ≡ Some q
+sent_second : (r : PlainRecording) (s i : ℕ) (q : Pdu) → pdu_sent r s i ≡ Some q
     → second_at r i ≡ (if is_open r.setting.form then (if is_request_body q.body then id_key s q else None) else None)
-unfolding sent_by bytes_sent second_at
+unfolding pdu_sent bytes_sent second_at
 sent_second r s i q at = ap (λ o. if is_open r.setting.form then o else None) (here (slice_get r.entries i) at)
   where
     of_entry : (e : Entry) → option_and_then (meaning r.setting.exercise) (bytes_sent_by s e) ≡ Some q
@@ -109,20 +109,20 @@ is_asking s k p e =
 asked_key : (r : PlainRecording) (s i : ℕ) (q : Pdu) → is_request_body q.body ≡ true → sent_key r s i q ≡ order_key s q
 unfolding sent_key
 asked_key r s i q asks =
-    ap (λ b. if b then order_key s q else option_and_then (order_key s) (option_and_then (got_by r s) (pair_of r i))) asks
+    ap (λ b. if b then order_key s q else option_and_then (order_key s) (option_and_then (pdu_received r s) (pair_of r i))) asks
 
 pub answer_key : (r : PlainRecording) (s i : ℕ) (q : Pdu) → is_request_body q.body ≡ false
-    → sent_key r s i q ≡ option_and_then (order_key s) (option_and_then (got_by r s) (pair_of r i))
+    → sent_key r s i q ≡ option_and_then (order_key s) (option_and_then (pdu_received r s) (pair_of r i))
 unfolding sent_key
 answer_key r s i q answers =
-    ap (λ b. if b then order_key s q else option_and_then (order_key s) (option_and_then (got_by r s) (pair_of r i))) answers
+    ap (λ b. if b then order_key s q else option_and_then (order_key s) (option_and_then (pdu_received r s) (pair_of r i))) answers
 
-got_asked : (f : Form) (s : ℕ) (q : Pdu) → is_request_body q.body ≡ true → got_key f s q ≡ order_key s q
-unfolding got_key
+got_asked : (f : Form) (s : ℕ) (q : Pdu) → is_request_body q.body ≡ true → receipt_key f s q ≡ order_key s q
+unfolding receipt_key
 got_asked f s q asks = ap (λ b. if b then order_key s q else (if is_open f then id_key s q else None)) asks
 
-got_answer : (f : Form) (s : ℕ) (q : Pdu) → is_open f ≡ true → is_request_body q.body ≡ false → got_key f s q ≡ id_key s q
-unfolding got_key
+got_answer : (f : Form) (s : ℕ) (q : Pdu) → is_open f ≡ true → is_request_body q.body ≡ false → receipt_key f s q ≡ id_key s q
+unfolding receipt_key
 got_answer f s q is answers =
     ap (λ b. if b then order_key s q else (if is_open f then id_key s q else None)) answers
     ∙ ap (λ b. if b then id_key s q else None) is
@@ -171,7 +171,7 @@ if_key (Some k) P f = f k refl
 pub sends_keyed : (r : PlainRecording) (s : ℕ) (p : Pdu) → is_request_body p.body ≡ true → (i : ℕ) → sends_order r s p i ≡ true → key_at r i ≡ order_key s p
 unfolding sends_order
 sends_keyed r s p asks i h =
-    let q = there (is_same_order p) (sent_by r s i) h in
+    let q = there (is_same_order p) (pdu_sent r s i) h in
     sent_keyed r s i q.0 q.1 ∙ asked_key r s i q.0 (sym (same_asking p q.0 q.2) ∙ asks) ∙ sym (same_key s p q.0 q.2)
 
 sends_have : (r : PlainRecording) (s : ℕ) (p : Pdu) (k : ℕ) → order_key s p ≡ Some k → IsUnder r (sends_order r s p) k
@@ -183,7 +183,7 @@ sends_under r s p = if_key (order_key s p) (IsUnder r (sends_order r s p)) (send
 gets_have : (r : PlainRecording) (s : ℕ) (p : Pdu) (k : ℕ) → order_key s p ≡ Some k → IsUnder r (gets_order r s p) k
 unfolding gets_order
 gets_have r s p k e i h =
-    let q = there (is_same_order p) (got_by r s i) h in
+    let q = there (is_same_order p) (pdu_received r s i) h in
     has_it r i k (got_keyed r s i q.0 q.1 ∙ got_asked r.setting.form s q.0 (sym (same_asking p q.0 q.2) ∙ is_asking s k p e) ∙ sym (same_key s p q.0 q.2) ∙ e)
 
 pub gets_under : (r : PlainRecording) (s : ℕ) (p : Pdu) → IfSome (order_key s p) (IsUnder r (gets_order r s p))
@@ -196,16 +196,16 @@ pub copy_has : (r : PlainRecording) (o : OrderData) (t k : ℕ) → order_key t 
 copy_has r o t = gets_have r t o.request
 
 -- what is received there is not sent there
-got_not_sent : (r : PlainRecording) (t i : ℕ) (q : Pdu) → got_by r t i ≡ Some q → sent_by r t i ≡ None
-unfolding got_by sent_by bytes_got bytes_sent
+got_not_sent : (r : PlainRecording) (t i : ℕ) (q : Pdu) → pdu_received r t i ≡ Some q → pdu_sent r t i ≡ None
+unfolding pdu_received pdu_sent bytes_received bytes_sent
 got_not_sent r t i q =
-    elim (slice_get r.entries i) as (λ o. option_and_then (meaning r.setting.exercise) (option_and_then (bytes_got_by t) o) ≡ Some q
+    elim (slice_get r.entries i) as (λ o. option_and_then (meaning r.setting.exercise) (option_and_then (bytes_received_by t) o) ≡ Some q
     → option_and_then (meaning r.setting.exercise) (option_and_then (bytes_sent_by t) o) ≡ None) [
       | None ↦ λ h. absurd (cc)
       | Some e ↦ of_entry e
     ]
   where
-    of_entry : (e : Entry) → option_and_then (meaning r.setting.exercise) (bytes_got_by t e) ≡ Some q
+    of_entry : (e : Entry) → option_and_then (meaning r.setting.exercise) (bytes_received_by t e) ≡ Some q
         → option_and_then (meaning r.setting.exercise) (bytes_sent_by t e) ≡ None
     of_entry (Sent s stamp b) = λ h. absurd (cc)
     of_entry (Received s stamp b) = λ h. refl
@@ -215,7 +215,7 @@ got_not_sent r t i q =
 pub copy_alone : (r : PlainRecording) (o : OrderData) (t i : ℕ) → is_copy r o t i ≡ true → (sends_order r t o.request i ≡ false) × (is_reply r o t i ≡ false)
 unfolding gets_order sends_order is_reply
 copy_alone r o t i h =
-    let q = there (is_same_order o.request) (got_by r t i) h in
+    let q = there (is_same_order o.request) (pdu_received r t i) h in
     let none = got_not_sent r t i q.0 q.1 in
     (ap (λ x. option_map_or (is_same_order o.request) x false) none, ap (λ x. option_map_or (λ (p : Pdu). is_answer_to p o.request) x false && takes_copy r o t i) none)
 
@@ -223,12 +223,12 @@ pub reply_has : (r : PlainRecording) (o : OrderData) (t k : ℕ) → order_key t
 unfolding is_reply gets_order
 reply_has r o t k e i h =
     let parts = and_parts (answers_order r o t i) _ h in
-    let q = there (λ (x : Pdu). is_answer_to x o.request) (sent_by r t i) parts.0 in
+    let q = there (λ (x : Pdu). is_answer_to x o.request) (pdu_sent r t i) parts.0 in
     let taken = there (is_copy r o t) (pair_of r i) parts.1 in
-    let copy = there (is_same_order o.request) (got_by r t taken.0) taken.2 in
+    let copy = there (is_same_order o.request) (pdu_received r t taken.0) taken.2 in
     has_it r i k (sent_keyed r t i q.0 q.1
     ∙ answer_key r t i q.0 (is_answering q.0 o.request q.2)
-    ∙ ap (λ (m : Option ℕ). option_and_then (order_key t) (option_and_then (got_by r t) m)) taken.1
+    ∙ ap (λ (m : Option ℕ). option_and_then (order_key t) (option_and_then (pdu_received r t) m)) taken.1
     ∙ ap (option_and_then (order_key t)) copy.1
     ∙ sym (same_key t o.request copy.0 copy.2) ∙ e)
 
@@ -251,10 +251,10 @@ unfolding is_outside
 from_open r p h = (and_parts (is_open r.setting.form) _ h).0
 
 told_has : (r : PlainRecording) (o : OrderData) (a : Pair) (k : ℕ) (m : Option ℕ) → option_map_or (λ s. id_key s o.request) m (id_key 0 o.request) ≡ Some k
-    → (i : ℕ) → option_map_or (tells_from r o a) (option_and_then (λ s. got_by r s i) m) false ≡ true → has_key r k i ≡ true
+    → (i : ℕ) → option_map_or (is_answer_from r o a) (option_and_then (λ s. pdu_received r s i) m) false ≡ true → has_key r k i ≡ true
 told_has r o a k None e i h = absurd (cc)
 told_has r o a k (Some s) e i h =
-    let q = there (tells_from r o a) (got_by r s i) h in
+    let q = there (is_answer_from r o a) (pdu_received r s i) h in
     let parts = and_parts (is_answer_to q.0 o.request) _ q.2 in
     let answers = parts.0 in
     has_it r i k (got_keyed r s i q.0 q.1
@@ -265,9 +265,9 @@ maker_is : (o : OrderData) (m : Option ℕ) → id_key (option_map_or (λ s. s) 
 maker_is o None = refl
 maker_is o (Some s) = refl
 
-pub told_under : (r : PlainRecording) (o : OrderData) (a : Pair) → IfSome (told_key o) (IsUnder r (is_told_from r o a))
-unfolding is_told_from told_key
-told_under r o a = if_key (told_key o) (IsUnder r (is_told_from r o a)) (λ k e i h.
+pub told_under : (r : PlainRecording) (o : OrderData) (a : Pair) → IfSome (maker_key o) (IsUnder r (is_heard_from r o a))
+unfolding is_heard_from maker_key
+told_under r o a = if_key (maker_key o) (IsUnder r (is_heard_from r o a)) (λ k e i h.
     told_has r o a k o.maker (sym (maker_is o o.maker) ∙ e) i (and_parts _ _ (and_parts (is_first_under_id r o) _ h).1).1)
 
 pub settling_under : (r : PlainRecording) (f : ℕ → Bool) (o : Option ℕ) → IfSome o (IsUnder r f) → IfSome o (IsUnder r (is_settling r f))
@@ -291,7 +291,7 @@ unfolding order_key
 asked_digest s p asks = ap (λ b. if b then Some (digest_of s p) else None) asks
 
 -- what a station sends, it sends
-pub sends_itself : (r : PlainRecording) (s i : ℕ) (p : Pdu) → sent_by r s i ≡ Some p → sends_order r s p i ≡ true
+pub sends_itself : (r : PlainRecording) (s i : ℕ) (p : Pdu) → pdu_sent r s i ≡ Some p → sends_order r s p i ≡ true
 unfolding sends_order
 sends_itself r s i p sent = ap (λ q. option_map_or (is_same_order p) q false) sent ∙ (order_decides p p).1 refl
 
@@ -305,7 +305,7 @@ pub id_first : (r : PlainRecording) (s i : ℕ) (p : Pdu) → sends_under_id r s
     → IfSome (second_at r i) (λ k. (j : ℕ) → sends_under_id r s p j ≡ true → holds (second_at r) k j ≡ true)
 unfolding sends_under_id
 id_first r s i p = under_one (second_at r) (sends_under_id r s p) (if is_open r.setting.form then id_key s p else None) (λ j h.
-    let q = there (λ (x : Pdu). is_request_body x.body && same_id (request_id_of p.body) (request_id_of x.body)) (sent_by r s j) h in
+    let q = there (λ (x : Pdu). is_request_body x.body && same_id (request_id_of p.body) (request_id_of x.body)) (pdu_sent r s j) h in
     let parts = and_parts (is_request_body q.0.body) _ q.2 in
     sent_second r s j q.0 q.1
     ∙ ap (λ b. if is_open r.setting.form then (if b then id_key s q.0 else None) else None) parts.0

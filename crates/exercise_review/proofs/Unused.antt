@@ -6,17 +6,17 @@ use Rattle.std.proofs.lemmas.List.{append-nil}
 use Rattle.dis_records.specs.declared.entity_state.EntityState.TheVariants.{Absent}
 use Rattle.exercise_model.specs.Station.{is_entity}
 use Rattle.exercise_model.specs.Recording.{PlainRecording}
-use Rattle.exercise_review.specs.declared.course.Course.{Course}
-use Rattle.exercise_review.specs.Course.{change_in, is_of, moves_all, IsNextIn, IsCourse, lives_in}
+use Rattle.exercise_review.specs.declared.course.StationChanges.{StationChanges}
+use Rattle.exercise_review.specs.Course.{change_in, is_of, is_change_of_all_in, IsNextIn, IsCourse, course_stretches}
 use Rattle.exercise_review.specs.Room.{lists_below}
 use Rattle.exercise_review.specs.Stay.{stay_of, entity_stays}
 use Rattle.exercise_review.proofs.Courses.{none_lived, still_up_to, lives_in_are}
 use Rattle.exercise_review.proofs.Lists.{lists_more}
 
 -- where no change is its own, and none of all brings what is Absent to life, an entity that the station does not open with has no life
-pub none_living : (c : Course) (e all : ℕ) → slice_index_or c.starts.items e Absent ≡ Absent
+pub none_living : (c : StationChanges) (e all : ℕ) → slice_index_or c.starts.items e Absent ≡ Absent
     → ((i : ℕ) → i < length c.changes.now → is_of e (change_in c.changes.now i) ≡ false)
-    → IsNextIn (moves_all Absent) c.changes.now 0 all → length c.changes.now ≤ all → lives_in c e ≡ []
+    → IsNextIn (is_change_of_all_in Absent) c.changes.now 0 all → length c.changes.now ≤ all → course_stretches c e ≡ []
 none_living c e all absent none next far =
     let ms = c.changes.now in
     let own : IsNextIn (is_of e) ms 0 (length ms) = record {
@@ -42,5 +42,5 @@ lists_still f a (suc d) none =
     ∙ append-nil (lists_below f (a + d))
     ∙ lists_still f a d (λ k l m. none k l (omega (arith, m)))
 
-pub no_stays : (r : PlainRecording) (s e : ℕ) (c : Course) → is_entity e ≡ true → IsCourse r s c → lives_in c e ≡ [] → entity_stays r s e ≡ []
+pub no_stays : (r : PlainRecording) (s e : ℕ) (c : StationChanges) → is_entity e ≡ true → IsCourse r s c → course_stretches c e ≡ [] → entity_stays r s e ≡ []
 no_stays r s e c entity course none = ap (map (stay_of s e)) (sym (lives_in_are r s e c entity course) ∙ none)

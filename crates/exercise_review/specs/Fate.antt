@@ -43,8 +43,8 @@ fate_rows t =
     ∷ (not t.got, fates.Lost)
     ∷ []
 
-abbrev pub fate_by : Traces → Fate
-fate_by t = first_fate (fate_rows t)
+abbrev pub fate_of_traces : Traces → Fate
+fate_of_traces t = first_fate (fate_rows t)
 
 -- the word of the first answer of station t that settles the order and that the maker heard
 abbrev pub word_heard : PlainRecording → OrderData → ℕ → Option Word
@@ -68,16 +68,16 @@ traces_of r o t =
 
 -- THE FATE OF AN ORDER at a party: unknown at an address of no recorded station
 unfoldable pub fate_of : PlainRecording → OrderData → Party → Fate
-fate_of r o (parties.Station t) = fate_by (traces_of r o t)
+fate_of r o (parties.Station t) = fate_of_traces (traces_of r o t)
 fate_of r o (parties.Outside a) = fates.Unknown
 
 -- the fate needs the log of the maker and the log of the party
-abbrev pub asks_both : Fate → Bool
-asks_both fates.Done = true
-asks_both fates.Refused = true
-asks_both fates.Answered = true
-asks_both fates.Unheard = true
-asks_both fate = false
+abbrev pub needs_both_logs : Fate → Bool
+needs_both_logs fates.Done = true
+needs_both_logs fates.Refused = true
+needs_both_logs fates.Answered = true
+needs_both_logs fates.Unheard = true
+needs_both_logs fate = false
 
 -- the spelling of a fate
 abbrev pub fate_text : Fate → List ℕ

@@ -7,7 +7,7 @@ use Rattle.siman_pdus.specs.Answers.{same_id}
 use Rattle.exercise_review.specs.declared.filter.Filter.{Filter}
 use Rattle.exercise_review.specs.declared.filter.Filter.TheVariants as filters
 use Rattle.exercise_review.specs.declared.told.OrderAt.{OrderAt}
-use Rattle.exercise_review.specs.declared.party.Outsider.{Outsider}
+use Rattle.exercise_review.specs.declared.party.SiteApplication.{SiteApplication}
 use Rattle.exercise_review.specs.declared.span.Span.{Span}
 use Rattle.exercise_review.specs.declared.tally.StationCounts.{StationCounts}
 use Rattle.exercise_review.specs.Party.{pair_at}
@@ -15,20 +15,20 @@ use Rattle.exercise_review.specs.Tally.{same_fate}
 
 -- ---- addresses and entities
 
-abbrev pub same_address : Outsider → Outsider → Bool
+abbrev pub same_address : SiteApplication → SiteApplication → Bool
 same_address a b = (a.site == b.site) && (a.application == b.application)
 
-abbrev pub is_there : Outsider → Option Outsider → Bool
+abbrev pub is_there : SiteApplication → Option SiteApplication → Bool
 is_there a None = false
 is_there a (Some b) = same_address a b
 
 -- an address is this one, or is missing
-abbrev pub is_there_or_nowhere : Outsider → Option Outsider → Bool
-is_there_or_nowhere a None = not false
-is_there_or_nowhere a (Some b) = same_address a b
+abbrev pub is_there_or_none : SiteApplication → Option SiteApplication → Bool
+is_there_or_none a None = not false
+is_there_or_none a (Some b) = same_address a b
 
 -- the address of the station of an entity
-abbrev pub place_of : EntityId → Outsider
+abbrev pub place_of : EntityId → SiteApplication
 place_of id = record { site = id.site; application = id.application }
 
 abbrev pub same_entity : EntityId → EntityId → Bool
@@ -49,7 +49,7 @@ passes_station x filter = false
 -- of that request of that maker; of that fate; none by a name
 abbrev pub passes_order : OrderAt → Filter → Bool
 passes_order x (filters.Station a) = same_address a x.from || is_there a x.at
-passes_order x (filters.Entity id) = is_there_or_nowhere (place_of id) x.at && covers_entity id x
+passes_order x (filters.Entity id) = is_there_or_none (place_of id) x.at && covers_entity id x
 passes_order x (filters.Request a n) = same_address a x.from && same_id x.request (Some n)
 passes_order x (filters.Fate f) = same_fate f x.outcome.fate
 passes_order x (filters.Kind name) = false
@@ -88,14 +88,14 @@ unfoldable pub keeps : List Filter → (Filter → Bool) → Bool
 keeps fs test = holds_under test fs 0 && (holds_under test fs 1 && (holds_under test fs 2 && (holds_under test fs 3 && holds_under test fs 4)))
 
 -- THE STATIONS, ORDERS AND SPANS that filters select, in order
-abbrev pub kept_stations : List Filter → List StationCounts → List StationCounts
-kept_stations fs xs = filter (λ x. keeps fs (passes_station x)) xs
+abbrev pub filtered_stations : List Filter → List StationCounts → List StationCounts
+filtered_stations fs xs = filter (λ x. keeps fs (passes_station x)) xs
 
-abbrev pub kept_orders : List Filter → List OrderAt → List OrderAt
-kept_orders fs xs = filter (λ x. keeps fs (passes_order x)) xs
+abbrev pub filtered_orders : List Filter → List OrderAt → List OrderAt
+filtered_orders fs xs = filter (λ x. keeps fs (passes_order x)) xs
 
-abbrev pub kept_spans : List Filter → List Span → List Span
-kept_spans fs xs = filter (λ x. keeps fs (passes_span x)) xs
+abbrev pub filtered_spans : List Filter → List Span → List Span
+filtered_spans fs xs = filter (λ x. keeps fs (passes_span x)) xs
 
 -- ---- some of a list
 

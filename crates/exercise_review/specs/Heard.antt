@@ -16,11 +16,11 @@ use Rattle.exercise_model.specs.Place.{first_below}
 use Rattle.exercise_review.specs.declared.receipt.Receipt.{Receipt}
 use Rattle.exercise_review.specs.declared.receipt.Receipts.{Receipts}
 use Rattle.exercise_review.specs.Counted.{last_below}
-use Rattle.exercise_review.specs.Entries.{bytes_got}
+use Rattle.exercise_review.specs.Entries.{bytes_received}
 
 -- station s receives these bytes at entry i
 unfoldable pub gets_in : PlainRecording → ℕ → List ℕ → ℕ → Bool
-gets_in r s b i = option_map_or (bytes_eq b) (bytes_got r s i) false
+gets_in r s b i = option_map_or (bytes_eq b) (bytes_received r s i) false
 
 -- equal stations and equal bytes
 abbrev pub same_receipt : Receipt → Receipt → Bool
@@ -51,6 +51,6 @@ asks_in r b = option_map_or (λ (p : Pdu). is_request_body p.body) (meaning r.se
 
 -- THE INDEX IS RIGHT: it has the first and the last of the entries below n at which a station receives these bytes;
 -- bytes that mean a request may be missing
-pub record AreHeard (r : PlainRecording) (n : ℕ) (heard : Heard) : Type 0 where
+pub record IsReceiptIndex (r : PlainRecording) (n : ℕ) (heard : Heard) : Type 0 where
   pub first : (k : Receipt) → asks_in r k.bytes.now ≡ false → option_map (λ (x : Receipts). x.first) (get same_receipt heard k) ≡ first_below (gets_in r k.station k.bytes.now) n
   pub last : (k : Receipt) → asks_in r k.bytes.now ≡ false → option_map (λ (x : Receipts). x.last) (get same_receipt heard k) ≡ last_below (gets_in r k.station k.bytes.now) n

@@ -6,9 +6,9 @@ use Rattle.siman_pdus.specs.Answers.{is_answer_to}
 use Rattle.exercise_model.specs.Recording.{PlainRecording}
 use Rattle.exercise_review.specs.declared.party.Party.{Party}
 use Rattle.exercise_review.specs.declared.party.Party.TheVariants as parties
-use Rattle.exercise_review.specs.Entries.{got_by}
+use Rattle.exercise_review.specs.Entries.{pdu_received}
 use Rattle.exercise_review.specs.Order.{OrderData}
-use Rattle.exercise_review.specs.Party.{pair_at, is_party, is_told_from, is_party_outside}
+use Rattle.exercise_review.specs.Party.{pair_at, is_party, is_heard_from, is_party_outside}
 use Rattle.exercise_review.specs.Reply.{is_news}
 use Rattle.exercise_review.specs.Word.{settles, settles_at}
 
@@ -20,7 +20,7 @@ is_party_of r o (parties.Outside a) = is_party_outside r o (pair_at a)
 -- the datagram that the maker received at entry i counts as heard from this party
 abbrev pub is_heard_of : PlainRecording → OrderData → Party → ℕ → Bool
 is_heard_of r o (parties.Station t) i = is_news r o t i
-is_heard_of r o (parties.Outside a) i = is_told_from r o (pair_at a) i
+is_heard_of r o (parties.Outside a) i = is_heard_from r o (pair_at a) i
 
 -- AN ANSWER OF SOME PARTY COUNTS AS HEARD at entry i and settles the order
 pub record IsHeardSettled (r : PlainRecording) (o : OrderData) (i : ℕ) : Type 0 where
@@ -33,7 +33,7 @@ pub record IsHeardSettled (r : PlainRecording) (o : OrderData) (i : ℕ) : Type 
 pub record IsReceivedSettled (r : PlainRecording) (o : OrderData) (s i : ℕ) : Type 0 where
   pub after : o.head < i
   pub pdu : Pdu
-  pub got : got_by r s i ≡ Some pdu
+  pub got : pdu_received r s i ≡ Some pdu
   pub answers : is_answer_to pdu o.request ≡ true
   pub settles : settles pdu.body ≡ true
 
@@ -46,8 +46,8 @@ settles_order order p = is_answer_to p order && settles p.body
 -- the PDUs that station s received after entry i, among the entries below n, the latest first
 unfoldable pub came_below : PlainRecording → (s i n : ℕ) → List Pdu
 came_below r s i zero = []
-came_below r s i (suc n) = option_to_list (if nat_lt i n then got_by r s n else None) ++ came_below r s i n
+came_below r s i (suc n) = option_to_list (if nat_lt i n then pdu_received r s n else None) ++ came_below r s i n
 
 -- THE PDUS THAT STATION s RECEIVED after entry i, the latest first
-abbrev pub came_after : PlainRecording → (s i : ℕ) → List Pdu
-came_after r s i = came_below r s i (length r.entries)
+abbrev pub pdus_after : PlainRecording → (s i : ℕ) → List Pdu
+pdus_after r s i = came_below r s i (length r.entries)

@@ -11,7 +11,7 @@ pub mod Heard
 pub mod Sourced
 pub mod Noted
 pub mod News
-pub mod Gathered
+pub mod StationTrace
 pub mod Reply
 pub mod Word
 pub mod Fate

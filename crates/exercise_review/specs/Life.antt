@@ -25,13 +25,13 @@ stretch_of l end = if is_absent l.state then [] else record { state = l.state; f
 
 -- a life after entry n, which leaves the entity in state y: it continues if the state is equal, else the stretch ends
 -- there and another begins
-abbrev pub lived_on : LifeSoFar → ℕ → EntityState → LifeSoFar
-lived_on l n y = if same_state y l.state then l else record { ended = l.ended ++ stretch_of l (Some n); state = y; since = Some n }
+abbrev pub life_after : LifeSoFar → ℕ → EntityState → LifeSoFar
+life_after l n y = if same_state y l.state then l else record { ended = l.ended ++ stretch_of l (Some n); state = y; since = Some n }
 
 -- the life of entity e of station s before entry n
 unfoldable pub life_before : PlainRecording → ℕ → ℕ → ℕ → LifeSoFar
 life_before r s e zero = record { ended = []; state = state_before r s e 0; since = None }
-life_before r s e (suc n) = lived_on (life_before r s e n) n (state_before r s e (suc n))
+life_before r s e (suc n) = life_after (life_before r s e n) n (state_before r s e (suc n))
 
 -- THE LIFE OF ENTITY e of station s: the longest stretches of the log in which it has one state other than Absent, in
 -- order, each from the change that began it (none: from the start) to the change that ended it (none: to the end)

@@ -14,9 +14,9 @@ use Rattle.exercise_model.specs.History.{station_at}
 use Rattle.exercise_model.specs.Setting.{is_open, is_recorded}
 use Rattle.exercise_model.specs.Meaning.{meaning}
 use Rattle.exercise_model.specs.Place.{first_below}
-use Rattle.exercise_review.specs.declared.order.Order.{Order}
+use Rattle.exercise_review.specs.declared.order.RecordedOrder.{RecordedOrder}
 use Rattle.exercise_review.specs.Counted.{count_below}
-use Rattle.exercise_review.specs.Entries.{sent_by, got_by}
+use Rattle.exercise_review.specs.Entries.{pdu_sent, pdu_received}
 
 -- an order: its head, the recorded station that made it (none if it is from outside), and its request
 pub record OrderData : Type 0 where
@@ -25,18 +25,18 @@ pub record OrderData : Type 0 where
   pub request : Pdu
 
 -- the order that a value of the code represents
-abbrev pub order_of : Order → OrderData
+abbrev pub order_of : RecordedOrder → OrderData
 order_of o = record { head = o.head; maker = o.maker; request = pdu_of o.request }
 
 -- ---- entries with equal orders
 
 -- entry i sends the order of p from station s: in all but timestamp and status it is p
 unfoldable pub sends_order : PlainRecording → ℕ → Pdu → ℕ → Bool
-sends_order r s p i = option_map_or (is_same_order p) (sent_by r s i) false
+sends_order r s p i = option_map_or (is_same_order p) (pdu_sent r s i) false
 
 -- entry i receives the order of p at station s
 unfoldable pub gets_order : PlainRecording → ℕ → Pdu → ℕ → Bool
-gets_order r s p i = option_map_or (is_same_order p) (got_by r s i) false
+gets_order r s p i = option_map_or (is_same_order p) (pdu_received r s i) false
 
 -- an entry receives the order of p, at any station
 abbrev pub entry_gets : ℕ → Pdu → Entry → Bool
@@ -65,16 +65,16 @@ is_for_station r p = is_some (first_below (is_meant r p) (length r.setting.stati
 -- ---- heads
 
 -- the head of a request of station s: the first entry at which it sends the order
-abbrev pub head_sent : PlainRecording → ℕ → Pdu → Option ℕ
-head_sent r s p = if is_request_body p.body then first_below (sends_order r s p) (length r.entries) else None
+abbrev pub sent_head : PlainRecording → ℕ → Pdu → Option ℕ
+sent_head r s p = if is_request_body p.body then first_below (sends_order r s p) (length r.entries) else None
 
 -- the head of a request from outside to a recorded station: the first entry at which any station receives the order
-abbrev pub head_got : PlainRecording → Pdu → Option ℕ
-head_got r p = if is_request_body p.body && (is_outside r p && is_for_station r p) then first_below (gets_anywhere r p) (length r.entries) else None
+abbrev pub received_head : PlainRecording → Pdu → Option ℕ
+received_head r p = if is_request_body p.body && (is_outside r p && is_for_station r p) then first_below (gets_anywhere r p) (length r.entries) else None
 
 abbrev pub head_of_entry : PlainRecording → Entry → Option ℕ
-head_of_entry r (Sent s stamp b) = option_and_then (head_sent r s) (meaning r.setting.exercise b)
-head_of_entry r (Received s stamp b) = option_and_then (head_got r) (meaning r.setting.exercise b)
+head_of_entry r (Sent s stamp b) = option_and_then (sent_head r s) (meaning r.setting.exercise b)
+head_of_entry r (Received s stamp b) = option_and_then (received_head r) (meaning r.setting.exercise b)
 head_of_entry r (Told s e y) = None
 
 -- THE HEAD OF AN ENTRY: if it sends a request, or receives one from outside, the first entry of that order
@@ -103,7 +103,7 @@ sends_of r o = option_map_or (λ s. count_below (sends_order r s o.request) (len
 
 -- entry i sends a request of station s under the identifier of p
 unfoldable pub sends_under_id : PlainRecording → ℕ → Pdu → ℕ → Bool
-sends_under_id r s p i = option_map_or (λ q. is_request_body q.body && same_id (request_id_of p.body) (request_id_of q.body)) (sent_by r s i) false
+sends_under_id r s p i = option_map_or (λ q. is_request_body q.body && same_id (request_id_of p.body) (request_id_of q.body)) (pdu_sent r s i) false
 
 -- o is the first order of its maker under its identifier
 unfoldable pub is_first_under_id : PlainRecording → OrderData → Bool

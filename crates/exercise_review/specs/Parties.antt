@@ -9,8 +9,8 @@ use Rattle.exercise_model.specs.Setting.{is_open}
 use Rattle.exercise_model.specs.Place.{first_below}
 use Rattle.exercise_review.specs.declared.party.Party.{Party}
 use Rattle.exercise_review.specs.declared.party.Party.TheVariants as parties
-use Rattle.exercise_review.specs.declared.party.Outsider.{Outsider}
-use Rattle.exercise_review.specs.Entries.{got_by}
+use Rattle.exercise_review.specs.declared.party.SiteApplication.{SiteApplication}
+use Rattle.exercise_review.specs.Entries.{pdu_received}
 use Rattle.exercise_review.specs.Order.{OrderData}
 use Rattle.exercise_review.specs.Party.{pair_at, is_at, is_party, is_party_outside}
 
@@ -37,13 +37,13 @@ abbrev pub party_address : PlainRecording → Party → Pair
 party_address r (parties.Station s) = (station_at r s).address
 party_address r (parties.Outside a) = pair_at a
 
-abbrev pub outsider_at : Pair → Outsider
-outsider_at a = record { site = a.site; application = a.application }
+abbrev pub site_application : Pair → SiteApplication
+site_application a = record { site = a.site; application = a.application }
 
 -- the party at an address, given the recorded station there, if any: that station, or else an unrecorded party
 abbrev pub party_by : PlainRecording → OrderData → Pair → Option ℕ → Option Party
 party_by r o a (Some s) = if is_party r o s then Some (parties.Station s) else None
-party_by r o a None = if is_party_outside r o a then Some (parties.Outside (outsider_at a)) else None
+party_by r o a None = if is_party_outside r o a then Some (parties.Outside (site_application a)) else None
 
 -- THE PARTY AT AN ADDRESS, if any
 unfoldable pub party_at : PlainRecording → OrderData → Pair → Option Party
@@ -66,7 +66,7 @@ has_outsiders r o = is_open r.setting.form && is_some o.maker
 
 -- rank of the origin of the PDU that the maker received at entry i
 abbrev pub number_heard : PlainRecording → OrderData → ℕ → Option ℕ
-number_heard r o i = option_map (λ p. number_of (pair_of p.origin)) (option_and_then (λ s. got_by r s i) o.maker)
+number_heard r o i = option_map (λ p. number_of (pair_of p.origin)) (option_and_then (λ s. pdu_received r s i) o.maker)
 
 -- rank of the candidate at place i: first the recorded stations, then the target, then the origins of the PDUs that the
 -- maker received
@@ -86,8 +86,8 @@ with_party n next None = next
 with_party n next (Some party) = Some (n, party)
 
 -- the lower of the party found so far and the party at rank n, if that is not below `from`
-abbrev pub nearer : PlainRecording → OrderData → (from : ℕ) → Option (ℕ × Party) → (n : ℕ) → Option (ℕ × Party)
-nearer r o from next n = if nat_lt n from || is_up_to n next then next else with_party n next (party_at r o (pair_numbered n))
+abbrev pub lower_party : PlainRecording → OrderData → (from : ℕ) → Option (ℕ × Party) → (n : ℕ) → Option (ℕ × Party)
+lower_party r o from next n = if nat_lt n from || is_up_to n next then next else with_party n next (party_at r o (pair_numbered n))
 
 -- no party has a rank from `from` on below n
 pub record AreNoParties (r : PlainRecording) (o : OrderData) (from n : ℕ) : Type 0 where

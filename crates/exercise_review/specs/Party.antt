@@ -10,8 +10,8 @@ use Rattle.exercise_model.specs.Recording.{PlainRecording}
 use Rattle.exercise_model.specs.History.{station_at}
 use Rattle.exercise_model.specs.Setting.{is_from, is_open}
 use Rattle.exercise_model.specs.Place.{first_below}
-use Rattle.exercise_review.specs.declared.party.Outsider.{Outsider}
-use Rattle.exercise_review.specs.Entries.{got_by}
+use Rattle.exercise_review.specs.declared.party.SiteApplication.{SiteApplication}
+use Rattle.exercise_review.specs.Entries.{pdu_received}
 use Rattle.exercise_review.specs.Order.{OrderData, gets_order, is_outside, is_meant, is_first_under_id}
 
 -- ---- copies
@@ -33,18 +33,18 @@ is_party r o t = is_meant r o.request t && (not (same_id o.maker (Some t)) || is
 -- ---- parties outside
 
 -- an address outside, as a pair
-abbrev pub pair_at : Outsider → Pair
+abbrev pub pair_at : SiteApplication → Pair
 pair_at a = record { site = a.site; application = a.application }
 
 -- p answers the order o, and its origin is the address a outside
-abbrev pub tells_from : PlainRecording → OrderData → Pair → Pdu → Bool
-tells_from r o a p = is_answer_to p o.request && (is_outside r p && is_from a p)
+abbrev pub is_answer_from : PlainRecording → OrderData → Pair → Pdu → Bool
+is_answer_from r o a p = is_answer_to p o.request && (is_outside r p && is_from a p)
 
 -- AN ANSWER FROM OUTSIDE: the order is its maker's first one under the identifier, and at entry i, after the head, the
 -- maker receives an answer to it from the address a outside
-unfoldable pub is_told_from : PlainRecording → OrderData → Pair → ℕ → Bool
-is_told_from r o a i =
-    is_first_under_id r o && (nat_lt o.head i && option_map_or (tells_from r o a) (option_and_then (λ s. got_by r s i) o.maker) false)
+unfoldable pub is_heard_from : PlainRecording → OrderData → Pair → ℕ → Bool
+is_heard_from r o a i =
+    is_first_under_id r o && (nat_lt o.head i && option_map_or (is_answer_from r o a) (option_and_then (λ s. pdu_received r s i) o.maker) false)
 
 -- the identifier names exactly this site and this application
 abbrev pub names : EntityId → Pair → Bool
@@ -63,4 +63,4 @@ is_recorded_at r a = is_some (first_below (is_at r a) (length r.setting.stations
 unfoldable pub is_party_outside : PlainRecording → OrderData → Pair → Bool
 is_party_outside r o a =
     is_open r.setting.form && (is_some o.maker && (not (is_recorded_at r a)
-    && (names o.request.target a || is_some (first_below (is_told_from r o a) (length r.entries)))))
+    && (names o.request.target a || is_some (first_below (is_heard_from r o a) (length r.entries)))))

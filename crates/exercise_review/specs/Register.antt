@@ -14,12 +14,12 @@ use Rattle.exercise_model.specs.Account.{pair_of}
 use Rattle.exercise_model.specs.Meaning.{meaning}
 use Rattle.exercise_model.specs.Setting.{is_open}
 use Rattle.exercise_findings.specs.Number.{entry_of}
-use Rattle.exercise_review.specs.declared.ways.Keyed.{Keyed}
-use Rattle.exercise_review.specs.declared.ways.Keyed.TheVariants.{Nothing, At, Key}
-use Rattle.exercise_review.specs.declared.ways.Ways.{Ways}
+use Rattle.exercise_review.specs.declared.entry_chains.Keyed.{Keyed}
+use Rattle.exercise_review.specs.declared.entry_chains.Keyed.TheVariants.{Nothing, At, Key}
+use Rattle.exercise_review.specs.declared.entry_chains.EntryChains.{EntryChains}
 use Rattle.exercise_review.specs.Counted.{last_below}
 use Rattle.exercise_review.specs.Digest.{digest, digest_of, identifier_at}
-use Rattle.exercise_review.specs.Entries.{got_by}
+use Rattle.exercise_review.specs.Entries.{pdu_received}
 use Rattle.exercise_review.specs.Order.{OrderData}
 
 -- ---- keys
@@ -39,16 +39,16 @@ id_key s p = option_map (identifier_at s) (request_id_of p.body)
 -- the key of a PDU that station s sends at entry i: for a request its key, for an answer the key of the request it
 -- takes up
 unfoldable pub sent_key : PlainRecording → (s i : ℕ) → Pdu → Option ℕ
-sent_key r s i p = if is_request_body p.body then order_key s p else option_and_then (order_key s) (option_and_then (got_by r s) (pair_of r i))
+sent_key r s i p = if is_request_body p.body then order_key s p else option_and_then (order_key s) (option_and_then (pdu_received r s) (pair_of r i))
 
 -- the key of a PDU that station s receives: for a request its key; for another PDU, in an open recording, the key of
 -- its request identifier
-unfoldable pub got_key : Form → ℕ → Pdu → Option ℕ
-got_key f s p = if is_request_body p.body then order_key s p else (if is_open f then id_key s p else None)
+unfoldable pub receipt_key : Form → ℕ → Pdu → Option ℕ
+receipt_key f s p = if is_request_body p.body then order_key s p else (if is_open f then id_key s p else None)
 
 abbrev pub entry_key : PlainRecording → ℕ → Entry → Option ℕ
 entry_key r i (Sent s stamp b) = option_and_then (sent_key r s i) (meaning r.setting.exercise b)
-entry_key r i (Received s stamp b) = option_and_then (got_key r.setting.form s) (meaning r.setting.exercise b)
+entry_key r i (Received s stamp b) = option_and_then (receipt_key r.setting.form s) (meaning r.setting.exercise b)
 entry_key r i (Told s e y) = None
 
 -- THE KEY OF ENTRY i, if it belongs to an order
@@ -94,10 +94,10 @@ abbrev pub key_numbered : Keys → ℕ → Option ℕ
 key_numbered keys number = option_and_then (slice_get keys.keys) (entry_of number)
 
 -- the key that a value of type `Keyed` gives
-abbrev pub key_told : Keys → Keyed → Option ℕ
-key_told keys Nothing = None
-key_told keys (At place) = slice_get keys.keys place
-key_told keys (Key k) = Some k
+abbrev pub given_key : Keys → Keyed → Option ℕ
+given_key keys Nothing = None
+given_key keys (At place) = slice_get keys.keys place
+given_key keys (Key k) = Some k
 
 -- the number for no entry
 abbrev pub no_entry : ℕ
@@ -114,7 +114,7 @@ IsBefore keys j number = (k : ℕ) → holds keys k j ≡ true → entry_of numb
 
 -- THE INDEX IS RIGHT for the entries below n: it has, for each key, the last entry with it; for each entry, the place
 -- of its key and the previous entry with it
-pub record AreRegistered (keys : ℕ → Option ℕ) (n : ℕ) (w : Ways) : Type 0 where
+pub record AreRegistered (keys : ℕ → Option ℕ) (n : ℕ) (w : EntryChains) : Type 0 where
   pub unique : IsDistinct nat_eq w.keys.keys
   pub count : length w.last.items ≡ length w.keys.keys
   pub last : (p k : ℕ) → slice_get w.keys.keys p ≡ Some k → entry_of (slice_index_or w.last.items p no_entry) ≡ last_below (holds keys k) n
@@ -123,7 +123,7 @@ pub record AreRegistered (keys : ℕ → Option ℕ) (n : ℕ) (w : Ways) : Type
   pub before : (i : ℕ) → i < n → IsBefore keys i (slice_index_or w.before.items i no_entry)
 
 -- entry n was added under the key at place p
-pub record IsKept (n p : ℕ) (old new : Ways) : Type 0 where
+pub record IsKept (n p : ℕ) (old new : EntryChains) : Type 0 where
   pub keys : new.keys ≡ old.keys
   pub count : length new.last.items ≡ length old.last.items
   pub last : (q : ℕ) → slice_index_or new.last.items q no_entry ≡ (if q == p then n else slice_index_or old.last.items q no_entry)
@@ -131,9 +131,9 @@ pub record IsKept (n p : ℕ) (old new : Ways) : Type 0 where
   pub before : (i : ℕ) → slice_index_or new.before.items i no_entry ≡ (if i == n then slice_index_or old.last.items p no_entry else slice_index_or old.before.items i no_entry)
 
 -- the index of all entries by their second keys, if it exists
-abbrev pub AreSeconds : PlainRecording → Option Ways → Type 0
+abbrev pub AreSeconds : PlainRecording → Option EntryChains → Type 0
 AreSeconds r second = IfSome second (AreRegistered (second_at r) (length r.entries))
 
 -- the key of the entries at which the maker of an order may receive answers to it
-unfoldable pub told_key : OrderData → Option ℕ
-told_key o = id_key (option_map_or (λ s. s) o.maker 0) o.request
+unfoldable pub maker_key : OrderData → Option ℕ
+maker_key o = id_key (option_map_or (λ s. s) o.maker 0) o.request

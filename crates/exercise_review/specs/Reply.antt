@@ -6,13 +6,13 @@ use Rattle.siman_pdus.specs.Answers.{is_answer_to}
 use Rattle.exercise_model.specs.Recording.{PlainRecording}
 use Rattle.exercise_model.specs.Place.{first_below}
 use Rattle.exercise_model.specs.Account.{pair_of, change_at}
-use Rattle.exercise_review.specs.Entries.{bytes_sent, bytes_got, sent_by}
+use Rattle.exercise_review.specs.Entries.{bytes_sent, bytes_received, pdu_sent}
 use Rattle.exercise_review.specs.Order.{OrderData}
 use Rattle.exercise_review.specs.Party.{is_copy}
 
 -- station t sends at entry i an answer to the order
 abbrev pub answers_order : PlainRecording → OrderData → ℕ → ℕ → Bool
-answers_order r o t i = option_map_or (λ p. is_answer_to p o.request) (sent_by r t i) false
+answers_order r o t i = option_map_or (λ p. is_answer_to p o.request) (pdu_sent r t i) false
 
 -- the request that entry i takes up is a copy of the order
 abbrev pub takes_copy : PlainRecording → OrderData → ℕ → ℕ → Bool
@@ -40,4 +40,4 @@ has_reply_in r o t b = is_some (first_below (replies_in r o t b) (length r.entri
 
 -- NEWS OF STATION t: the maker receives at entry i the bytes of one of its replies
 unfoldable pub is_news : PlainRecording → OrderData → ℕ → ℕ → Bool
-is_news r o t i = option_map_or (has_reply_in r o t) (option_and_then (λ s. bytes_got r s i) o.maker) false
+is_news r o t i = option_map_or (has_reply_in r o t) (option_and_then (λ s. bytes_received r s i) o.maker) false

@@ -6,10 +6,10 @@ use Rattle.exercise_review.specs.declared.fault.ReviewFault.{ReviewFault}
 use Rattle.exercise_review.specs.declared.fault.ReviewFault.TheVariants.{OverLimit, Memory}
 use Rattle.exercise_review.specs.declared.review.Review.{Review}
 use Rattle.exercise_review.specs.declared.review.TheConstants.{MOST_LINES}
-use Rattle.exercise_review.specs.declared.reviewed.KeptReview.{KeptReview}
+use Rattle.exercise_review.specs.declared.reviewed.ReviewTables.{ReviewTables}
 use Rattle.exercise_review.specs.declared.span.Span.{Span}
 use Rattle.exercise_review.specs.declared.told.OrderAt.{OrderAt}
-use Rattle.exercise_review.specs.Told.{orders_of, orders_told}
+use Rattle.exercise_review.specs.Told.{orders_of, reviewed_orders}
 use Rattle.exercise_review.specs.Span.{all_spans}
 use Rattle.exercise_review.specs.Row.{AreRows}
 use Rattle.exercise_review.specs.Stay.{span_at}
@@ -18,34 +18,34 @@ use Rattle.exercise_review.specs.Tally.{fates_of, station_counts}
 -- THE NUMBER OF ROWS of a review: the first one, and one for each station, for each order at each of its parties, and
 -- for each span of a life
 abbrev pub line_count : PlainRecording → ℕ
-line_count r = 1 + length r.setting.stations + length (orders_told r) + length (all_spans r)
+line_count r = 1 + length r.setting.stations + length (reviewed_orders r) + length (all_spans r)
 
 -- the orders at their parties and the spans of all lives, within the limit of rows
-pub record TellsLists (r : PlainRecording) (told : List OrderAt) (spans : List Span) : Type 0 where
-  pub told_is : told ≡ orders_told r
+pub record AreReviewLists (r : PlainRecording) (told : List OrderAt) (spans : List Span) : Type 0 where
+  pub told_is : told ≡ reviewed_orders r
   pub spans_is : spans ≡ all_spans r
   pub within : line_count r ≤ MOST_LINES
 
 -- A REVIEW has the number of orders, of "other" datagrams and of each fate, the counts of each station, the orders at
 -- their parties and the spans of all lives
-pub record TellsReview (r : PlainRecording) (v : Review) : Type 0 where
+pub record GivesReview (r : PlainRecording) (v : Review) : Type 0 where
   pub orders : v.orders ≡ length (orders_of r)
   pub others : v.others ≡ others_of r
-  pub fates : v.fates ≡ fates_of (orders_told r)
+  pub fates : v.fates ≡ fates_of (reviewed_orders r)
   pub stations : v.stations.items ≡ values_below (station_counts r) (length r.setting.stations)
-  pub lists : TellsLists r v.told.items v.spans.items
+  pub lists : AreReviewLists r v.told.items v.spans.items
 
 -- The result is the whole review, or OverLimit if it has too many rows; Memory says nothing about the recording.
 abbrev pub Reviews : PlainRecording → Result Review ReviewFault → Type 0
-Reviews r (Ok v) = TellsReview r v
+Reviews r (Ok v) = GivesReview r v
 Reviews r (Err OverLimit) = MOST_LINES < line_count r
 Reviews r (Err Memory) = Unit {0}
 
 -- THE TABLES OF A REVIEW: its contents in compact form
-pub record KeepsReview (r : PlainRecording) (k : KeptReview) : Type 0 where
+pub record AreReviewTables (r : PlainRecording) (k : ReviewTables) : Type 0 where
   pub orders : k.orders ≡ length (orders_of r)
-  pub fates : k.fates ≡ fates_of (orders_told r)
+  pub fates : k.fates ≡ fates_of (reviewed_orders r)
   pub stations : k.stations.items ≡ values_below (station_counts r) (length r.setting.stations)
-  pub rows : AreRows r k.rows.items (orders_told r)
+  pub rows : AreRows r k.rows.items (reviewed_orders r)
   pub stays : map (span_at r) k.stays.items ≡ all_spans r
   pub within : line_count r ≤ MOST_LINES

@@ -16,17 +16,17 @@ use Rattle.exercise_model.specs.Account.{pair_of as pair_at_entry}
 use Rattle.exercise_review.specs.declared.life.Stretch.{Stretch}
 use Rattle.exercise_review.specs.declared.changes.Made.{Made}
 use Rattle.exercise_review.specs.declared.span.Span.{Span}
-use Rattle.exercise_review.specs.Entries.{meant_at}
-use Rattle.exercise_review.specs.Life.{LifeSoFar, lived_on, lives_of}
+use Rattle.exercise_review.specs.Entries.{pdu_at}
+use Rattle.exercise_review.specs.Life.{LifeSoFar, life_after, lives_of}
 use Rattle.exercise_review.specs.Outcome.{stamp_at}
-use Rattle.exercise_review.specs.Parties.{outsider_at}
+use Rattle.exercise_review.specs.Parties.{site_application}
 use Rattle.exercise_review.specs.Room.{lists_below}
 
 -- ---- spans
 
 -- the request that the answer at entry i takes up, such as the answer at the start of a span
 unfoldable pub request_behind : PlainRecording → ℕ → Option Pdu
-request_behind r i = option_and_then (meant_at r) (pair_at_entry r i)
+request_behind r i = option_and_then (pdu_at r) (pair_at_entry r i)
 
 -- the entity e at this address
 abbrev pub entity_at : Pair → ℕ → EntityId
@@ -41,7 +41,7 @@ span_of r id x = record {
   to = x.until;
   since = option_and_then (stamp_at r) x.from;
   until = option_and_then (stamp_at r) x.until;
-  by = option_map (λ p. outsider_at (pair_of p.origin)) (option_and_then (request_behind r) x.from);
+  by = option_map (λ p. site_application (pair_of p.origin)) (option_and_then (request_behind r) x.from);
   request = option_and_then (λ p. request_id_of p.body) (option_and_then (request_behind r) x.from);
 }
 
@@ -50,12 +50,12 @@ abbrev pub entity_spans : PlainRecording → ℕ → ℕ → List Span
 entity_spans r s e = map (span_of r (entity_at (station_at r s).address e)) (lives_of r s e)
 
 -- the spans of entity n + 1, since entities are numbered from 1
-abbrev pub spans_behind : PlainRecording → ℕ → ℕ → List Span
-spans_behind r s n = entity_spans r s (n + 1)
+abbrev pub spans_of_next : PlainRecording → ℕ → ℕ → List Span
+spans_of_next r s n = entity_spans r s (n + 1)
 
 -- THE SPANS OF THE LIVES OF STATION s, of its entities 1 to 0xFFFD in order
 unfoldable pub spans_of : PlainRecording → ℕ → List Span
-spans_of r s = lists_below (spans_behind r s) LARGEST_ENTITY
+spans_of r s = lists_below (spans_of_next r s) LARGEST_ENTITY
 
 -- the spans of all stations
 unfoldable pub all_spans : PlainRecording → List Span
@@ -80,6 +80,6 @@ unfoldable pub changes_made : PlainRecording → ℕ → List Made
 changes_made r s = lists_below (made_at r s) (length r.entries)
 
 -- a life of entity e after changes of its station
-abbrev pub lived_by : ℕ → LifeSoFar → List Made → LifeSoFar
-lived_by e l [] = l
-lived_by e l (m ∷ ms) = lived_by e (lived_on l m.entry (changed e l.state m.change)) ms
+abbrev pub life_by_changes : ℕ → LifeSoFar → List Made → LifeSoFar
+life_by_changes e l [] = l
+life_by_changes e l (m ∷ ms) = life_by_changes e (life_after l m.entry (changed e l.state m.change)) ms

@@ -42,12 +42,12 @@ abbrev pub entity_stays : PlainRecording → ℕ → ℕ → List Stay
 entity_stays r s e = map (stay_of s e) (lives_of r s e)
 
 -- the stays of entity n + 1, since entities are numbered from 1
-abbrev pub stays_behind : PlainRecording → ℕ → ℕ → List Stay
-stays_behind r s n = entity_stays r s (n + 1)
+abbrev pub stays_of_next : PlainRecording → ℕ → ℕ → List Stay
+stays_of_next r s n = entity_stays r s (n + 1)
 
 -- the stays of station s, of its entities 1 to 0xFFFD in order
 unfoldable pub stays_of : PlainRecording → ℕ → List Stay
-stays_of r s = lists_below (stays_behind r s) LARGEST_ENTITY
+stays_of r s = lists_below (stays_of_next r s) LARGEST_ENTITY
 
 -- the stays of all stations
 unfoldable pub all_stays : PlainRecording → List Stay
@@ -58,13 +58,13 @@ abbrev pub stretch_so_far : LifeSoFar → Stretch
 stretch_so_far l = record { state = l.state; from = l.since; until = None }
 
 -- a stay that ends at the entry with number n: none if the entity is Absent
-abbrev pub ended_at : Stay → ℕ → List Stay
-ended_at y n = if is_absent y.state then [] else record y { until = n } ∷ []
+abbrev pub stay_ended_at : Stay → ℕ → List Stay
+stay_ended_at y n = if is_absent y.state then [] else record y { until = n } ∷ []
 
 -- the stay that ends at an entry that leaves the entity in state z, if that differs
-abbrev pub ended_by : Stay → ℕ → EntityState → List Stay
-ended_by y n z = if same_state z y.state then [] else ended_at y n
+abbrev pub stay_ended_by : Stay → ℕ → EntityState → List Stay
+stay_ended_by y n z = if same_state z y.state then [] else stay_ended_at y n
 
 -- the current stay after that entry
-abbrev pub stays_on : Stay → ℕ → EntityState → Stay
-stays_on y n z = if same_state z y.state then y else record y { state = z; from = n }
+abbrev pub stay_after : Stay → ℕ → EntityState → Stay
+stay_after y n z = if same_state z y.state then y else record y { state = z; from = n }

@@ -15,9 +15,9 @@ use Rattle.exercise_review.specs.declared.party.Party.{Party}
 use Rattle.exercise_review.specs.declared.party.Party.TheVariants as parties
 use Rattle.exercise_review.specs.declared.fault.ReviewFault.{ReviewFault}
 use Rattle.exercise_review.specs.declared.fault.ReviewFault.TheVariants.{OverLimit, Memory}
-use Rattle.exercise_review.specs.declared.row.Row.{Row}
+use Rattle.exercise_review.specs.declared.row.OrderRow.{OrderRow}
 use Rattle.exercise_review.specs.declared.told.OrderAt.{OrderAt}
-use Rattle.exercise_review.specs.declared.told.Told.{Told}
+use Rattle.exercise_review.specs.declared.told.OrderReview.{OrderReview}
 use Rattle.exercise_review.specs.declared.tally.FateCounts.{FateCounts}
 use Rattle.exercise_review.specs.declared.tally.Counts.{Counts}
 use Rattle.exercise_review.specs.declared.tally.StationCounts.{StationCounts}
@@ -26,8 +26,8 @@ use Rattle.exercise_review.specs.Order.{OrderData}
 use Rattle.exercise_review.specs.Records.{AreRecords}
 use Rattle.exercise_review.specs.Room.{lists_below}
 use Rattle.exercise_review.specs.Row.{AreRows}
-use Rattle.exercise_review.specs.Told.{orders_at, told_at, orders_of, orders_told}
-use Rattle.exercise_review.specs.Parties.{outsider_at}
+use Rattle.exercise_review.specs.Told.{orders_at, order_at_its_parties, orders_of, reviewed_orders}
+use Rattle.exercise_review.specs.Parties.{site_application}
 
 -- ---- fates
 
@@ -67,8 +67,8 @@ unfoldable pub many : {X : Type 0} → (X → Bool) → List X → ℕ
 many test xs = count_below (passes_at test xs) (length xs)
 
 -- the counts of all fates, given the count of each
-abbrev pub counts_by : (Fate → ℕ) → FateCounts
-counts_by count = record {
+abbrev pub fate_counts : (Fate → ℕ) → FateCounts
+fate_counts count = record {
   done = count fates.Done;
   answered = count fates.Answered;
   refused = count fates.Refused;
@@ -82,10 +82,10 @@ counts_by count = record {
 
 -- THE NUMBER OF ORDERS AT THEIR PARTIES with each fate, in all and at station s
 unfoldable pub fates_of : List OrderAt → FateCounts
-fates_of xs = counts_by (λ f. many (is_fate f) xs)
+fates_of xs = fate_counts (λ f. many (is_fate f) xs)
 
 unfoldable pub fates_at : ℕ → List OrderAt → FateCounts
-fates_at s xs = counts_by (λ f. many (is_fate_at s f) xs)
+fates_at s xs = fate_counts (λ f. many (is_fate_at s f) xs)
 
 -- ---- stations
 
@@ -115,24 +115,24 @@ place_at f None = None
 place_at f (Some (parties.Station t)) = Some (t * 9 + fate_number f)
 place_at f (Some (parties.Outside a)) = None
 
-abbrev pub row_place : Row → Option ℕ
+abbrev pub row_place : OrderRow → Option ℕ
 row_place x = place_at x.fate x.party
 
-unfoldable pub row_places : List Row → ℕ → Option ℕ
+unfoldable pub row_places : List OrderRow → ℕ → Option ℕ
 row_places xs i = option_and_then row_place (slice_get xs i)
 
 -- the number of the fate of each order at a party
-unfoldable pub row_numbers : List Row → ℕ → Option ℕ
-row_numbers xs i = option_map (λ (x : Row). fate_number x.fate) (slice_get xs i)
+unfoldable pub row_numbers : List OrderRow → ℕ → Option ℕ
+row_numbers xs i = option_map (λ (x : OrderRow). fate_number x.fate) (slice_get xs i)
 
 -- THE COUNTS OF STATION s, with its address: the entries of its log, the orders that it made, the fates of those that
 -- it was party to, its entities that exist at the end, and how many of them run
 unfoldable pub station_counts : PlainRecording → ℕ → StationCounts
 station_counts r s = record {
-  at = outsider_at (station_at r s).address;
+  at = site_application (station_at r s).address;
   records = many (is_entry_of s) r.entries;
   made = many (is_made_by s) (orders_of r);
-  fates = fates_at s (orders_told r);
+  fates = fates_at s (reviewed_orders r);
   entities = length (states_of r s);
   running = many is_running (states_of r s);
 }
@@ -145,20 +145,20 @@ ArePresent r all = (s : ℕ) → slice_index_or all s [] ≡ states_of r s
 
 -- THE REVIEW OF THE ENTRIES below n: the maker of each of their orders, the rows of these at their parties, and the
 -- number of entries of each station
-pub record IsTold (r : PlainRecording) (n : ℕ) (t : Told) : Type 0 where
+pub record IsReviewBelow (r : PlainRecording) (n : ℕ) (t : OrderReview) : Type 0 where
   pub records : AreRecords r (length r.entries) t.records.items
   pub makers : t.makers.items ≡ makers_of (lists_below (orders_at r) n)
-  pub rows : AreRows r t.rows.items (lists_below (told_at r) n)
+  pub rows : AreRows r t.rows.items (lists_below (order_at_its_parties r) n)
 
 -- the review of all entries with at most `most` rows; OverLimit means that there are more; Memory says nothing
-abbrev pub TellsWithin : PlainRecording → (most : ℕ) → Result Told ReviewFault → Type 0
-TellsWithin r most (Ok t) = IsTold r (length r.entries) t × AreRows r t.rows.items (orders_told r) × (length t.rows.items ≤ most)
-TellsWithin r most (Err OverLimit) = most < length (orders_told r)
-TellsWithin r most (Err Memory) = Unit {0}
+abbrev pub ReviewsWithin : PlainRecording → (most : ℕ) → Result OrderReview ReviewFault → Type 0
+ReviewsWithin r most (Ok t) = IsReviewBelow r (length r.entries) t × AreRows r t.rows.items (reviewed_orders r) × (length t.rows.items ≤ most)
+ReviewsWithin r most (Err OverLimit) = most < length (reviewed_orders r)
+ReviewsWithin r most (Err Memory) = Unit {0}
 
 -- the counts of each station: the orders that it made, and the fates of those that it was party to
 pub record AreCounted (r : PlainRecording) (c : Counts) : Type 0 where
   pub made : (s : ℕ) → s < length r.setting.stations → slice_index_or c.made.items s 0 ≡ many (is_made_by s) (orders_of r)
-  pub fates : (s : ℕ) → s < length r.setting.stations → (f : Fate) → slice_index_or c.fates.items (s * 9 + fate_number f) 0 ≡ many (is_fate_at s f) (orders_told r)
+  pub fates : (s : ℕ) → s < length r.setting.stations → (f : Fate) → slice_index_or c.fates.items (s * 9 + fate_number f) 0 ≡ many (is_fate_at s f) (reviewed_orders r)
   pub room : length c.fates.items ≡ length r.setting.stations * 9
   pub many_made : length c.made.items ≡ length r.setting.stations

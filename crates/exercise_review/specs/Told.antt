@@ -8,38 +8,38 @@ use Rattle.exercise_model.specs.Recording.{PlainRecording}
 use Rattle.exercise_review.specs.declared.outcome.Outcome.{Outcome}
 use Rattle.exercise_review.specs.declared.told.OrderAt.{OrderAt}
 use Rattle.exercise_review.specs.Order.{OrderData, order_at}
-use Rattle.exercise_review.specs.Parties.{outsider_at, maker_address, party_address}
+use Rattle.exercise_review.specs.Parties.{site_application, maker_address, party_address}
 use Rattle.exercise_review.specs.Outcome.{outcomes_of}
 use Rattle.exercise_review.specs.Room.{lists_below}
 
 -- AN ORDER AT A PARTY, with its maker, its kind, its target and its outcome there
-abbrev pub order_told : PlainRecording → OrderData → Outcome → OrderAt
-order_told r o x = record {
+abbrev pub order_at_party : PlainRecording → OrderData → Outcome → OrderAt
+order_at_party r o x = record {
   head = o.head;
-  from = outsider_at (maker_address r o);
+  from = site_application (maker_address r o);
   request = request_id_of o.request.body;
   kind = body_kind o.request.body;
   to = o.request.target;
-  at = option_map (λ party. outsider_at (party_address r party)) x.party;
+  at = option_map (λ party. site_application (party_address r party)) x.party;
   outcome = x;
 }
 
 -- an order at each of its parties, or once if it has none
 abbrev pub order_at_parties : PlainRecording → OrderData → List OrderAt
-order_at_parties r o = map (order_told r o) (outcomes_of r o)
+order_at_parties r o = map (order_at_party r o) (outcomes_of r o)
 
 -- the order at entry i, if any, as a list
 abbrev pub orders_at : PlainRecording → ℕ → List OrderData
 orders_at r i = option_to_list (order_at r i)
 
 -- the order at entry i, if any, at each of its parties
-abbrev pub told_at : PlainRecording → ℕ → List OrderAt
-told_at r i = flat_map (order_at_parties r) (orders_at r i)
+abbrev pub order_at_its_parties : PlainRecording → ℕ → List OrderAt
+order_at_its_parties r i = flat_map (order_at_parties r) (orders_at r i)
 
 -- THE ORDERS OF A RECORDING, by their heads
 unfoldable pub orders_of : PlainRecording → List OrderData
 orders_of r = lists_below (orders_at r) (length r.entries)
 
 -- ALL ORDERS AT ALL THEIR PARTIES
-unfoldable pub orders_told : PlainRecording → List OrderAt
-orders_told r = flat_map (order_at_parties r) (orders_of r)
+unfoldable pub reviewed_orders : PlainRecording → List OrderAt
+reviewed_orders r = flat_map (order_at_parties r) (orders_of r)

@@ -9,7 +9,7 @@ use Rattle.exercise_model.specs.Place.{first_below}
 use Rattle.exercise_review.specs.declared.word.Word.{Word}
 use Rattle.exercise_review.specs.declared.word.Word.TheVariants as words
 use Rattle.exercise_review.specs.Counted.{last_below}
-use Rattle.exercise_review.specs.Entries.{meant_at}
+use Rattle.exercise_review.specs.Entries.{pdu_at}
 
 -- the word of an Acknowledge, by its response flag; a number without a name is its own word
 abbrev pub response_word : ℕ → Word
@@ -48,11 +48,11 @@ settles body = false
 
 -- the word of the PDU that entry i sends or receives
 unfoldable pub word_at : PlainRecording → ℕ → Option Word
-word_at r i = option_and_then (λ p. word_of p.body) (meant_at r i)
+word_at r i = option_and_then (λ p. word_of p.body) (pdu_at r i)
 
 -- the PDU that entry i sends or receives settles its order
 unfoldable pub settles_at : PlainRecording → ℕ → Bool
-settles_at r i = option_map_or (λ p. settles p.body) (meant_at r i) false
+settles_at r i = option_map_or (λ p. settles p.body) (pdu_at r i) false
 
 -- entry i passes, and settles
 abbrev pub is_settling : PlainRecording → (ℕ → Bool) → ℕ → Bool
@@ -63,12 +63,12 @@ unfoldable pub first_settling : PlainRecording → (ℕ → Bool) → Option ℕ
 first_settling r test = first_below (is_settling r test) (length r.entries)
 
 -- THE ENTRY WHOSE WORD COUNTS among those that pass: the first that settles, else the last
-unfoldable pub telling : PlainRecording → (ℕ → Bool) → Option ℕ
-telling r test = option_or (first_settling r test) (last_below test (length r.entries))
+unfoldable pub decisive_entry : PlainRecording → (ℕ → Bool) → Option ℕ
+decisive_entry r test = option_or (first_settling r test) (last_below test (length r.entries))
 
 -- THE WORD THAT COUNTS among those that pass
-abbrev pub word_told : PlainRecording → (ℕ → Bool) → Option Word
-word_told r test = option_and_then (word_at r) (telling r test)
+abbrev pub decisive_word : PlainRecording → (ℕ → Bool) → Option Word
+decisive_word r test = option_and_then (word_at r) (decisive_entry r test)
 
 -- the spelling of a word
 abbrev pub word_text : Word → List ℕ

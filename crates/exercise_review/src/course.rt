@@ -5,7 +5,7 @@ ghost use Rattle.std.specs.Prelude.{◌≡◌, ℕ, ◌+◌, ◌-◌, ◌<◌, �
 ghost use Rattle.dis_records.specs.declared.entity_state.EntityState.TheVariants.{Absent};
 ghost use Rattle.exercise_model.specs.Station.{listed_state};
 ghost use Rattle.exercise_review.specs.Span.{changes_made};
-ghost use Rattle.exercise_review.specs.Course.{change_in, is_of, moves_all, IsNextIn, AreNextIn, AreUpTo, AreOwn, AreInOrder, IsCourse};
+ghost use Rattle.exercise_review.specs.Course.{change_in, is_of, is_change_of_all_in, IsNextIn, AreNextIn, AreUpTo, AreOwn, AreInOrder, IsCourse};
 
 use crate::changes::Made;
 use dis_records::{EntityState, Scope};
@@ -16,7 +16,7 @@ use std::alloc::{AllocError, Global};
 /// For each entity, its own changes (those of scope `One`). Places are indices into the station's
 /// list of changes; its length means none.
 #[derive(Drop)]
-pub(crate) struct Own {
+pub(crate) struct OwnChanges {
     /// First own change of each entity number, up to `last`; greater numbers have none.
     pub first: Vec<u32>,
     /// For each own change, the next own change of that entity.
@@ -26,13 +26,13 @@ pub(crate) struct Own {
 /// The changes of a station in order, with its opening states. Look-up of the next change lets a
 /// life skip changes that do not affect the entity.
 #[derive(Drop)]
-pub(crate) struct Course<'a> {
+pub(crate) struct StationChanges<'a> {
     pub changes: &'a [Made],
     /// Greatest entity number in the opening states or in an own change; 0 if there are none.
     pub last: u16,
     /// Opening state of each entity number up to `last`; greater numbers are Absent.
     pub starts: Vec<EntityState>,
-    pub own: Own,
+    pub own: OwnChanges,
     /// For each place, the first change of all entities from there on that changes the state
     /// Absent. Ends with the last such change, so it is empty if there are none.
     pub absent: Vec<u32>,
@@ -62,8 +62,8 @@ fn put(places: &mut Vec<u32>, at: usize, place: u32)
 }
 
 /// Whether a change is one of all entities and changes this state.
-fn moves_all(change: Change, state: EntityState) -> bool
-    ensures { result ≡ moves_all state change }
+fn is_change_of_all_in(change: Change, state: EntityState) -> bool
+    ensures { result ≡ is_change_of_all_in state change }
 {
     match change.scope {
         Scope::All => state_made(change.kind, state) != state,
@@ -72,14 +72,14 @@ fn moves_all(change: Change, state: EntityState) -> bool
 }
 
 /// Place just after the last change of all entities that changes this state; 0 if none does.
-fn last_move(changes: &[Made], state: EntityState) -> usize
+fn end_of_changes(changes: &[Made], state: EntityState) -> usize
     ensures within { result ≤ length changes.now }
-    ensures none { (i : ℕ) → result ≤ i → i < length changes.now → moves_all state (change_in changes.now i) ≡ false }
-    ensures last { 0 < result → moves_all state (change_in changes.now (result - 1)) ≡ true }
+    ensures none { (i : ℕ) → result ≤ i → i < length changes.now → is_change_of_all_in state (change_in changes.now i) ≡ false }
+    ensures last { 0 < result → is_change_of_all_in state (change_in changes.now (result - 1)) ≡ true }
 {
     let mut last = 0;
     for place in 0..changes.len() {
-        if moves_all(changes[place].change, state) {
+        if is_change_of_all_in(changes[place].change, state) {
             last = place + 1;
         }
     }
@@ -88,12 +88,12 @@ fn last_move(changes: &[Made], state: EntityState) -> usize
 
 /// First change of all entities, from a place on, that changes this state, given the table of the
 /// later places.
-fn move_from(changes: &[Made], state: EntityState, places: &[u32], place: usize) -> usize
+fn next_change(changes: &[Made], state: EntityState, places: &[u32], place: usize) -> usize
     requires within { place < length changes.now }
-    requires behind { AreNextIn (moves_all state) changes.now (place + 1) places.now }
-    ensures { IsNextIn (moves_all state) changes.now place result }
+    requires behind { AreNextIn (is_change_of_all_in state) changes.now (place + 1) places.now }
+    ensures { IsNextIn (is_change_of_all_in state) changes.now place result }
 {
-    if moves_all(changes[place].change, state) {
+    if is_change_of_all_in(changes[place].change, state) {
         place
     } else {
         place_in(places, place + 1, changes.len())
@@ -101,15 +101,15 @@ fn move_from(changes: &[Made], state: EntityState, places: &[u32], place: usize)
 }
 
 /// For each place, the first change of all entities from there on that changes this state.
-fn moves_of(alloc: Global, changes: &[Made], state: EntityState) -> Result<Vec<u32>, AllocError>
+fn next_changes(alloc: Global, changes: &[Made], state: EntityState) -> Result<Vec<u32>, AllocError>
     requires { length changes.now < 4294967296 }
-    ensures { IfOk result (λ places. AreNextIn (moves_all state) changes.now 0 places.items) }
+    ensures { IfOk result (λ places. AreNextIn (is_change_of_all_in state) changes.now 0 places.items) }
 {
-    let count = last_move(changes, state);
+    let count = end_of_changes(changes, state);
     let mut places = vec![in alloc; changes.len() as u32; count]?;
     for done in 0..count {
         let place = count - 1 - done;
-        let next = move_from(changes, state, &places, place);
+        let next = next_change(changes, state, &places, place);
         put(&mut places, place, next as u32);
     }
     Ok(places)
@@ -156,7 +156,7 @@ fn last_changed(changes: &[Made]) -> u16
 }
 
 /// Adds the change at a place to the table, which has all later changes.
-fn note_own(own: &mut Own, changes: &[Made], last: u16, place: usize)
+fn note_own(own: &mut OwnChanges, changes: &[Made], last: u16, place: usize)
     requires few { length changes.now < 4294967296 }
     requires within { place < length changes.now }
     requires numbers { AreUpTo last changes.now }
@@ -173,19 +173,19 @@ fn note_own(own: &mut Own, changes: &[Made], last: u16, place: usize)
 }
 
 /// Table without any own change.
-fn no_own(alloc: Global, changes: &[Made], last: u16) -> Result<Own, AllocError>
+fn no_own(alloc: Global, changes: &[Made], last: u16) -> Result<OwnChanges, AllocError>
     requires { length changes.now < 4294967296 }
     ensures { IfOk result (AreOwn changes.now last (length changes.now)) }
 {
     let end = changes.len() as u32;
-    Ok(Own {
+    Ok(OwnChanges {
         first: vec![in alloc; end; usize::from(last) + 1]?,
         next: vec![in alloc; end; changes.len()]?,
     })
 }
 
 /// Table of the own changes of each entity up to `last`.
-fn own_of(alloc: Global, changes: &[Made], last: u16) -> Result<Own, AllocError>
+fn own_of(alloc: Global, changes: &[Made], last: u16) -> Result<OwnChanges, AllocError>
     requires few { length changes.now < 4294967296 }
     requires numbers { AreUpTo last changes.now }
     ensures { IfOk result (AreOwn changes.now last 0) }
@@ -226,28 +226,28 @@ fn starts_of(
     Ok(starts)
 }
 
-impl<'a> Course<'a> {
+impl<'a> StationChanges<'a> {
     /// Course of a station, given the list of its changes.
     pub fn of<L: ExerciseLog>(
         alloc: Global,
         findings: &Findings<'_, L>,
         station: u16,
         changes: &'a [Made],
-    ) -> Result<Course<'a>, AllocError>
+    ) -> Result<StationChanges<'a>, AllocError>
         requires at { station < length findings.now.setting.stations }
         requires changes { changes.now ≡ changes_made findings.now station }
         ensures { IfOk result (IsCourse findings.now station) }
     {
         let opening = findings.log().station(usize::from(station)).opening();
         let last = greater(last_opening(opening), last_changed(changes));
-        Ok(Course {
+        Ok(StationChanges {
             changes,
             last,
             starts: starts_of(alloc, opening, last)?,
             own: own_of(alloc, changes, last)?,
-            absent: moves_of(alloc, changes, EntityState::Absent)?,
-            stopped: moves_of(alloc, changes, EntityState::Stopped)?,
-            running: moves_of(alloc, changes, EntityState::Running)?,
+            absent: next_changes(alloc, changes, EntityState::Absent)?,
+            stopped: next_changes(alloc, changes, EntityState::Stopped)?,
+            running: next_changes(alloc, changes, EntityState::Running)?,
         })
     }
 
@@ -281,10 +281,10 @@ impl<'a> Course<'a> {
     }
 
     /// Place of the first change of all entities, from a place on, that changes this state.
-    pub fn next_of_all(&self, state: EntityState, place: usize) -> usize
+    pub fn next_change_of_all(&self, state: EntityState, place: usize) -> usize
         requires order { AreInOrder self.now }
         requires within { place ≤ length self.now.changes.now }
-        ensures { IsNextIn (moves_all state) self.now.changes.now place result }
+        ensures { IsNextIn (is_change_of_all_in state) self.now.changes.now place result }
     {
         let places = match state {
             EntityState::Absent => &self.absent,

@@ -5,7 +5,7 @@ ghost use Rattle.siman_pdus.specs.Reading.{pdu_of};
 ghost use Rattle.exercise_model.specs.Entry.{is_entry};
 ghost use Rattle.exercise_model.specs.Held.{shown};
 ghost use Rattle.exercise_model.specs.Meaning.{meaning};
-ghost use Rattle.exercise_review.specs.Entries.{bytes_sent, bytes_got, sent_by, got_by, meant_at};
+ghost use Rattle.exercise_review.specs.Entries.{bytes_sent, bytes_received, pdu_sent, pdu_received, pdu_at};
 
 use crate::register::Register;
 use exercise_model::{EntryView, ExerciseLog, meaning_again, meaning_view};
@@ -93,9 +93,13 @@ pub(crate) fn bytes_sent<'a, L: ExerciseLog>(
 }
 
 /// The bytes that a station receives at an entry of a log.
-#[tactic(auto, unfolding(crate::specs::Entries::bytes_got))]
-pub(crate) fn bytes_got_in<L: ExerciseLog>(log: &L, station: u16, entry: usize) -> Option<&[u8]>
-    ensures { option_map (λ bytes. bytes.now) result ≡ bytes_got (L.recording log.now) station entry }
+#[tactic(auto, unfolding(crate::specs::Entries::bytes_received))]
+pub(crate) fn bytes_received_in<L: ExerciseLog>(
+    log: &L,
+    station: u16,
+    entry: usize,
+) -> Option<&[u8]>
+    ensures { option_map (λ bytes. bytes.now) result ≡ bytes_received (L.recording log.now) station entry }
 {
     match entry_in(log, entry) {
         Some(
@@ -110,24 +114,24 @@ pub(crate) fn bytes_got_in<L: ExerciseLog>(log: &L, station: u16, entry: usize) 
 }
 
 /// The bytes that a station receives at an entry of a recording.
-pub(crate) fn bytes_got<'a, L: ExerciseLog>(
+pub(crate) fn bytes_received<'a, L: ExerciseLog>(
     findings: &Register<'a, L>,
     station: u16,
     entry: usize,
 ) -> Option<&'a [u8]>
-    ensures { option_map (λ bytes. bytes.now) result ≡ bytes_got findings.now station entry }
+    ensures { option_map (λ bytes. bytes.now) result ≡ bytes_received findings.now station entry }
 {
-    bytes_got_in(findings.log(), station, entry)
+    bytes_received_in(findings.log(), station, entry)
 }
 
 /// The PDU that a station sends at an entry, unless the datagram is "other".
-#[tactic(auto, unfolding(crate::specs::Entries::sent_by))]
-pub(crate) fn sent_by<'a, L: ExerciseLog>(
+#[tactic(auto, unfolding(crate::specs::Entries::pdu_sent))]
+pub(crate) fn pdu_sent<'a, L: ExerciseLog>(
     findings: &Register<'a, L>,
     station: u16,
     entry: usize,
 ) -> Option<PduView<'a>>
-    ensures { option_map pdu_of result ≡ sent_by findings.now station entry }
+    ensures { option_map pdu_of result ≡ pdu_sent findings.now station entry }
 {
     match bytes_sent(findings, station, entry) {
         Some(bytes) => meant(findings, bytes),
@@ -136,24 +140,24 @@ pub(crate) fn sent_by<'a, L: ExerciseLog>(
 }
 
 /// The PDU that a station receives at an entry, unless the datagram is "other".
-#[tactic(auto, unfolding(crate::specs::Entries::got_by))]
-pub(crate) fn got_by<'a, L: ExerciseLog>(
+#[tactic(auto, unfolding(crate::specs::Entries::pdu_received))]
+pub(crate) fn pdu_received<'a, L: ExerciseLog>(
     findings: &Register<'a, L>,
     station: u16,
     entry: usize,
 ) -> Option<PduView<'a>>
-    ensures { option_map pdu_of result ≡ got_by findings.now station entry }
+    ensures { option_map pdu_of result ≡ pdu_received findings.now station entry }
 {
-    match bytes_got(findings, station, entry) {
+    match bytes_received(findings, station, entry) {
         Some(bytes) => meant(findings, bytes),
         None => None,
     }
 }
 
 /// The PDU that an entry of a log sends or receives, at any station.
-#[tactic(auto, unfolding(crate::specs::Entries::meant_at))]
-pub(crate) fn meant_in<L: ExerciseLog>(log: &L, entry: usize) -> Option<PduView<'_>>
-    ensures { option_map pdu_of result ≡ meant_at (L.recording log.now) entry }
+#[tactic(auto, unfolding(crate::specs::Entries::pdu_at))]
+pub(crate) fn pdu_in_log<L: ExerciseLog>(log: &L, entry: usize) -> Option<PduView<'_>>
+    ensures { option_map pdu_of result ≡ pdu_at (L.recording log.now) entry }
 {
     match entry_in(log, entry) {
         Some(EntryView::Sent { bytes, .. } | EntryView::Received { bytes, .. }) => {
@@ -164,11 +168,11 @@ pub(crate) fn meant_in<L: ExerciseLog>(log: &L, entry: usize) -> Option<PduView<
 }
 
 /// The PDU that an entry of a recording sends or receives, at any station.
-pub(crate) fn meant_at<'a, L: ExerciseLog>(
+pub(crate) fn pdu_at<'a, L: ExerciseLog>(
     findings: &Register<'a, L>,
     entry: usize,
 ) -> Option<PduView<'a>>
-    ensures { option_map pdu_of result ≡ meant_at findings.now entry }
+    ensures { option_map pdu_of result ≡ pdu_at findings.now entry }
 {
-    meant_in(findings.log(), entry)
+    pdu_in_log(findings.log(), entry)
 }

@@ -2,15 +2,15 @@
 
 ghost use Rattle.std.specs.Prelude.{◌≡◌};
 ghost use Rattle.exercise_review.specs.Order.{order_of};
-ghost use Rattle.exercise_review.specs.Gathered.{IsGathered};
-ghost use Rattle.exercise_review.specs.Fate.{fate_heard, fate_by, traces_of, fate_of, fate_text};
+ghost use Rattle.exercise_review.specs.StationTrace.{IsStationTrace};
+ghost use Rattle.exercise_review.specs.Fate.{fate_heard, fate_of_traces, traces_of, fate_of, fate_text};
 
-use crate::gathered::{Gathered, gathered_of};
 use crate::hints::Hints;
-use crate::order::Order;
+use crate::order::RecordedOrder;
 use crate::party::Party;
 use crate::register::Register;
 use crate::reply::Replies;
+use crate::station_trace::{StationTrace, station_trace};
 use crate::word::Word;
 use exercise_model::ExerciseLog;
 use std::fmt;
@@ -68,7 +68,7 @@ impl Fate {
 
     /// The fate at a recorded party, given the traces.
     pub fn of(traces: &Traces) -> Fate
-        ensures { result ≡ fate_by traces.now }
+        ensures { result ≡ fate_of_traces traces.now }
     {
         match traces.heard {
             Some(word) if traces.made => return Fate::of_heard(word),
@@ -119,8 +119,11 @@ impl fmt::Display for Fate {
 
 /// Traces of an order at a recorded station, given the data collected there.
 #[tactic(auto, unfolding(crate::specs::Fate::traces_of), using(crate::proofs::Walks::found_alike))]
-pub(crate) fn traces_by<L: ExerciseLog>(replies: &Replies<'_, L>, gathered: Gathered) -> Traces
-    requires { let q = replies.now in IsGathered q.findings.now (order_of q.order.now) q.station gathered }
+pub(crate) fn collected_traces<L: ExerciseLog>(
+    replies: &Replies<'_, L>,
+    gathered: StationTrace,
+) -> Traces
+    requires { let q = replies.now in IsStationTrace q.findings.now (order_of q.order.now) q.station gathered }
     ensures { let q = replies.now in result ≡ traces_of q.findings.now (order_of q.order.now) q.station }
 {
     Traces {
@@ -135,7 +138,7 @@ pub(crate) fn traces_by<L: ExerciseLog>(replies: &Replies<'_, L>, gathered: Gath
 /// Traces of an order at a recorded station. Allocates no memory.
 pub fn traces_of<L: ExerciseLog>(
     findings: &Register<'_, L>,
-    order: &Order<'_>,
+    order: &RecordedOrder<'_>,
     station: u16,
 ) -> Traces
     ensures { result ≡ traces_of findings.now (order_of order.now) station }
@@ -145,13 +148,17 @@ pub fn traces_of<L: ExerciseLog>(
         order,
         station,
     };
-    let gathered = gathered_of(&replies, replies.key(), None, &mut Hints::new());
-    traces_by(&replies, gathered)
+    let gathered = station_trace(&replies, replies.key(), None, &mut Hints::new());
+    collected_traces(&replies, gathered)
 }
 
 /// Fate of an order at one of its parties. Allocates no memory.
 #[tactic(auto, unfolding(crate::specs::Fate::fate_of))]
-pub fn fate_of<L: ExerciseLog>(findings: &Register<'_, L>, order: &Order<'_>, party: Party) -> Fate
+pub fn fate_of<L: ExerciseLog>(
+    findings: &Register<'_, L>,
+    order: &RecordedOrder<'_>,
+    party: Party,
+) -> Fate
     ensures { result ≡ fate_of findings.now (order_of order.now) party }
 {
     match party {

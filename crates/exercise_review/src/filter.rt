@@ -2,10 +2,10 @@
 
 ghost use Rattle.std.specs.Prelude.{◌≡◌, Some};
 ghost use Rattle.siman_pdus.specs.Answers.{same_id};
-ghost use Rattle.exercise_review.specs.Filter.{same_address, is_there, is_there_or_nowhere, place_of, same_entity, covers_entity, passes_station, passes_order, passes_span, key_of, is_under, passes_under, holds_under, keeps};
+ghost use Rattle.exercise_review.specs.Filter.{same_address, is_there, is_there_or_none, place_of, same_entity, covers_entity, passes_station, passes_order, passes_span, key_of, is_under, passes_under, holds_under, keeps};
 
 use crate::fate::Fate;
-use crate::party::Outsider;
+use crate::party::SiteApplication;
 use crate::span::Span;
 use crate::tally::StationCounts;
 use crate::told::OrderAt;
@@ -15,11 +15,11 @@ use dis_records::{EntityId, Kind, addresses, is_open};
 #[derive(Clone, Copy)]
 pub enum Filter {
     /// Rows of a station.
-    Station(Outsider),
+    Station(SiteApplication),
     /// Rows of an entity.
     Entity(EntityId),
     /// Rows of a request, by the address of its maker and its identifier.
-    Request(Outsider, u32),
+    Request(SiteApplication, u32),
     /// Orders with a fate.
     Fate(Fate),
     /// Entries of this name.
@@ -50,14 +50,14 @@ pub trait Filtered {
         ensures { result ≡ test self.now filter };
 }
 
-fn same_address(one: Outsider, other: Outsider) -> bool
+fn same_address(one: SiteApplication, other: SiteApplication) -> bool
     ensures { result ≡ same_address one other }
 {
     one.site == other.site && one.application == other.application
 }
 
 /// Whether an address is this one.
-fn is_there(address: Outsider, at: Option<Outsider>) -> bool
+fn is_there(address: SiteApplication, at: Option<SiteApplication>) -> bool
     ensures { result ≡ is_there address at }
 {
     match at {
@@ -67,10 +67,10 @@ fn is_there(address: Outsider, at: Option<Outsider>) -> bool
 }
 
 /// Address of the station of an entity.
-fn place_of(entity: EntityId) -> Outsider
+fn place_of(entity: EntityId) -> SiteApplication
     ensures { result ≡ place_of entity }
 {
-    Outsider {
+    SiteApplication {
         site: entity.site,
         application: entity.application,
     }

@@ -1,21 +1,21 @@
 //! Predictors for sequential look-ups.
 
-use exercise_findings::Hint;
+use exercise_findings::StridePredictor;
 
 /// Predicted places of the next key and the next receipt. They affect only the speed of a look-up,
 /// never its result.
 #[derive(Clone, Copy)]
 pub(crate) struct Hints {
-    pub keys: Hint,
-    pub receipts: Hint,
+    pub keys: StridePredictor,
+    pub receipts: StridePredictor,
 }
 
 impl Hints {
     /// No prediction yet.
     pub(crate) const fn new() -> Hints {
         Hints {
-            keys: Hint::new(),
-            receipts: Hint::new(),
+            keys: StridePredictor::new(),
+            receipts: StridePredictor::new(),
         }
     }
 }

@@ -5,15 +5,17 @@ ghost use Rattle.siman_pdus.specs.Reading.{pdu_of};
 ghost use Rattle.exercise_model.specs.Held.{shown};
 ghost use Rattle.exercise_model.specs.Account.{pair_of};
 ghost use Rattle.exercise_model.specs.Meaning.{meaning};
-ghost use Rattle.exercise_review.specs.Entries.{bytes_sent, bytes_got, got_by};
+ghost use Rattle.exercise_review.specs.Entries.{bytes_sent, bytes_received, pdu_received};
 ghost use Rattle.siman_pdus.specs.declared.pdu.Pdu.{Pdu};
-ghost use Rattle.exercise_review.specs.Register.{request_digest, order_key, id_key, got_key, key_at, second_at, key_told, AreRegistered};
+ghost use Rattle.exercise_review.specs.Register.{request_digest, order_key, id_key, receipt_key, key_at, second_at, given_key, AreRegistered};
 
 use crate::digest::{at_station, digest, identifier_at, moved};
-use crate::entries::{bytes_got_in, bytes_sent_in};
+use crate::entries::{bytes_received_in, bytes_sent_in};
+use crate::entry_chains::{
+    EntryChains, EntryKeys, Keyed, entry_before, index_key_of, indexed_key_place, key_of_entry,
+};
 use crate::recent::Recent;
 use crate::resent::is_resent;
-use crate::ways::{Keyed, Keying, Ways, entry_before, key_kept, keyed_as, keyed_by};
 use exercise_findings::Findings;
 use exercise_model::{EntryView, ExerciseLog, Form, meaning_view};
 use siman_pdus::{PduView, is_request, request_id};
@@ -34,7 +36,7 @@ pub(crate) fn request_digest(pdu: &PduView<'_>) -> Option<u64>
 
 /// Key at a station of a request with this digest.
 #[tactic(auto, unfolding(crate::specs::Register::order_key, crate::specs::Digest::digest_of))]
-pub(crate) fn key_under(station: u16, digest: Option<u64>) -> Option<u64>
+pub(crate) fn digest_key(station: u16, digest: Option<u64>) -> Option<u64>
     ensures { (p : Pdu) → digest ≡ request_digest p → result ≡ order_key station p }
 {
     match digest {
@@ -47,7 +49,7 @@ pub(crate) fn key_under(station: u16, digest: Option<u64>) -> Option<u64>
 pub(crate) fn order_key(station: u16, pdu: &PduView<'_>) -> Option<u64>
     ensures { result ≡ order_key station (pdu_of pdu.now) }
 {
-    key_under(station, request_digest(pdu))
+    digest_key(station, request_digest(pdu))
 }
 
 /// Key of the request identifier of a PDU at a station, if it has one: its digest there.
@@ -61,13 +63,13 @@ pub(crate) fn id_key(station: u16, pdu: &PduView<'_>) -> Option<u64>
 }
 
 /// The PDU that a station receives at an entry, unless the datagram is "other".
-#[tactic(auto, unfolding(crate::specs::Entries::got_by, crate::specs::Entries::bytes_got))]
+#[tactic(auto, unfolding(crate::specs::Entries::pdu_received, crate::specs::Entries::bytes_received))]
 fn got_at<'a, L: ExerciseLog>(
     findings: &Findings<'a, L>,
     station: u16,
     entry: usize,
 ) -> Option<PduView<'a>>
-    ensures { option_map pdu_of result ≡ got_by findings.now station entry }
+    ensures { option_map pdu_of result ≡ pdu_received findings.now station entry }
 {
     let log = findings.log();
     if entry >= log.entry_count() {
@@ -84,12 +86,12 @@ fn got_at<'a, L: ExerciseLog>(
 }
 
 /// Key of the request that a station receives at an entry.
-fn got_order_key<L: ExerciseLog>(
+fn received_order_key<L: ExerciseLog>(
     findings: &Findings<'_, L>,
     station: u16,
     entry: usize,
 ) -> Option<u64>
-    ensures { result ≡ option_and_then (order_key station) (got_by findings.now station entry) }
+    ensures { result ≡ option_and_then (order_key station) (pdu_received findings.now station entry) }
 {
     match got_at(findings, station, entry) {
         Some(request) => order_key(station, &request),
@@ -98,29 +100,29 @@ fn got_order_key<L: ExerciseLog>(
 }
 
 /// Index key of an answer: the key of the request it takes up, received at entry `taken`.
-fn keyed_taken<L: ExerciseLog>(
+fn answer_index_key<L: ExerciseLog>(
     findings: &Findings<'_, L>,
-    ways: &Ways,
+    ways: &EntryChains,
     station: u16,
     entry: usize,
     taken: usize,
 ) -> Keyed
     requires tied { AreRegistered (key_at findings.now) entry ways.now }
     requires within { entry < length findings.now.entries }
-    requires received { is_some (got_by findings.now station taken) ≡ true }
-    ensures { key_told ways.now.keys result ≡ option_and_then (order_key station) (got_by findings.now station taken) }
+    requires received { is_some (pdu_received findings.now station taken) ≡ true }
+    ensures { given_key ways.now.keys result ≡ option_and_then (order_key station) (pdu_received findings.now station taken) }
 {
     if findings.log().form() == Form::Open || taken >= entry {
-        return keyed_by(got_order_key(findings, station, taken));
+        return index_key_of(received_order_key(findings, station, taken));
     }
-    keyed_as(ways, taken)
+    indexed_key_place(ways, taken)
 }
 
 /// Index key of a sent request, if it repeats a recent one of this station except for the
 /// timestamp. Compares bytes and does not decode the datagram.
-fn keyed_sent_again<L: ExerciseLog>(
+fn resend_index_key<L: ExerciseLog>(
     findings: &Findings<'_, L>,
-    ways: &Ways,
+    ways: &EntryChains,
     station: u16,
     entry: usize,
     bytes: &[u8],
@@ -130,23 +132,23 @@ fn keyed_sent_again<L: ExerciseLog>(
     requires within { entry < length findings.now.entries }
     requires sent { bytes_sent findings.now station entry ≡ Some bytes.now }
     requires pair { pair_of findings.now entry ≡ None }
-    ensures { IfSome result (λ keyed. key_told ways.now.keys keyed ≡ key_at findings.now entry) }
+    ensures { IfSome result (λ keyed. given_key ways.now.keys keyed ≡ key_at findings.now entry) }
 {
     let earlier = recent?;
     if earlier >= entry || findings.pair(earlier).is_some() {
         return None;
     }
     match bytes_sent_in(findings.log(), station, earlier) {
-        Some(other) if is_resent(bytes, other) => Some(keyed_as(ways, earlier)),
+        Some(other) if is_resent(bytes, other) => Some(indexed_key_place(ways, earlier)),
         _ => None,
     }
 }
 
 /// Index key of a received datagram, if it repeats a recent one at this station except for the
 /// timestamp. Compares bytes and does not decode the datagram.
-fn keyed_got_again<L: ExerciseLog>(
+fn repeat_index_key<L: ExerciseLog>(
     findings: &Findings<'_, L>,
-    ways: &Ways,
+    ways: &EntryChains,
     station: u16,
     entry: usize,
     bytes: &[u8],
@@ -154,24 +156,24 @@ fn keyed_got_again<L: ExerciseLog>(
 ) -> Option<Keyed>
     requires tied { AreRegistered (key_at findings.now) entry ways.now }
     requires within { entry < length findings.now.entries }
-    requires received { bytes_got findings.now station entry ≡ Some bytes.now }
-    ensures { IfSome result (λ keyed. key_told ways.now.keys keyed ≡ key_at findings.now entry) }
+    requires received { bytes_received findings.now station entry ≡ Some bytes.now }
+    ensures { IfSome result (λ keyed. given_key ways.now.keys keyed ≡ key_at findings.now entry) }
 {
     let earlier = recent?;
     if earlier >= entry {
         return None;
     }
-    match bytes_got_in(findings.log(), station, earlier) {
-        Some(other) if is_resent(bytes, other) => Some(keyed_as(ways, earlier)),
+    match bytes_received_in(findings.log(), station, earlier) {
+        Some(other) if is_resent(bytes, other) => Some(indexed_key_place(ways, earlier)),
         _ => None,
     }
 }
 
 /// Index key of a sent datagram: for a request its key, for an answer the key of the request it
 /// takes up. An answer that takes up a request is not decoded.
-fn keyed_sent<L: ExerciseLog>(
+fn send_index_key<L: ExerciseLog>(
     findings: &Findings<'_, L>,
-    ways: &Ways,
+    ways: &EntryChains,
     station: u16,
     entry: usize,
     bytes: &[u8],
@@ -180,25 +182,25 @@ fn keyed_sent<L: ExerciseLog>(
     requires tied { AreRegistered (key_at findings.now) entry ways.now }
     requires within { entry < length findings.now.entries }
     requires sent { bytes_sent findings.now station entry ≡ Some bytes.now }
-    ensures { key_told ways.now.keys result ≡ key_at findings.now entry }
+    ensures { given_key ways.now.keys result ≡ key_at findings.now entry }
 {
     if let Some(taken) = findings.pair(entry) {
-        return keyed_taken(findings, ways, station, entry, taken as usize);
+        return answer_index_key(findings, ways, station, entry, taken as usize);
     }
-    if let Some(keyed) = keyed_sent_again(findings, ways, station, entry, bytes, recent.sent) {
+    if let Some(keyed) = resend_index_key(findings, ways, station, entry, bytes, recent.sent) {
         return keyed;
     }
     match meaning_view(findings.log().exercise(), bytes) {
-        Some(pdu) => keyed_by(order_key(station, &pdu)),
+        Some(pdu) => index_key_of(order_key(station, &pdu)),
         None => Keyed::Nothing,
     }
 }
 
 /// Key of a received PDU: for a request its key; for another PDU, in an open recording, the key of
 /// its request identifier. In a recording that is not open nothing looks up those other PDUs.
-#[tactic(auto, unfolding(crate::specs::Register::got_key))]
-fn got_key(form: Form, station: u16, pdu: &PduView<'_>) -> Option<u64>
-    ensures { result ≡ got_key form station (pdu_of pdu.now) }
+#[tactic(auto, unfolding(crate::specs::Register::receipt_key))]
+fn receipt_key(form: Form, station: u16, pdu: &PduView<'_>) -> Option<u64>
+    ensures { result ≡ receipt_key form station (pdu_of pdu.now) }
 {
     if is_request(pdu) {
         order_key(station, pdu)
@@ -211,7 +213,7 @@ fn got_key(form: Form, station: u16, pdu: &PduView<'_>) -> Option<u64>
 
 /// Key of a request at one station, given its key at another.
 #[tactic(auto, unfolding(crate::specs::Register::order_key, crate::specs::Digest::digest_of))]
-fn moved_key(from: u16, to: u16, key: Option<u64>) -> Option<u64>
+fn key_at_station(from: u16, to: u16, key: Option<u64>) -> Option<u64>
     ensures { (p : Pdu) → key ≡ order_key from p → result ≡ order_key to p }
 {
     match key {
@@ -221,22 +223,22 @@ fn moved_key(from: u16, to: u16, key: Option<u64>) -> Option<u64>
 }
 
 /// Index key at station `to` of the request that station `from` sent at entry `source`.
-fn keyed_moved(ways: &Ways, from: u16, to: u16, source: usize) -> Keyed
-    ensures { (keys : ℕ → Option ℕ) (n : ℕ) (p : Pdu) → AreRegistered keys n ways.now → source < n → keys source ≡ order_key from p → key_told ways.now.keys result ≡ order_key to p }
+fn moved_index_key(ways: &EntryChains, from: u16, to: u16, source: usize) -> Keyed
+    ensures { (keys : ℕ → Option ℕ) (n : ℕ) (p : Pdu) → AreRegistered keys n ways.now → source < n → keys source ≡ order_key from p → given_key ways.now.keys result ≡ order_key to p }
 {
     if from == to {
-        return keyed_as(ways, source);
+        return indexed_key_place(ways, source);
     }
-    keyed_by(moved_key(from, to, key_kept(ways, source)))
+    index_key_of(key_at_station(from, to, key_of_entry(ways, source)))
 }
 
 /// Index key of a received datagram, derived from earlier entries. The send of these bytes carries
 /// the request's key at its own station; an answer that takes up a request has no key when
 /// received. `None` in an open recording, where received answers have keys too and the datagram
 /// must be decoded.
-fn keyed_brought<L: ExerciseLog>(
+fn derived_index_key<L: ExerciseLog>(
     findings: &Findings<'_, L>,
-    ways: &Ways,
+    ways: &EntryChains,
     station: u16,
     entry: usize,
     bytes: &[u8],
@@ -244,8 +246,8 @@ fn keyed_brought<L: ExerciseLog>(
 ) -> Option<Keyed>
     requires tied { AreRegistered (key_at findings.now) entry ways.now }
     requires within { entry < length findings.now.entries }
-    requires received { bytes_got findings.now station entry ≡ Some bytes.now }
-    ensures { IfSome result (λ keyed. key_told ways.now.keys keyed ≡ key_at findings.now entry) }
+    requires received { bytes_received findings.now station entry ≡ Some bytes.now }
+    ensures { IfSome result (λ keyed. given_key ways.now.keys keyed ≡ key_at findings.now entry) }
 {
     let log = findings.log();
     if log.form() == Form::Open {
@@ -259,18 +261,18 @@ fn keyed_brought<L: ExerciseLog>(
         return Some(Keyed::Nothing);
     }
     if entry_before(ways, source).is_some() {
-        let again = keyed_got_again(findings, ways, station, entry, bytes, recent.got);
+        let again = repeat_index_key(findings, ways, station, entry, bytes, recent.got);
         if again.is_some() {
             return again;
         }
     }
-    Some(keyed_moved(ways, log.entry(source).station(), station, source))
+    Some(moved_index_key(ways, log.entry(source).station(), station, source))
 }
 
 /// Index key of a received datagram. Decodes it only if no earlier entry determines the key.
-fn keyed_received<L: ExerciseLog>(
+fn receipt_index_key<L: ExerciseLog>(
     findings: &Findings<'_, L>,
-    ways: &Ways,
+    ways: &EntryChains,
     station: u16,
     entry: usize,
     bytes: &[u8],
@@ -278,24 +280,24 @@ fn keyed_received<L: ExerciseLog>(
 ) -> Keyed
     requires tied { AreRegistered (key_at findings.now) entry ways.now }
     requires within { entry < length findings.now.entries }
-    requires received { bytes_got findings.now station entry ≡ Some bytes.now }
-    ensures { key_told ways.now.keys result ≡ key_at findings.now entry }
+    requires received { bytes_received findings.now station entry ≡ Some bytes.now }
+    ensures { given_key ways.now.keys result ≡ key_at findings.now entry }
 {
-    if let Some(keyed) = keyed_brought(findings, ways, station, entry, bytes, recent) {
+    if let Some(keyed) = derived_index_key(findings, ways, station, entry, bytes, recent) {
         return keyed;
     }
     let log = findings.log();
     match meaning_view(log.exercise(), bytes) {
-        Some(pdu) => keyed_by(got_key(log.form(), station, &pdu)),
+        Some(pdu) => index_key_of(receipt_key(log.form(), station, &pdu)),
         None => Keyed::Nothing,
     }
 }
 
 /// Index key of `entry`, whose contents are `view`, given the index of all earlier entries.
-#[tactic(auto, unfolding(crate::specs::Register::key_at, crate::specs::Entries::bytes_sent, crate::specs::Entries::bytes_got))]
-pub(crate) fn keyed_at<L: ExerciseLog>(
+#[tactic(auto, unfolding(crate::specs::Register::key_at, crate::specs::Entries::bytes_sent, crate::specs::Entries::bytes_received))]
+pub(crate) fn index_key<L: ExerciseLog>(
     findings: &Findings<'_, L>,
-    ways: &Ways,
+    ways: &EntryChains,
     view: EntryView<'_>,
     entry: usize,
     recent: Recent,
@@ -303,14 +305,14 @@ pub(crate) fn keyed_at<L: ExerciseLog>(
     requires tied { AreRegistered (key_at findings.now) entry ways.now }
     requires within { entry < length findings.now.entries }
     requires at { slice_get findings.now.entries entry ≡ Some (shown view) }
-    ensures { key_told ways.now.keys result ≡ key_at findings.now entry }
+    ensures { given_key ways.now.keys result ≡ key_at findings.now entry }
 {
     match view {
         EntryView::Sent { station, bytes, .. } => {
-            keyed_sent(findings, ways, station, entry, bytes, recent)
+            send_index_key(findings, ways, station, entry, bytes, recent)
         }
         EntryView::Received { station, bytes, .. } => {
-            keyed_received(findings, ways, station, entry, bytes, recent)
+            receipt_index_key(findings, ways, station, entry, bytes, recent)
         }
         EntryView::Told { .. } => Keyed::Nothing,
     }
@@ -344,7 +346,7 @@ pub(crate) struct SecondKeys<'a, L: ExerciseLog> {
     pub log: &'a L,
 }
 
-impl<L: ExerciseLog> Keying for SecondKeys<'_, L> {
+impl<L: ExerciseLog> EntryKeys for SecondKeys<'_, L> {
     ghost keys = { λ q. second_at (L.recording q.log.now) };
 
     fn key(&self, entry: usize) -> Option<u64> {

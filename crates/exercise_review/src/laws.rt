@@ -8,13 +8,13 @@ ghost use Rattle.exercise_model.specs.History.{History};
 ghost use Rattle.exercise_model.specs.Run.{Explains};
 ghost use Rattle.exercise_model.specs.Setting.{is_open};
 ghost use Rattle.exercise_review.specs.declared.party.Party.{Party};
-ghost use Rattle.exercise_review.specs.declared.party.Outsider.{Outsider};
+ghost use Rattle.exercise_review.specs.declared.party.SiteApplication.{SiteApplication};
 ghost use Rattle.exercise_review.specs.declared.party.Party.TheVariants.{Station, Outside};
 ghost use Rattle.exercise_review.specs.declared.fate.Fate.TheVariants.{Done, Answered, Refused, Pending, Unheard, Unanswered, Lost, Unknown};
 ghost use Rattle.exercise_review.specs.declared.word.Word.{Word};
 ghost use Rattle.exercise_review.specs.Order.{OrderData, order_at};
 ghost use Rattle.exercise_review.specs.Party.{is_party_outside};
-ghost use Rattle.exercise_review.specs.Fate.{fate_heard, fate_of, asks_both};
+ghost use Rattle.exercise_review.specs.Fate.{fate_heard, fate_of, needs_both_logs};
 ghost use Rattle.exercise_review.specs.InRuns.{Receives, HasReplied, HasSettled, Hears, HearsWord};
 ghost use Rattle.exercise_review.specs.Answering.{SendsAnswer, SendsSettling, GetsSettling};
 ghost use Rattle.exercise_findings.specs.State.{state_before};
@@ -24,8 +24,8 @@ ghost use Rattle.exercise_review.specs.Life.{lives_of, states_at, if_there};
 /// done, refused, answered and unheard, which need both logs. In a recording of the first form and
 /// in a closed one each order was made by a recorded station, and nobody outside is a party.
 pub fn one_side_is_not_enough()
-    ensures maker { (r : PlainRecording) (o : OrderData) (party : Party) → o.maker ≡ None → asks_both (fate_of r o party) ≡ false }
-    ensures party { (r : PlainRecording) (o : OrderData) (a : Outsider) → asks_both (fate_of r o (Outside a)) ≡ false }
+    ensures maker { (r : PlainRecording) (o : OrderData) (party : Party) → o.maker ≡ None → needs_both_logs (fate_of r o party) ≡ false }
+    ensures party { (r : PlainRecording) (o : OrderData) (a : SiteApplication) → needs_both_logs (fate_of r o (Outside a)) ≡ false }
     ensures closed { (r : PlainRecording) (o : OrderData) (a : Pair) → is_open r.setting.form ≡ false → is_party_outside r o a ≡ false }
     ensures inside { (r : PlainRecording) (i : ℕ) (o : OrderData) → is_open r.setting.form ≡ false → order_at r i ≡ Some o → is_some o.maker ≡ true }
 {}

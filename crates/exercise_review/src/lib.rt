@@ -2,7 +2,7 @@
 //! parties ([`is_party`], [`is_party_outside`], [`traces_of`], [`fate_of`]), the states of each
 //! entity over time ([`lives_of`]), datagrams that a log received and no log sent ([`missing_at`]),
 //! and counts of all these ([`review_of`] within a limit of rows, [`Reviewed`] row by row without
-//! memory, [`keeps`] for filters, [`receipts_counted`] for how often each sent datagram was
+//! memory, [`keeps`] for filters, [`receipt_counts`] for how often each sent datagram was
 //! received).
 //!
 //! It never needs a certificate or an order of time between stations, and never writes anything. It
@@ -18,6 +18,7 @@
 //! recording has an equal review.
 #![tactic(auto)]
 
+mod answer_receipts;
 mod answered;
 mod change_laws;
 mod changes;
@@ -26,12 +27,11 @@ mod counting;
 mod course;
 mod digest;
 mod entries;
+mod entry_chains;
 mod entry_number;
 mod fate;
 mod fault;
 mod filter;
-mod gathered;
-mod hearing;
 mod hints;
 mod keys;
 mod laws;
@@ -57,13 +57,13 @@ mod reviewed;
 mod row;
 mod sources;
 mod span;
+mod station_trace;
 mod stations;
 mod stay;
 mod stays;
 mod tally;
 mod told;
 mod walk;
-mod ways;
 mod word;
 
 pub use change_laws::changes_are_made;
@@ -76,11 +76,11 @@ pub use laws::{fates_hold, lives_are_states, one_side_is_not_enough};
 pub use life::{Stretch, lives_of};
 pub use manager_laws::managers_know;
 pub use missing::missing_at;
-pub use order::{Order, head_of, order_at};
+pub use order::{RecordedOrder, head_of, order_at};
 pub use outcome::{Outcome, outcomes_of};
 pub use parties::parties_of;
-pub use party::{Outsider, Party, is_party, is_party_outside};
-pub use receipts::receipts_counted;
+pub use party::{Party, SiteApplication, is_party, is_party_outside};
+pub use receipts::receipt_counts;
 pub use register::Register;
 pub use reply::change_of_order;
 pub use review::{MOST_LINES, Review, review_of};

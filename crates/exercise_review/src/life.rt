@@ -2,8 +2,8 @@
 
 ghost use Rattle.std.specs.Prelude.{◌≡◌, ◌<◌, ◌++◌, length, true, IfOk, OnOk};
 ghost use Rattle.exercise_model.specs.Station.{is_entity};
-ghost use Rattle.exercise_review.specs.Life.{life_in, stretch_of, lived_on, lives_of};
-ghost use Rattle.exercise_review.specs.Span.{changes_made, lived_by};
+ghost use Rattle.exercise_review.specs.Life.{life_in, stretch_of, life_after, lives_of};
+ghost use Rattle.exercise_review.specs.Span.{changes_made, life_by_changes};
 
 use crate::changes::{Made, changes_made};
 use crate::register::Register;
@@ -52,7 +52,7 @@ fn end_stretch(life: &mut Life, until: Option<usize>) -> Result<(), AllocError>
 
 /// Continues a life past an entry that leaves the entity in a state.
 fn live_on(life: &mut Life, entry: usize, state: EntityState) -> Result<(), AllocError>
-    ensures { OnOk result (life_in life.new ≡ lived_on (life_in life.old) entry state) }
+    ensures { OnOk result (life_in life.new ≡ life_after (life_in life.old) entry state) }
 {
     if state == life.state {
         return Ok(());
@@ -65,7 +65,7 @@ fn live_on(life: &mut Life, entry: usize, state: EntityState) -> Result<(), Allo
 
 /// Continues a life of an entity past the changes of its station.
 fn live_by(life: &mut Life, entity: u16, changes: &[Made]) -> Result<(), AllocError>
-    ensures { OnOk result (life_in life.new ≡ lived_by entity (life_in life.old) changes.now) }
+    ensures { OnOk result (life_in life.new ≡ life_by_changes entity (life_in life.old) changes.now) }
 {
     for made in changes {
         let state = made.change.changed(entity, life.state);
@@ -75,7 +75,7 @@ fn live_by(life: &mut Life, entity: u16, changes: &[Made]) -> Result<(), AllocEr
 }
 
 /// The life of an entity of a station, given the changes of that station.
-fn lives_by<L: ExerciseLog>(
+fn station_life<L: ExerciseLog>(
     alloc: Global,
     findings: &Register<'_, L>,
     station: u16,
@@ -112,7 +112,7 @@ pub fn lives_of<L: ExerciseLog>(
 {
     if is_entity(entity) {
         let changes = changes_made(alloc, findings.findings(), station)?;
-        lives_by(alloc, findings, station, entity, &changes)
+        station_life(alloc, findings, station, entity, &changes)
     } else {
         Ok(Vec::new(alloc))
     }

@@ -3,10 +3,10 @@
 
 ghost use Rattle.std.specs.Prelude.{◌≡◌, ℕ, ◌+◌, ◌<◌, ◌≤◌, [], false, length, map};
 ghost use Rattle.exercise_review.specs.Room.{AddsWithin};
-ghost use Rattle.exercise_review.specs.Course.{is_of, IsNextIn, IsStayTo, AreInOrder, start_in, lives_in};
+ghost use Rattle.exercise_review.specs.Course.{is_of, IsNextIn, IsStayEnd, AreInOrder, start_in, course_stretches};
 ghost use Rattle.exercise_review.specs.Stay.{stay_of, stretch_so_far};
 
-use crate::course::Course;
+use crate::course::StationChanges;
 use crate::entry_number::NO_ENTRY;
 use crate::fault::ReviewFault;
 use crate::stay::{Stay, end_stay, stay_on};
@@ -15,7 +15,7 @@ use exercise_model::LARGEST_ENTITY;
 
 /// Place of the next own change of an entity after `place`, where `own` is the next one from
 /// `place` on.
-fn own_past(course: &Course<'_>, entity: u16, own: usize, place: usize) -> usize
+fn next_own_after(course: &StationChanges<'_>, entity: u16, own: usize, place: usize) -> usize
     requires order { AreInOrder course.now }
     requires within { place < length course.now.changes.now }
     requires own { IsNextIn (is_of entity) course.now.changes.now place own }
@@ -30,18 +30,24 @@ fn own_past(course: &Course<'_>, entity: u16, own: usize, place: usize) -> usize
 
 /// Place up to which an entity has a state, from `place` on: its next own change `own`, or an
 /// earlier change of all entities that changes the state.
-fn stay_to(course: &Course<'_>, entity: u16, state: EntityState, own: usize, place: usize) -> usize
+fn stay_end(
+    course: &StationChanges<'_>,
+    entity: u16,
+    state: EntityState,
+    own: usize,
+    place: usize,
+) -> usize
     requires order { AreInOrder course.now }
     requires own { IsNextIn (is_of entity) course.now.changes.now place own }
-    ensures { IsStayTo entity state course.now.changes.now own place result }
+    ensures { IsStayEnd entity state course.now.changes.now own place result }
 {
     let _entity = entity;
-    let of_all = course.next_of_all(state, place);
+    let of_all = course.next_change_of_all(state, place);
     if of_all < own { of_all } else { own }
 }
 
 /// The stay of an entity of a station before the first change.
-fn start_stay(course: &Course<'_>, station: u16, entity: u16) -> Stay
+fn start_stay(course: &StationChanges<'_>, station: u16, entity: u16) -> Stay
     requires { AreInOrder course.now }
     ensures { result ≡ stay_of station entity (stretch_so_far (start_in course.now entity)) }
 {
@@ -59,37 +65,37 @@ fn start_stay(course: &Course<'_>, station: u16, entity: u16) -> Stay
 pub(crate) fn push_life(
     stays: &mut Vec<Stay>,
     most: usize,
-    course: &Course<'_>,
+    course: &StationChanges<'_>,
     station: u16,
     entity: u16,
 ) -> Result<(), ReviewFault>
     requires order { AreInOrder course.now }
     requires room { length stays.old.items ≤ most }
-    ensures { AddsWithin most stays.old.items (map (stay_of station entity) (lives_in course.now entity)) result stays.new.items }
+    ensures { AddsWithin most stays.old.items (map (stay_of station entity) (course_stretches course.now entity)) result stays.new.items }
 {
     let mut stay = start_stay(course, station, entity);
     let mut own = course.first_own(entity);
-    let mut place = stay_to(course, entity, stay.state, own, 0);
+    let mut place = stay_end(course, entity, stay.state, own, 0);
     while place < course.changes.len() {
         let made = course.changes[place];
         let state = made.change.changed(entity, stay.state);
         stay_on(stays, most, &mut stay, made.entry, state)?;
-        own = own_past(course, entity, own, place);
-        place = stay_to(course, entity, stay.state, own, place + 1);
+        own = next_own_after(course, entity, own, place);
+        place = stay_end(course, entity, stay.state, own, place + 1);
     }
     end_stay(stays, most, stay, NO_ENTRY)
 }
 
 /// Whether the life of an entity may have any stay: it exists before the first change, or some
 /// change may create it.
-pub(crate) fn may_live(course: &Course<'_>, entity: u16) -> bool
+pub(crate) fn has_possible_life(course: &StationChanges<'_>, entity: u16) -> bool
     requires { AreInOrder course.now }
-    ensures { result ≡ false → lives_in course.now entity ≡ [] }
+    ensures { result ≡ false → course_stretches course.now entity ≡ [] }
 {
     match course.start(entity) {
         EntityState::Absent => {
             let own = course.first_own(entity);
-            stay_to(course, entity, EntityState::Absent, own, 0) < course.changes.len()
+            stay_end(course, entity, EntityState::Absent, own, 0) < course.changes.len()
         }
         EntityState::Stopped | EntityState::Running => true,
     }
@@ -97,12 +103,12 @@ pub(crate) fn may_live(course: &Course<'_>, entity: u16) -> bool
 
 /// Greatest number of an entity whose life may have any stay, given the course of a station; at
 /// most 65,533.
-pub(crate) fn last_living(course: &Course<'_>) -> u16
+pub(crate) fn last_entity_alive(course: &StationChanges<'_>) -> u16
     requires { AreInOrder course.now }
     ensures within { result ≤ 65533 }
-    ensures none { (e : ℕ) → result < e → e ≤ 65533 → lives_in course.now e ≡ [] }
+    ensures none { (e : ℕ) → result < e → e ≤ 65533 → course_stretches course.now e ≡ [] }
 {
-    if course.next_of_all(EntityState::Absent, 0) < course.changes.len() {
+    if course.next_change_of_all(EntityState::Absent, 0) < course.changes.len() {
         return LARGEST_ENTITY;
     }
     if course.last < LARGEST_ENTITY {

@@ -7,7 +7,7 @@ ghost use Rattle.exercise_model.specs.Recording.{PlainRecording, IsRecording};
 ghost use Rattle.exercise_model.specs.History.{History};
 ghost use Rattle.exercise_model.specs.Run.{Explains};
 ghost use Rattle.exercise_review.specs.Order.{OrderData, order_at};
-ghost use Rattle.exercise_review.specs.Knowing.{IsHeardSettled, IsReceivedSettled, settles_order, came_after};
+ghost use Rattle.exercise_review.specs.Knowing.{IsHeardSettled, IsReceivedSettled, settles_order, pdus_after};
 
 /// The law of managers, for an order of a recorded station s in a recording that some run explains:
 /// the entries at which a party's answer that settles the order counts as heard are exactly those
@@ -21,5 +21,5 @@ pub fn managers_know()
     ensures received { (r : PlainRecording) (h : History) (i s j : ℕ) (o : OrderData) → IsRecording r → Explains r h → order_at r i ≡ Some o → o.maker ≡ Some s
         → IsReceivedSettled r o s j → IsHeardSettled r o j }
     ensures known { (r : PlainRecording) (h : History) (i s : ℕ) (o : OrderData) → IsRecording r → Explains r h → order_at r i ≡ Some o → o.maker ≡ Some s
-        → (list_any (settles_order o.request) (came_after r s o.head) ≡ true) ↔ ((j : ℕ) × IsHeardSettled r o j) }
+        → (list_any (settles_order o.request) (pdus_after r s o.head) ≡ true) ↔ ((j : ℕ) × IsHeardSettled r o j) }
 {}

@@ -6,7 +6,7 @@ ghost use Rattle.exercise_model.specs.History.{station_at};
 ghost use Rattle.exercise_model.specs.Place.{brings_request};
 ghost use Rattle.exercise_findings.specs.Missing.{gets_bytes, place_of, missing_pdu, is_first_receipt, missing_at};
 
-use crate::entries::{entry_at, entry_count, got_by, meant};
+use crate::entries::{entry_at, entry_count, meant, pdu_received};
 use crate::question::{Question, first_below};
 use crate::register::Register;
 use crate::stations::sender_of;
@@ -36,7 +36,7 @@ impl<L: ExerciseLog> Question for GetsBytes<'_, L> {
 
 /// The test whether a station receives, at an entry, a request that an answer could take up.
 #[derive(Drop)]
-struct Brings<'a, L: ExerciseLog> {
+struct GetsRequest<'a, L: ExerciseLog> {
     findings: &'a Register<'a, L>,
     station: u16,
     address: Address,
@@ -44,11 +44,11 @@ struct Brings<'a, L: ExerciseLog> {
     ghost own: { address ≡ (station_at findings.now station).address },
 }
 
-impl<L: ExerciseLog> Question for Brings<'_, L> {
+impl<L: ExerciseLog> Question for GetsRequest<'_, L> {
     ghost test = { λ q. brings_request q.findings.now q.station (pdu_of q.answer.now) };
 
     fn passes(&self, entry: usize) -> bool {
-        match got_by(self.findings, self.station, entry) {
+        match pdu_received(self.findings, self.station, entry) {
             Some(request) => is_asked(self.address, self.answer, &request),
             None => false,
         }
@@ -69,7 +69,7 @@ fn place_of<L: ExerciseLog>(
     if !is_answer(pdu) {
         return None;
     }
-    let brings = Brings {
+    let brings = GetsRequest {
         findings,
         station,
         address: findings.log().station(usize::from(station)).address(),

@@ -1,7 +1,7 @@
 //! The replies of a station that the maker of an order heard.
 
 ghost use Rattle.std.specs.Prelude.{◌≡◌, false, IfSome, if◌then◌else◌};
-ghost use Rattle.exercise_review.specs.Gathered.{settles_in, first_news, last_news, word_in, IsSpoken};
+ghost use Rattle.exercise_review.specs.StationTrace.{settles_in, first_news, last_news, word_in, IsEntryWord};
 ghost use Rattle.exercise_review.specs.Heard.{asks_in};
 ghost use Rattle.exercise_review.specs.News.{earlier, later};
 ghost use Rattle.exercise_review.specs.Sourced.{IsAnswerIn};
@@ -10,40 +10,40 @@ ghost use Rattle.exercise_review.specs.Word.{word_at};
 use crate::receipt::Receipts;
 use crate::register::Register;
 use crate::reply::Reply;
-use crate::word::{Spoken, Word};
-use exercise_findings::Hint;
+use crate::word::{EntryWord, Word};
+use exercise_findings::StridePredictor;
 use exercise_model::ExerciseLog;
 
 /// The replies of a station that the maker of an order heard.
 #[derive(Clone, Copy)]
-pub(crate) struct HeardNews {
+pub(crate) struct HeardReplies {
     /// The first entry at which it heard one that settles.
-    pub settled: Spoken,
+    pub settled: EntryWord,
     /// The last entry at which it heard one.
-    pub last: Spoken,
+    pub last: EntryWord,
 }
 
 /// The earlier of an entry and a second one, either of which may be missing.
 fn earlier<L: ExerciseLog>(
     findings: &Register<'_, L>,
-    kept: Spoken,
+    kept: EntryWord,
     entry: Option<usize>,
     word: Option<Word>,
-) -> Spoken
-    requires kept { IsSpoken findings.now kept }
+) -> EntryWord
+    requires kept { IsEntryWord findings.now kept }
     requires word { IfSome entry (λ i. word ≡ word_at findings.now i) }
     ensures entry { result.entry ≡ earlier kept.entry entry }
-    ensures word { IsSpoken findings.now result }
+    ensures word { IsEntryWord findings.now result }
 {
     let _findings = findings;
     match (kept.entry, entry) {
         (_, None) => kept,
-        (None, Some(_)) => Spoken { entry, word },
+        (None, Some(_)) => EntryWord { entry, word },
         (Some(left), Some(right)) => {
             if left <= right {
                 kept
             } else {
-                Spoken { entry, word }
+                EntryWord { entry, word }
             }
         }
     }
@@ -52,22 +52,22 @@ fn earlier<L: ExerciseLog>(
 /// The later of an entry and a second one, either of which may be missing.
 fn later<L: ExerciseLog>(
     findings: &Register<'_, L>,
-    kept: Spoken,
+    kept: EntryWord,
     entry: Option<usize>,
     word: Option<Word>,
-) -> Spoken
-    requires kept { IsSpoken findings.now kept }
+) -> EntryWord
+    requires kept { IsEntryWord findings.now kept }
     requires word { IfSome entry (λ i. word ≡ word_at findings.now i) }
     ensures entry { result.entry ≡ later kept.entry entry }
-    ensures word { IsSpoken findings.now result }
+    ensures word { IsEntryWord findings.now result }
 {
     let _findings = findings;
     match (kept.entry, entry) {
         (_, None) => kept,
-        (None, Some(_)) => Spoken { entry, word },
+        (None, Some(_)) => EntryWord { entry, word },
         (Some(left), Some(right)) => {
             if left <= right {
-                Spoken { entry, word }
+                EntryWord { entry, word }
             } else {
                 kept
             }
@@ -82,7 +82,7 @@ fn receipts_of<L: ExerciseLog>(
     maker: Option<u16>,
     entry: usize,
     reply: Reply<'_>,
-    hint: &mut Hint,
+    hint: &mut StridePredictor,
 ) -> (Option<usize>, Option<usize>)
     requires word { reply.word ≡ word_in findings.now reply.bytes.now }
     requires answers { asks_in findings.now reply.bytes.now ≡ false }
@@ -102,22 +102,22 @@ fn receipts_of<L: ExerciseLog>(
 
 /// The replies heard by an optional maker, from an entry on: those after it are `behind`, and
 /// `reply` is the one at the entry, if any.
-pub(crate) fn with_news<L: ExerciseLog>(
+pub(crate) fn heard_replies<L: ExerciseLog>(
     findings: &Register<'_, L>,
     maker: Option<u16>,
-    behind: HeardNews,
+    behind: HeardReplies,
     entry: usize,
     reply: Option<Reply<'_>>,
-    hint: &mut Hint,
-) -> HeardNews
-    requires settled { IsSpoken findings.now behind.settled }
-    requires last { IsSpoken findings.now behind.last }
+    hint: &mut StridePredictor,
+) -> HeardReplies
+    requires settled { IsEntryWord findings.now behind.settled }
+    requires last { IsEntryWord findings.now behind.last }
     requires word { IfSome reply (λ x. x.word ≡ word_in findings.now x.bytes.now) }
     requires answers { IfSome reply (λ x. asks_in findings.now x.bytes.now ≡ false) }
     requires sent { IfSome reply (λ x. IsAnswerIn findings.now entry x.bytes.now) }
     ensures settled { result.settled.entry ≡ (if settles_in reply.entry then earlier behind.settled.entry (first_news findings.now maker reply.entry) else behind.settled.entry) }
     ensures last { result.last.entry ≡ later behind.last.entry (last_news findings.now maker reply.entry) }
-    ensures words { IsSpoken findings.now result.settled × IsSpoken findings.now result.last }
+    ensures words { IsEntryWord findings.now result.settled × IsEntryWord findings.now result.last }
 {
     let Some(reply) = reply else {
         return behind;
@@ -128,7 +128,7 @@ pub(crate) fn with_news<L: ExerciseLog>(
     } else {
         behind.settled
     };
-    HeardNews {
+    HeardReplies {
         settled,
         last: later(findings, behind.last, last, reply.word),
     }

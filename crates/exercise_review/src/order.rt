@@ -6,12 +6,12 @@ ghost use Rattle.siman_pdus.specs.Reading.{pdu_of};
 ghost use Rattle.siman_pdus.specs.Role.{is_request_body};
 ghost use Rattle.exercise_model.specs.Held.{shown};
 ghost use Rattle.exercise_model.specs.Meaning.{meaning};
-ghost use Rattle.exercise_review.specs.Entries.{bytes_sent, sent_by};
-ghost use Rattle.exercise_review.specs.Register.{key_at, told_key};
-ghost use Rattle.exercise_review.specs.Order.{order_of, sends_order, gets_order, gets_anywhere, is_outside, is_for_station, head_sent, head_got, head_of, made_by, order_at, sends_of, sends_under_id, is_first_under_id};
+ghost use Rattle.exercise_review.specs.Entries.{bytes_sent, pdu_sent};
+ghost use Rattle.exercise_review.specs.Register.{key_at, maker_key};
+ghost use Rattle.exercise_review.specs.Order.{order_of, sends_order, gets_order, gets_anywhere, is_outside, is_for_station, sent_head, received_head, head_of, made_by, order_at, sends_of, sends_under_id, is_first_under_id};
 
 use crate::entries::{
-    bytes_sent as sent_bytes, entry_at, entry_count, got_by, meant, meant_again, sent_by,
+    bytes_sent as sent_bytes, entry_at, entry_count, meant, meant_again, pdu_received, pdu_sent,
 };
 use crate::keys::{id_key, order_key};
 use crate::question::{Question, first_below};
@@ -24,7 +24,7 @@ use siman_pdus::{PduView, is_request, is_under_identifier, same_order};
 
 /// An order: a request, identified by its head.
 #[derive(Drop)]
-pub struct Order<'a> {
+pub struct RecordedOrder<'a> {
     /// The entry at which its maker first sent it or, for an order from outside, at which a station
     /// first received it.
     pub head: usize,
@@ -47,7 +47,7 @@ impl<L: ExerciseLog> Question for Sends<'_, L> {
 
     #[tactic(auto, unfolding(crate::specs::Order::sends_order))]
     fn passes(&self, entry: usize) -> bool {
-        match sent_by(self.findings, self.station, entry) {
+        match pdu_sent(self.findings, self.station, entry) {
             Some(pdu) => same_order(self.request, &pdu),
             None => false,
         }
@@ -67,7 +67,7 @@ impl<L: ExerciseLog> Question for Gets<'_, L> {
 
     #[tactic(auto, unfolding(crate::specs::Order::gets_order))]
     fn passes(&self, entry: usize) -> bool {
-        match got_by(self.findings, self.station, entry) {
+        match pdu_received(self.findings, self.station, entry) {
             Some(pdu) => same_order(self.request, &pdu),
             None => false,
         }
@@ -109,7 +109,7 @@ impl<L: ExerciseLog> Question for SendsUnderId<'_, L> {
 
     #[tactic(auto, unfolding(crate::specs::Order::sends_under_id))]
     fn passes(&self, entry: usize) -> bool {
-        match sent_by(self.findings, self.station, entry) {
+        match pdu_sent(self.findings, self.station, entry) {
             Some(pdu) => is_request(&pdu) && is_under_identifier(self.request, &pdu),
             None => false,
         }
@@ -118,12 +118,12 @@ impl<L: ExerciseLog> Question for SendsUnderId<'_, L> {
 
 /// Head of a PDU that a station sends, if it is a request.
 #[tactic(auto, using(crate::proofs::Under::under_steps))]
-fn head_sent<L: ExerciseLog>(
+fn sent_head<L: ExerciseLog>(
     findings: &Register<'_, L>,
     station: u16,
     pdu: &PduView<'_>,
 ) -> Option<usize>
-    ensures { result ≡ head_sent findings.now station (pdu_of pdu.now) }
+    ensures { result ≡ sent_head findings.now station (pdu_of pdu.now) }
 {
     if !is_request(pdu) {
         return None;
@@ -137,17 +137,17 @@ fn head_sent<L: ExerciseLog>(
 }
 
 /// Whether a received PDU is a request from outside to a recorded station.
-fn is_asked_from_outside<L: ExerciseLog>(findings: &Register<'_, L>, pdu: &PduView<'_>) -> bool
+fn is_outside_request<L: ExerciseLog>(findings: &Register<'_, L>, pdu: &PduView<'_>) -> bool
     ensures { result ≡ (is_request_body (pdu_of pdu.now).body && (is_outside findings.now (pdu_of pdu.now) && is_for_station findings.now (pdu_of pdu.now))) }
 {
     is_request(pdu) && is_outside(findings, pdu) && is_for_station(findings, pdu)
 }
 
 /// Head of a received PDU, if it is a request from outside to a recorded station.
-fn head_got<L: ExerciseLog>(findings: &Register<'_, L>, pdu: &PduView<'_>) -> Option<usize>
-    ensures { result ≡ head_got findings.now (pdu_of pdu.now) }
+fn received_head<L: ExerciseLog>(findings: &Register<'_, L>, pdu: &PduView<'_>) -> Option<usize>
+    ensures { result ≡ received_head findings.now (pdu_of pdu.now) }
 {
-    if !is_asked_from_outside(findings, pdu) {
+    if !is_outside_request(findings, pdu) {
         return None;
     }
     let gets = GetsAnywhere {
@@ -166,11 +166,11 @@ pub fn head_of<L: ExerciseLog>(findings: &Register<'_, L>, entry: usize) -> Opti
 {
     match entry_at(findings, entry) {
         Some(EntryView::Sent { station, bytes, .. }) => match meant(findings, bytes) {
-            Some(pdu) => head_sent(findings, station, &pdu),
+            Some(pdu) => sent_head(findings, station, &pdu),
             None => None,
         },
         Some(EntryView::Received { bytes, .. }) => match meant(findings, bytes) {
-            Some(pdu) => head_got(findings, &pdu),
+            Some(pdu) => received_head(findings, &pdu),
             None => None,
         },
         Some(EntryView::Told { .. }) | None => None,
@@ -180,15 +180,15 @@ pub fn head_of<L: ExerciseLog>(findings: &Register<'_, L>, entry: usize) -> Opti
 /// Whether an entry at which a station sends a PDU is the head of that PDU. Tests only earlier
 /// entries under its key.
 #[tactic(auto, using(crate::proofs::Under::sends_itself))]
-fn is_head_sent<L: ExerciseLog>(
+fn is_sent_head<L: ExerciseLog>(
     findings: &Register<'_, L>,
     station: u16,
     pdu: &PduView<'_>,
     entry: usize,
 ) -> bool
     requires within { entry < length findings.now.entries }
-    requires sent { sent_by findings.now station entry ≡ Some (pdu_of pdu.now) }
-    ensures { result ≡ same_id (head_sent findings.now station (pdu_of pdu.now)) (Some entry) }
+    requires sent { pdu_sent findings.now station entry ≡ Some (pdu_of pdu.now) }
+    ensures { result ≡ same_id (sent_head findings.now station (pdu_of pdu.now)) (Some entry) }
 {
     if !is_request(pdu) {
         return false;
@@ -203,11 +203,15 @@ fn is_head_sent<L: ExerciseLog>(
 
 /// Whether an entry at which a station receives a PDU is the head of that PDU.
 #[tactic(auto, using(crate::proofs::Under::anywhere_first))]
-fn is_head_got<L: ExerciseLog>(findings: &Register<'_, L>, pdu: &PduView<'_>, entry: usize) -> bool
+fn is_received_head<L: ExerciseLog>(
+    findings: &Register<'_, L>,
+    pdu: &PduView<'_>,
+    entry: usize,
+) -> bool
     requires { entry < length findings.now.entries }
-    ensures { result ≡ same_id (head_got findings.now (pdu_of pdu.now)) (Some entry) }
+    ensures { result ≡ same_id (received_head findings.now (pdu_of pdu.now)) (Some entry) }
 {
-    if !is_asked_from_outside(findings, pdu) {
+    if !is_outside_request(findings, pdu) {
         return false;
     }
     let gets = GetsAnywhere {
@@ -228,9 +232,9 @@ fn is_sent_again<L: ExerciseLog>(
 ) -> bool
     requires within { entry < length findings.now.entries }
     requires sent { bytes_sent findings.now station entry ≡ Some bytes.now }
-    ensures { result ≡ true → same_id (option_and_then (head_sent findings.now station) (meaning findings.now.setting.exercise bytes.now)) (Some entry) ≡ false }
+    ensures { result ≡ true → same_id (option_and_then (sent_head findings.now station) (meaning findings.now.setting.exercise bytes.now)) (Some entry) ≡ false }
 {
-    match findings.before_under(entry) {
+    match findings.previous_with_key(entry) {
         Some(before) if before < entry => match sent_bytes(findings, station, before) {
             Some(other) => is_resent(bytes, other),
             None => false,
@@ -241,27 +245,27 @@ fn is_sent_again<L: ExerciseLog>(
 
 /// The order that a station makes at an entry that has a key, if the entry is its head. A repeat is
 /// not decoded.
-#[tactic(auto, unfolding(crate::specs::Entries::sent_by), using(crate::proofs::Keyed::sent_meant))]
+#[tactic(auto, unfolding(crate::specs::Entries::pdu_sent), using(crate::proofs::Keyed::sent_meaning))]
 fn order_sent<'a, L: ExerciseLog>(
     findings: &Register<'a, L>,
     station: u16,
     bytes: &'a [u8],
     entry: usize,
-) -> Option<Order<'a>>
+) -> Option<RecordedOrder<'a>>
     requires within { entry < length findings.now.entries }
     requires sent { bytes_sent findings.now station entry ≡ Some bytes.now }
     requires keyed { is_some (key_at findings.now entry) ≡ true }
     ensures { let p = meaning findings.now.setting.exercise bytes.now in
-        option_map order_of result ≡ (if same_id (option_and_then (head_sent findings.now station) p) (Some entry) then option_map (made_by entry (Some station)) p else None) }
+        option_map order_of result ≡ (if same_id (option_and_then (sent_head findings.now station) p) (Some entry) then option_map (made_by entry (Some station)) p else None) }
 {
     if is_sent_again(findings, station, bytes, entry) {
         return None;
     }
     let request = meant_again(findings, bytes);
-    if !is_head_sent(findings, station, &request, entry) {
+    if !is_sent_head(findings, station, &request, entry) {
         return None;
     }
-    Some(Order {
+    Some(RecordedOrder {
         head: entry,
         maker: Some(station),
         request,
@@ -270,23 +274,23 @@ fn order_sent<'a, L: ExerciseLog>(
 
 /// The order from outside that a station receives at an entry, if the entry is its head.
 #[tactic(auto, using(crate::proofs::Heads::nobody_outside))]
-fn order_got<'a, L: ExerciseLog>(
+fn received_order<'a, L: ExerciseLog>(
     findings: &Register<'a, L>,
     bytes: &'a [u8],
     entry: usize,
-) -> Option<Order<'a>>
+) -> Option<RecordedOrder<'a>>
     requires { entry < length findings.now.entries }
     ensures { let p = meaning findings.now.setting.exercise bytes.now in
-        option_map order_of result ≡ (if same_id (option_and_then (head_got findings.now) p) (Some entry) then option_map (made_by entry None) p else None) }
+        option_map order_of result ≡ (if same_id (option_and_then (received_head findings.now) p) (Some entry) then option_map (made_by entry None) p else None) }
 {
     if findings.log().form() != Form::Open {
         return None;
     }
     let request = meant(findings, bytes)?;
-    if !is_head_got(findings, &request, entry) {
+    if !is_received_head(findings, &request, entry) {
         return None;
     }
-    Some(Order {
+    Some(RecordedOrder {
         head: entry,
         maker: None,
         request,
@@ -295,11 +299,14 @@ fn order_got<'a, L: ExerciseLog>(
 
 /// The order whose head is this entry; `None` if it is no head. Allocates no memory.
 #[tactic(auto, unfolding(crate::specs::Order::order_at, crate::specs::Order::head_of))]
-pub fn order_at<'a, L: ExerciseLog>(findings: &Register<'a, L>, entry: usize) -> Option<Order<'a>>
+pub fn order_at<'a, L: ExerciseLog>(
+    findings: &Register<'a, L>,
+    entry: usize,
+) -> Option<RecordedOrder<'a>>
     ensures { option_map order_of result ≡ order_at findings.now entry }
 {
     if entry < entry_count(findings) {
-        order_keyed(findings, entry)
+        order_at_entry(findings, entry)
     } else {
         None
     }
@@ -311,7 +318,7 @@ fn order_in<'a, L: ExerciseLog>(
     findings: &Register<'a, L>,
     view: EntryView<'a>,
     entry: usize,
-) -> Option<Order<'a>>
+) -> Option<RecordedOrder<'a>>
     requires within { entry < length findings.now.entries }
     requires entry { slice_get findings.now.entries entry ≡ Some (shown view) }
     requires keyed { is_some (key_at findings.now entry) ≡ true }
@@ -319,7 +326,7 @@ fn order_in<'a, L: ExerciseLog>(
 {
     match view {
         EntryView::Sent { station, bytes, .. } => order_sent(findings, station, bytes, entry),
-        EntryView::Received { bytes, .. } => order_got(findings, bytes, entry),
+        EntryView::Received { bytes, .. } => received_order(findings, bytes, entry),
         EntryView::Told { .. } => None,
     }
 }
@@ -327,25 +334,25 @@ fn order_in<'a, L: ExerciseLog>(
 /// As [`order_at`], for an entry within the log. An entry without a key, or one that takes up a
 /// request, is not read.
 #[tactic(auto, using(crate::proofs::Keyed::no_order, crate::proofs::Paired::paired_no_order))]
-pub(crate) fn order_keyed<'a, L: ExerciseLog>(
+pub(crate) fn order_at_entry<'a, L: ExerciseLog>(
     findings: &Register<'a, L>,
     entry: usize,
-) -> Option<Order<'a>>
+) -> Option<RecordedOrder<'a>>
     requires { entry < length findings.now.entries }
     ensures { option_map order_of result ≡ order_at findings.now entry }
 {
-    if !findings.is_keyed(entry) || findings.pair(entry).is_some() {
+    if !findings.is_indexed(entry) || findings.pair(entry).is_some() {
         return None;
     }
     order_in(findings, findings.log().entry(entry), entry)
 }
 
-impl Order<'_> {
+impl RecordedOrder<'_> {
     /// Key of the entries at which its maker may receive answers to it; for an order from outside,
     /// the key at station 0.
-    #[tactic(auto, unfolding(crate::specs::Register::told_key))]
-    pub(crate) fn told_key(&self) -> Option<u64>
-        ensures { result ≡ told_key (order_of self.now) }
+    #[tactic(auto, unfolding(crate::specs::Register::maker_key))]
+    pub(crate) fn maker_key(&self) -> Option<u64>
+        ensures { result ≡ maker_key (order_of self.now) }
     {
         let station = match self.maker {
             Some(station) => station,

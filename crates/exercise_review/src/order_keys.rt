@@ -2,8 +2,8 @@
 
 ghost use Rattle.exercise_review.specs.Register.{key_at};
 
+use crate::entry_chains::EntryKeys;
 use crate::register::Register;
-use crate::ways::Keying;
 use exercise_model::ExerciseLog;
 
 /// The key of each entry by the order that the entry belongs to.
@@ -12,7 +12,7 @@ pub(crate) struct OrderKeys<'b, 'a, L: ExerciseLog> {
     pub register: &'b Register<'a, L>,
 }
 
-impl<L: ExerciseLog> Keying for OrderKeys<'_, '_, L> {
+impl<L: ExerciseLog> EntryKeys for OrderKeys<'_, '_, L> {
     ghost keys = { λ q. key_at q.register.now };
 
     #[tactic(auto, using(crate::proofs::KnownKeys::key_beyond))]

@@ -4,23 +4,23 @@ ghost use Rattle.std.specs.Prelude.{◌≡◌, Some, map, IfOk};
 ghost use Rattle.siman_pdus.specs.Reading.{pdu_of};
 ghost use Rattle.exercise_review.specs.Order.{order_of, order_at};
 ghost use Rattle.exercise_review.specs.Asked.{IsAsked};
-ghost use Rattle.exercise_review.specs.Gathered.{IsGathered};
+ghost use Rattle.exercise_review.specs.StationTrace.{IsStationTrace};
 ghost use Rattle.exercise_review.specs.Register.{request_digest};
 ghost use Rattle.exercise_review.specs.Stamped.{IsSaid};
-ghost use Rattle.exercise_review.specs.Outcome.{stamp_at, took_between, took, sends_told, outcome_here, outcome_outside, outcome_nowhere, outcome_at, outcomes_of};
+ghost use Rattle.exercise_review.specs.Outcome.{stamp_at, time_between, took, known_sends, recorded_outcome, outsider_outcome, partyless_outcome, outcome_at, outcomes_of};
 
 use crate::digest::digest_under;
 use crate::entries::{bytes_sent, entry_in};
-use crate::fate::{Fate, fate_of, traces_by};
-use crate::gathered::{Gathered, gathered_of};
+use crate::fate::{Fate, collected_traces, fate_of};
 use crate::hints::Hints;
-use crate::keys::{key_under, request_digest};
-use crate::order::Order;
+use crate::keys::{digest_key, request_digest};
+use crate::order::RecordedOrder;
 use crate::parties::parties_by;
-use crate::party::{Outsider, Party, ToldFrom, is_maker};
+use crate::party::{HeardFrom, Party, SiteApplication, is_maker};
 use crate::register::Register;
 use crate::reply::Replies;
-use crate::word::{Word, telling, word_of};
+use crate::station_trace::{StationTrace, station_trace};
+use crate::word::{Word, decisive_entry, word_of};
 use exercise_model::{EntryView, ExerciseLog};
 use std::alloc::{AllocError, Global};
 
@@ -72,12 +72,12 @@ fn stamp_at<L: ExerciseLog>(findings: &Register<'_, L>, entry: usize) -> Option<
 }
 
 /// Time between two entries by the clock of their station; `None` if that was set back.
-fn took_between<L: ExerciseLog>(
+fn time_between<L: ExerciseLog>(
     findings: &Register<'_, L>,
     first: usize,
     last: usize,
 ) -> Option<u64>
-    ensures { result ≡ took_between findings.now first last }
+    ensures { result ≡ time_between findings.now first last }
 {
     match (stamp_at(findings, first), stamp_at(findings, last)) {
         (Some(from), Some(until)) if from <= until => Some(until - from),
@@ -88,20 +88,20 @@ fn took_between<L: ExerciseLog>(
 /// Time from the head of an order to the entry `news`.
 fn took<L: ExerciseLog>(
     findings: &Register<'_, L>,
-    order: &Order<'_>,
+    order: &RecordedOrder<'_>,
     news: Option<usize>,
 ) -> Option<u64>
     ensures { result ≡ took findings.now (order_of order.now) news }
 {
     match news {
-        Some(entry) => took_between(findings, order.head, entry),
+        Some(entry) => time_between(findings, order.head, entry),
         None => None,
     }
 }
 
 /// Data about an order that every party's outcome needs.
 #[derive(Clone, Copy)]
-pub(crate) struct Asked<'a> {
+pub(crate) struct OrderFacts<'a> {
     /// Bytes that mean the order, if available.
     pub said: Option<&'a [u8]>,
     /// Digest of its request.
@@ -109,24 +109,24 @@ pub(crate) struct Asked<'a> {
     /// How often it was sent, if its maker is recorded.
     pub sends: Option<usize>,
     /// The data collected at its maker, if that was done.
-    pub own: Option<Gathered>,
+    pub own: Option<StationTrace>,
 }
 
 /// The data about an order, given the digest of its request.
 #[tactic(auto, unfolding(crate::specs::Order::sends_of))]
 fn asked_by<'b, L: ExerciseLog>(
     findings: &Register<'_, L>,
-    order: &Order<'_>,
+    order: &RecordedOrder<'_>,
     said: Option<&'b [u8]>,
     digest: Option<u64>,
     hints: &mut Hints,
-) -> Asked<'b>
+) -> OrderFacts<'b>
     requires said { IsSaid findings.now (order_of order.now).request said }
     requires digest { digest ≡ request_digest (pdu_of order.now.request) }
     ensures { IsAsked findings.now (order_of order.now) result }
 {
     let Some(station) = order.maker else {
-        return Asked {
+        return OrderFacts {
             said,
             digest,
             sends: None,
@@ -138,8 +138,8 @@ fn asked_by<'b, L: ExerciseLog>(
         order,
         station,
     };
-    let gathered = gathered_of(&replies, key_under(station, digest), said, hints);
-    Asked {
+    let gathered = station_trace(&replies, digest_key(station, digest), said, hints);
+    OrderFacts {
         said,
         digest,
         sends: Some(gathered.sends),
@@ -150,9 +150,9 @@ fn asked_by<'b, L: ExerciseLog>(
 /// The data about an order that every party's outcome needs.
 pub(crate) fn asked_of<'b, L: ExerciseLog>(
     findings: &Register<'_, L>,
-    order: &Order<'_>,
+    order: &RecordedOrder<'_>,
     hints: &mut Hints,
-) -> Asked<'b>
+) -> OrderFacts<'b>
     ensures { IsAsked findings.now (order_of order.now) result }
 {
     asked_by(findings, order, None, request_digest(&order.request), hints)
@@ -161,7 +161,7 @@ pub(crate) fn asked_of<'b, L: ExerciseLog>(
 /// Digest of the request of an order that a station made, computed from the key of its head.
 fn digest_at_head<L: ExerciseLog>(
     findings: &Register<'_, L>,
-    order: &Order<'_>,
+    order: &RecordedOrder<'_>,
     maker: u16,
 ) -> Option<u64>
     requires maker { order.now.maker ≡ Some maker }
@@ -175,9 +175,9 @@ fn digest_at_head<L: ExerciseLog>(
 }
 
 /// The bytes that a station sent at the head of an order.
-fn said_at_head<'a, L: ExerciseLog>(
+fn bytes_at_head<'a, L: ExerciseLog>(
     findings: &Register<'a, L>,
-    order: &Order<'_>,
+    order: &RecordedOrder<'_>,
     maker: u16,
 ) -> Option<&'a [u8]>
     requires maker { order.now.maker ≡ Some maker }
@@ -191,9 +191,9 @@ fn said_at_head<'a, L: ExerciseLog>(
 /// once.
 pub(crate) fn asked_at_head<'a, L: ExerciseLog>(
     findings: &Register<'a, L>,
-    order: &Order<'_>,
+    order: &RecordedOrder<'_>,
     hints: &mut Hints,
-) -> Asked<'a>
+) -> OrderFacts<'a>
     requires { order_at findings.now order.now.head ≡ Some (order_of order.now) }
     ensures { IsAsked findings.now (order_of order.now) result }
 {
@@ -201,11 +201,11 @@ pub(crate) fn asked_at_head<'a, L: ExerciseLog>(
         return asked_of(findings, order, hints);
     };
     let digest = digest_at_head(findings, order, maker);
-    let said = said_at_head(findings, order, maker);
+    let said = bytes_at_head(findings, order, maker);
     if !findings.is_last(order.head) {
         return asked_by(findings, order, said, digest, hints);
     }
-    Asked {
+    OrderFacts {
         said,
         digest,
         sends: Some(1),
@@ -215,15 +215,15 @@ pub(crate) fn asked_at_head<'a, L: ExerciseLog>(
 
 /// Everything the logs hold about an order at a recorded station. Reuses the data collected at the
 /// maker, if `asked` has them.
-fn gathered_at<L: ExerciseLog>(
+fn party_trace<L: ExerciseLog>(
     findings: &Register<'_, L>,
-    order: &Order<'_>,
-    asked: Asked<'_>,
+    order: &RecordedOrder<'_>,
+    asked: OrderFacts<'_>,
     station: u16,
     hints: &mut Hints,
-) -> Gathered
+) -> StationTrace
     requires { IsAsked findings.now (order_of order.now) asked }
-    ensures { IsGathered findings.now (order_of order.now) station result }
+    ensures { IsStationTrace findings.now (order_of order.now) station result }
 {
     match asked.own {
         Some(gathered) if is_maker(order, station) => gathered,
@@ -233,9 +233,9 @@ fn gathered_at<L: ExerciseLog>(
                 order,
                 station,
             };
-            gathered_of(
+            station_trace(
                 &replies,
-                key_under(station, asked.digest),
+                digest_key(station, asked.digest),
                 asked.said,
                 hints,
             )
@@ -244,23 +244,23 @@ fn gathered_at<L: ExerciseLog>(
 }
 
 /// The outcome of an order at a recorded station.
-#[tactic(auto, unfolding(crate::specs::Word::telling, crate::specs::Fate::fate_of))]
-fn outcome_here<L: ExerciseLog>(
+#[tactic(auto, unfolding(crate::specs::Word::decisive_entry, crate::specs::Fate::fate_of))]
+fn recorded_outcome<L: ExerciseLog>(
     findings: &Register<'_, L>,
-    order: &Order<'_>,
-    asked: Asked<'_>,
+    order: &RecordedOrder<'_>,
+    asked: OrderFacts<'_>,
     station: u16,
     hints: &mut Hints,
 ) -> Outcome
     requires { IsAsked findings.now (order_of order.now) asked }
-    ensures { result ≡ outcome_here findings.now (order_of order.now) station }
+    ensures { result ≡ recorded_outcome findings.now (order_of order.now) station }
 {
     let replies = Replies {
         findings,
         order,
         station,
     };
-    let gathered = gathered_at(findings, order, asked, station, hints);
+    let gathered = party_trace(findings, order, asked, station, hints);
     let said = gathered.replied.settled.or(gathered.replied.last);
     let heard = gathered.news.settled.or(gathered.news.last);
     Outcome {
@@ -274,27 +274,27 @@ fn outcome_here<L: ExerciseLog>(
         news: heard.entry,
         took: took(findings, order, heard.entry),
         change: gathered.replied.change,
-        fate: Fate::of(&traces_by(&replies, gathered)),
+        fate: Fate::of(&collected_traces(&replies, gathered)),
     }
 }
 
 /// The outcome of an order, sent `sends` times, at an address of no recorded station.
 #[tactic(auto, using(crate::proofs::Under::under_steps))]
-fn outcome_outside<L: ExerciseLog>(
+fn outsider_outcome<L: ExerciseLog>(
     findings: &Register<'_, L>,
-    order: &Order<'_>,
+    order: &RecordedOrder<'_>,
     sends: Option<usize>,
-    address: Outsider,
+    address: SiteApplication,
 ) -> Outcome
-    requires { sends ≡ sends_told findings.now (order_of order.now) }
-    ensures { result ≡ outcome_outside findings.now (order_of order.now) address }
+    requires { sends ≡ known_sends findings.now (order_of order.now) }
+    ensures { result ≡ outsider_outcome findings.now (order_of order.now) address }
 {
-    let told = ToldFrom {
+    let told = HeardFrom {
         findings,
         order,
         from: address,
     };
-    let news = telling(findings, order.told_key(), &told);
+    let news = decisive_entry(findings, order.maker_key(), &told);
     Outcome {
         party: Some(Party::Outside(address)),
         sends,
@@ -311,13 +311,13 @@ fn outcome_outside<L: ExerciseLog>(
 }
 
 /// The outcome of an order without parties.
-pub(crate) fn outcome_nowhere<L: ExerciseLog>(
+pub(crate) fn partyless_outcome<L: ExerciseLog>(
     findings: &Register<'_, L>,
-    order: &Order<'_>,
+    order: &RecordedOrder<'_>,
     sends: Option<usize>,
 ) -> Outcome
-    requires { sends ≡ sends_told findings.now (order_of order.now) }
-    ensures { result ≡ outcome_nowhere findings.now (order_of order.now) }
+    requires { sends ≡ known_sends findings.now (order_of order.now) }
+    ensures { result ≡ partyless_outcome findings.now (order_of order.now) }
 {
     let (_findings, _order) = (findings, order);
     Outcome {
@@ -339,8 +339,8 @@ pub(crate) fn outcome_nowhere<L: ExerciseLog>(
 #[tactic(auto, unfolding(crate::specs::Outcome::outcome_at))]
 pub(crate) fn outcome_at<L: ExerciseLog>(
     findings: &Register<'_, L>,
-    order: &Order<'_>,
-    asked: Asked<'_>,
+    order: &RecordedOrder<'_>,
+    asked: OrderFacts<'_>,
     party: Party,
     hints: &mut Hints,
 ) -> Outcome
@@ -348,8 +348,8 @@ pub(crate) fn outcome_at<L: ExerciseLog>(
     ensures { result ≡ outcome_at findings.now (order_of order.now) party }
 {
     match party {
-        Party::Station(station) => outcome_here(findings, order, asked, station, hints),
-        Party::Outside(address) => outcome_outside(findings, order, asked.sends, address),
+        Party::Station(station) => recorded_outcome(findings, order, asked, station, hints),
+        Party::Outside(address) => outsider_outcome(findings, order, asked.sends, address),
     }
 }
 
@@ -357,8 +357,8 @@ pub(crate) fn outcome_at<L: ExerciseLog>(
 fn outcomes_at<L: ExerciseLog>(
     alloc: Global,
     findings: &Register<'_, L>,
-    order: &Order<'_>,
-    asked: Asked<'_>,
+    order: &RecordedOrder<'_>,
+    asked: OrderFacts<'_>,
     parties: &[Party],
 ) -> Result<Vec<Outcome>, AllocError>
     requires { IsAsked findings.now (order_of order.now) asked }
@@ -377,7 +377,7 @@ fn outcomes_at<L: ExerciseLog>(
 pub fn outcomes_of<L: ExerciseLog>(
     alloc: Global,
     findings: &Register<'_, L>,
-    order: &Order<'_>,
+    order: &RecordedOrder<'_>,
 ) -> Result<Vec<Outcome>, AllocError>
     ensures { IfOk result (λ outcomes. outcomes.items ≡ outcomes_of findings.now (order_of order.now)) }
 {
@@ -386,7 +386,7 @@ pub fn outcomes_of<L: ExerciseLog>(
     parties_by(&mut parties, findings, order, asked.own)?;
     if parties.is_empty() {
         let mut outcomes = Vec::new(alloc);
-        outcomes.push(outcome_nowhere(findings, order, asked.sends))?;
+        outcomes.push(partyless_outcome(findings, order, asked.sends))?;
         return Ok(outcomes);
     }
     outcomes_at(alloc, findings, order, asked, &parties)

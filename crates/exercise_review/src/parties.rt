@@ -4,17 +4,17 @@ ghost use Rattle.std.specs.Prelude.{◌≡◌, ◌≢◌, ◌<◌, ◌≤◌, �
 ghost use Rattle.dis_records.specs.Entity.{pair_of, is_addressed};
 ghost use Rattle.exercise_model.specs.History.{station_at};
 ghost use Rattle.exercise_model.specs.Recording.{IsRecording};
-ghost use Rattle.exercise_review.specs.Gathered.{IsOwn};
+ghost use Rattle.exercise_review.specs.StationTrace.{IsOwn};
 ghost use Rattle.exercise_review.specs.Order.{order_of};
 ghost use Rattle.exercise_review.specs.Party.{pair_at};
-ghost use Rattle.exercise_review.specs.Parties.{number_of, addresses, maker_address, party_address, party_at, parties_of, has_outsiders, number_heard, candidate_at, nearer, IsNextParty};
+ghost use Rattle.exercise_review.specs.Parties.{number_of, addresses, maker_address, party_address, party_at, parties_of, has_outsiders, number_heard, candidate_at, lower_party, IsNextParty};
 
-use crate::entries::{entry_count, got_by};
-use crate::gathered::Gathered;
-use crate::order::Order;
-use crate::party::{At, Outsider, Party, is_party, is_party_by, is_party_outside};
+use crate::entries::{entry_count, pdu_received};
+use crate::order::RecordedOrder;
+use crate::party::{At, Party, SiteApplication, is_party, is_party_by, is_party_outside};
 use crate::question::first_below;
 use crate::register::Register;
+use crate::station_trace::StationTrace;
 use dis_records::{Address, EntityId};
 use exercise_model::{ExerciseLog, Form};
 use std::alloc::{AllocError, Global};
@@ -23,41 +23,44 @@ use std::alloc::{AllocError, Global};
 const ALL: u16 = 0xFFFF;
 
 /// Site and application of an address.
-pub(crate) fn parts_of(address: Address) -> Outsider
+pub(crate) fn parts_of(address: Address) -> SiteApplication
     ensures { pair_at result ≡ address }
 {
-    Outsider {
+    SiteApplication {
         site: address.site(),
         application: address.application(),
     }
 }
 
 /// Site and application of an identifier.
-pub(crate) fn parts_in(id: EntityId) -> Outsider
+pub(crate) fn parts_in(id: EntityId) -> SiteApplication
     ensures { pair_at result ≡ pair_of id }
 {
-    Outsider {
+    SiteApplication {
         site: id.site,
         application: id.application,
     }
 }
 
 /// Site and application of a recorded station; 0 and 0 past the last.
-pub(crate) fn station_parts<L: ExerciseLog>(findings: &Register<'_, L>, station: u16) -> Outsider
+pub(crate) fn station_parts<L: ExerciseLog>(
+    findings: &Register<'_, L>,
+    station: u16,
+) -> SiteApplication
     ensures { pair_at result ≡ (station_at findings.now station).address }
 {
     parts_at(findings.log(), station)
 }
 
 /// Site and application of a station of a log; 0 and 0 past the last.
-pub(crate) fn parts_at<L: ExerciseLog>(log: &L, station: u16) -> Outsider
+pub(crate) fn parts_at<L: ExerciseLog>(log: &L, station: u16) -> SiteApplication
     ensures { pair_at result ≡ (station_at (L.recording log.now) station).address }
 {
     let station = usize::from(station);
     if station < log.station_count() {
         parts_of(log.station(station).address())
     } else {
-        Outsider {
+        SiteApplication {
             site: 0,
             application: 0,
         }
@@ -65,7 +68,7 @@ pub(crate) fn parts_at<L: ExerciseLog>(log: &L, station: u16) -> Outsider
 }
 
 /// Site and application of the maker of an order, given a log.
-pub(crate) fn maker_in<L: ExerciseLog>(log: &L, order: &Order<'_>) -> Outsider
+pub(crate) fn maker_in<L: ExerciseLog>(log: &L, order: &RecordedOrder<'_>) -> SiteApplication
     ensures { pair_at result ≡ maker_address (L.recording log.now) (order_of order.now) }
 {
     match order.maker {
@@ -75,7 +78,7 @@ pub(crate) fn maker_in<L: ExerciseLog>(log: &L, order: &Order<'_>) -> Outsider
 }
 
 /// Site and application of a party, given a log; 0 and 0 for a station past the last.
-pub(crate) fn address_in<L: ExerciseLog>(log: &L, party: Party) -> Outsider
+pub(crate) fn address_in<L: ExerciseLog>(log: &L, party: Party) -> SiteApplication
     ensures { pair_at result ≡ party_address (L.recording log.now) party }
 {
     match party {
@@ -84,10 +87,10 @@ pub(crate) fn address_in<L: ExerciseLog>(log: &L, party: Party) -> Outsider
     }
 }
 
-impl Order<'_> {
+impl RecordedOrder<'_> {
     /// Site and application of its maker: those of the recorded station, or of the origin of the
     /// request.
-    pub fn from<L: ExerciseLog>(&self, findings: &Register<'_, L>) -> Outsider
+    pub fn from<L: ExerciseLog>(&self, findings: &Register<'_, L>) -> SiteApplication
         ensures { pair_at result ≡ maker_address findings.now (order_of self.now) }
     {
         maker_in(findings.log(), self)
@@ -96,14 +99,14 @@ impl Order<'_> {
 
 impl Party {
     /// Site and application of the party; 0 and 0 for a station past the last.
-    pub fn address<L: ExerciseLog>(self, findings: &Register<'_, L>) -> Outsider
+    pub fn address<L: ExerciseLog>(self, findings: &Register<'_, L>) -> SiteApplication
         ensures { pair_at result ≡ party_address findings.now self }
     {
         address_in(findings.log(), self)
     }
 }
 
-impl Outsider {
+impl SiteApplication {
     /// Rank of the address: site times 65,536 plus application.
     fn number(self) -> u64
         ensures number { result ≡ number_of (pair_at self) }
@@ -117,8 +120,8 @@ impl Outsider {
 #[tactic(auto, unfolding(crate::specs::Parties::party_at))]
 fn party_at<L: ExerciseLog>(
     findings: &Register<'_, L>,
-    order: &Order<'_>,
-    address: Outsider,
+    order: &RecordedOrder<'_>,
+    address: SiteApplication,
 ) -> Option<Party>
     ensures { result ≡ party_at findings.now (order_of order.now) (pair_at address) }
 {
@@ -135,12 +138,12 @@ fn party_at<L: ExerciseLog>(
 /// Origin of the PDU that the maker of an order received at an entry, if any.
 fn heard_from<L: ExerciseLog>(
     findings: &Register<'_, L>,
-    order: &Order<'_>,
+    order: &RecordedOrder<'_>,
     entry: usize,
-) -> Option<Outsider>
+) -> Option<SiteApplication>
     ensures { option_map (λ a. number_of (pair_at a)) result ≡ number_heard findings.now (order_of order.now) entry }
 {
-    match got_by(findings, order.maker?, entry) {
+    match pdu_received(findings, order.maker?, entry) {
         Some(pdu) => Some(parts_in(pdu.origin)),
         None => None,
     }
@@ -150,9 +153,9 @@ fn heard_from<L: ExerciseLog>(
 /// target, then for each entry the origin of the PDU that the maker received there.
 fn candidate<L: ExerciseLog>(
     findings: &Register<'_, L>,
-    order: &Order<'_>,
+    order: &RecordedOrder<'_>,
     place: usize,
-) -> Option<Outsider>
+) -> Option<SiteApplication>
     ensures { option_map (λ a. number_of (pair_at a)) result ≡ candidate_at findings.now (order_of order.now) place }
 {
     let stations = findings.log().station_count();
@@ -167,14 +170,14 @@ fn candidate<L: ExerciseLog>(
 
 /// The lower of two parties: the best so far, or the party at `address`, if any, whose rank is
 /// `first` or higher.
-fn nearer<L: ExerciseLog>(
+fn lower_party<L: ExerciseLog>(
     findings: &Register<'_, L>,
-    order: &Order<'_>,
+    order: &RecordedOrder<'_>,
     first: u64,
     next: Option<(u64, Party)>,
-    address: Outsider,
+    address: SiteApplication,
 ) -> Option<(u64, Party)>
-    ensures next { result ≡ nearer findings.now (order_of order.now) first next (number_of (pair_at address)) }
+    ensures next { result ≡ lower_party findings.now (order_of order.now) first next (number_of (pair_at address)) }
     ensures within { number_of (pair_at address) < addresses }
 {
     let number = address.number();
@@ -194,7 +197,7 @@ fn nearer<L: ExerciseLog>(
 /// The party of an order with the lowest rank from `first` on, with its rank.
 fn next_party<L: ExerciseLog>(
     findings: &Register<'_, L>,
-    order: &Order<'_>,
+    order: &RecordedOrder<'_>,
     first: u64,
 ) -> Option<(u64, Party)>
     ensures { IsNextParty findings.now (order_of order.now) first result }
@@ -203,7 +206,7 @@ fn next_party<L: ExerciseLog>(
     let places = findings.log().station_count() + 1 + entry_count(findings);
     for place in 0..places {
         if let Some(address) = candidate(findings, order, place) {
-            next = nearer(findings, order, first, next, address);
+            next = lower_party(findings, order, first, next, address);
         }
     }
     next
@@ -211,7 +214,7 @@ fn next_party<L: ExerciseLog>(
 
 /// Whether an unrecorded station may be a party of an order: the recording is open, and a recorded
 /// station made the order.
-fn has_outsiders<L: ExerciseLog>(findings: &Register<'_, L>, order: &Order<'_>) -> bool
+fn has_outsiders<L: ExerciseLog>(findings: &Register<'_, L>, order: &RecordedOrder<'_>) -> bool
     ensures { result ≡ has_outsiders findings.now (order_of order.now) }
 {
     findings.log().form() == Form::Open && order.maker.is_some()
@@ -219,10 +222,10 @@ fn has_outsiders<L: ExerciseLog>(findings: &Register<'_, L>, order: &Order<'_>) 
 
 /// All parties of an order, found by a search over the whole log for each.
 #[tactic(auto, unfolding(crate::specs::Parties::parties_of))]
-fn parties_anywhere<L: ExerciseLog>(
+fn parties_by_search<L: ExerciseLog>(
     parties: &mut Vec<Party>,
     findings: &Register<'_, L>,
-    order: &Order<'_>,
+    order: &RecordedOrder<'_>,
 ) -> Result<(), AllocError>
     requires { parties.old.items ≡ [] }
     ensures { OnOk result (parties.new.items ≡ parties_of findings.now (order_of order.now)) }
@@ -290,8 +293,8 @@ fn addressed_among<L: ExerciseLog>(findings: &Register<'_, L>, target: EntityId)
 fn station_parties<L: ExerciseLog>(
     parties: &mut Vec<Party>,
     findings: &Register<'_, L>,
-    order: &Order<'_>,
-    own: Option<Gathered>,
+    order: &RecordedOrder<'_>,
+    own: Option<StationTrace>,
 ) -> Result<(), AllocError>
     requires none { parties.old.items ≡ [] }
     requires recorded { has_outsiders findings.now (order_of order.now) ≡ false }
@@ -312,15 +315,15 @@ fn station_parties<L: ExerciseLog>(
 pub(crate) fn parties_by<L: ExerciseLog>(
     parties: &mut Vec<Party>,
     findings: &Register<'_, L>,
-    order: &Order<'_>,
-    own: Option<Gathered>,
+    order: &RecordedOrder<'_>,
+    own: Option<StationTrace>,
 ) -> Result<(), AllocError>
     requires { IsOwn findings.now (order_of order.now) own }
     ensures { OnOk result (parties.new.items ≡ parties_of findings.now (order_of order.now)) }
 {
     parties.clear();
     if has_outsiders(findings, order) {
-        parties_anywhere(parties, findings, order)
+        parties_by_search(parties, findings, order)
     } else {
         station_parties(parties, findings, order, own)
     }
@@ -332,7 +335,7 @@ pub(crate) fn parties_by<L: ExerciseLog>(
 pub fn parties_of<L: ExerciseLog>(
     alloc: Global,
     findings: &Register<'_, L>,
-    order: &Order<'_>,
+    order: &RecordedOrder<'_>,
 ) -> Result<Vec<Party>, AllocError>
     ensures { IfOk result (λ parties. parties.items ≡ parties_of findings.now (order_of order.now)) }
 {

@@ -3,16 +3,16 @@
 ghost use Rattle.std.specs.Prelude.{◌≡◌, Some, is_some};
 ghost use Rattle.siman_pdus.specs.Answers.{same_id};
 ghost use Rattle.siman_pdus.specs.Reading.{pdu_of};
-ghost use Rattle.exercise_review.specs.Gathered.{IsOwn};
+ghost use Rattle.exercise_review.specs.StationTrace.{IsOwn};
 ghost use Rattle.exercise_review.specs.Order.{order_of};
-ghost use Rattle.exercise_review.specs.Party.{pair_at, first_copy, is_party, tells_from, is_told_from, names, is_at, is_recorded_at, is_party_outside};
+ghost use Rattle.exercise_review.specs.Party.{pair_at, first_copy, is_party, is_answer_from, is_heard_from, names, is_at, is_recorded_at, is_party_outside};
 
-use crate::entries::got_by;
-use crate::gathered::Gathered;
+use crate::entries::pdu_received;
 use crate::keys::order_key;
-use crate::order::{Gets, Order};
+use crate::order::{Gets, RecordedOrder};
 use crate::question::{Question, first_below};
 use crate::register::Register;
+use crate::station_trace::StationTrace;
 use crate::stations::{Meant, is_outside};
 use crate::walk::first_entry;
 use dis_records::{EntityId, is_address_part};
@@ -21,7 +21,7 @@ use siman_pdus::{PduView, answers};
 
 /// A site and an application, each 0..=0xFFFF.
 #[derive(Clone, Copy, PartialEq, Eq)]
-pub struct Outsider {
+pub struct SiteApplication {
     pub site: u16,
     pub application: u16,
 }
@@ -32,14 +32,14 @@ pub enum Party {
     /// A recorded station, by its index.
     Station(u16),
     /// An address of no recorded station.
-    Outside(Outsider),
+    Outside(SiteApplication),
 }
 
 /// First entry at which a station received an order.
 #[tactic(auto, unfolding(crate::specs::Party::first_copy), using(crate::proofs::Under::under_steps))]
 pub(crate) fn first_copy<L: ExerciseLog>(
     findings: &Register<'_, L>,
-    order: &Order<'_>,
+    order: &RecordedOrder<'_>,
     station: u16,
 ) -> Option<usize>
     ensures { result ≡ first_copy findings.now (order_of order.now) station }
@@ -56,8 +56,8 @@ pub(crate) fn first_copy<L: ExerciseLog>(
 #[tactic(auto, unfolding(crate::specs::Party::first_copy))]
 fn has_copy<L: ExerciseLog>(
     findings: &Register<'_, L>,
-    order: &Order<'_>,
-    own: Option<Gathered>,
+    order: &RecordedOrder<'_>,
+    own: Option<StationTrace>,
     station: u16,
 ) -> bool
     requires { IsOwn findings.now (order_of order.now) own }
@@ -74,8 +74,8 @@ fn has_copy<L: ExerciseLog>(
 #[tactic(auto, unfolding(crate::specs::Party::is_party))]
 pub(crate) fn is_party_by<L: ExerciseLog>(
     findings: &Register<'_, L>,
-    order: &Order<'_>,
-    own: Option<Gathered>,
+    order: &RecordedOrder<'_>,
+    own: Option<StationTrace>,
     station: u16,
 ) -> bool
     requires { IsOwn findings.now (order_of order.now) own }
@@ -91,14 +91,18 @@ pub(crate) fn is_party_by<L: ExerciseLog>(
 
 /// Whether a recorded station is a party of an order: the order addresses it; the maker itself only
 /// if it received the order. Allocates no memory.
-pub fn is_party<L: ExerciseLog>(findings: &Register<'_, L>, order: &Order<'_>, station: u16) -> bool
+pub fn is_party<L: ExerciseLog>(
+    findings: &Register<'_, L>,
+    order: &RecordedOrder<'_>,
+    station: u16,
+) -> bool
     ensures { result ≡ is_party findings.now (order_of order.now) station }
 {
     is_party_by(findings, order, None, station)
 }
 
 /// Whether a recorded station made an order.
-pub(crate) fn is_maker(order: &Order<'_>, station: u16) -> bool
+pub(crate) fn is_maker(order: &RecordedOrder<'_>, station: u16) -> bool
     ensures { result ≡ same_id order.now.maker (Some station) }
 {
     match order.maker {
@@ -108,13 +112,13 @@ pub(crate) fn is_maker(order: &Order<'_>, station: u16) -> bool
 }
 
 /// Whether a PDU answers an order and has this address outside as its origin.
-fn tells_from<L: ExerciseLog>(
+fn is_answer_from<L: ExerciseLog>(
     findings: &Register<'_, L>,
-    order: &Order<'_>,
-    from: Outsider,
+    order: &RecordedOrder<'_>,
+    from: SiteApplication,
     pdu: &PduView<'_>,
 ) -> bool
-    ensures { result ≡ tells_from findings.now (order_of order.now) (pair_at from) (pdu_of pdu.now) }
+    ensures { result ≡ is_answer_from findings.now (order_of order.now) (pair_at from) (pdu_of pdu.now) }
 {
     answers(pdu, &order.request)
         && is_outside(findings, pdu)
@@ -125,16 +129,16 @@ fn tells_from<L: ExerciseLog>(
 /// The test whether the maker of an order receives, at an entry after its head, an answer to it
 /// from an address outside. Only the maker's first order under an identifier passes.
 #[derive(Drop)]
-pub(crate) struct ToldFrom<'a, L: ExerciseLog> {
+pub(crate) struct HeardFrom<'a, L: ExerciseLog> {
     pub findings: &'a Register<'a, L>,
-    pub order: &'a Order<'a>,
-    pub from: Outsider,
+    pub order: &'a RecordedOrder<'a>,
+    pub from: SiteApplication,
 }
 
-impl<L: ExerciseLog> Question for ToldFrom<'_, L> {
-    ghost test = { λ q. is_told_from q.findings.now (order_of q.order.now) (pair_at q.from) };
+impl<L: ExerciseLog> Question for HeardFrom<'_, L> {
+    ghost test = { λ q. is_heard_from q.findings.now (order_of q.order.now) (pair_at q.from) };
 
-    #[tactic(auto, unfolding(crate::specs::Party::is_told_from))]
+    #[tactic(auto, unfolding(crate::specs::Party::is_heard_from))]
     fn passes(&self, entry: usize) -> bool {
         if !self.order.is_first_under_id(self.findings) || self.order.head >= entry {
             return false;
@@ -142,15 +146,15 @@ impl<L: ExerciseLog> Question for ToldFrom<'_, L> {
         let Some(maker) = self.order.maker else {
             return false;
         };
-        match got_by(self.findings, maker, entry) {
-            Some(pdu) => tells_from(self.findings, self.order, self.from, &pdu),
+        match pdu_received(self.findings, maker, entry) {
+            Some(pdu) => is_answer_from(self.findings, self.order, self.from, &pdu),
             None => false,
         }
     }
 }
 
 /// Whether an identifier names exactly this site and this application.
-fn names(id: EntityId, address: Outsider) -> bool
+fn names(id: EntityId, address: SiteApplication) -> bool
     ensures { result ≡ names id (pair_at address) }
 {
     is_address_part(address.site)
@@ -163,7 +167,7 @@ fn names(id: EntityId, address: Outsider) -> bool
 #[derive(Drop)]
 pub(crate) struct At<'a, L: ExerciseLog> {
     pub findings: &'a Register<'a, L>,
-    pub address: Outsider,
+    pub address: SiteApplication,
 }
 
 impl<L: ExerciseLog> Question for At<'_, L> {
@@ -182,7 +186,7 @@ impl<L: ExerciseLog> Question for At<'_, L> {
 
 /// Whether a recorded station has this address.
 #[tactic(auto, unfolding(crate::specs::Party::is_recorded_at))]
-fn is_recorded_at<L: ExerciseLog>(findings: &Register<'_, L>, address: Outsider) -> bool
+fn is_recorded_at<L: ExerciseLog>(findings: &Register<'_, L>, address: SiteApplication) -> bool
     ensures { result ≡ is_recorded_at findings.now (pair_at address) }
 {
     let stations = findings.log().station_count();
@@ -195,8 +199,8 @@ fn is_recorded_at<L: ExerciseLog>(findings: &Register<'_, L>, address: Outsider)
 #[tactic(auto, unfolding(crate::specs::Party::is_party_outside), using(crate::proofs::Under::under_steps))]
 pub fn is_party_outside<L: ExerciseLog>(
     findings: &Register<'_, L>,
-    order: &Order<'_>,
-    address: Outsider,
+    order: &RecordedOrder<'_>,
+    address: SiteApplication,
 ) -> bool
     ensures { result ≡ is_party_outside findings.now (order_of order.now) (pair_at address) }
 {
@@ -206,10 +210,11 @@ pub fn is_party_outside<L: ExerciseLog>(
     {
         return false;
     }
-    let told = ToldFrom {
+    let told = HeardFrom {
         findings,
         order,
         from: address,
     };
-    names(order.request.target, address) || first_entry(findings, order.told_key(), &told).is_some()
+    names(order.request.target, address)
+        || first_entry(findings, order.maker_key(), &told).is_some()
 }

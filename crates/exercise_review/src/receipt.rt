@@ -5,12 +5,12 @@ ghost use Rattle.std.specs.Prelude.{◌≡◌, ◌<◌, ◌+◌, ◌==◌, ◌&&
 ghost use Rattle.std.specs.Cmp.Rules.{comparing, hashing};
 ghost use Rattle.indexmap.specs.IndexMap.{get};
 ghost use Rattle.exercise_review.specs.declared.receipt.Receipt.{Receipt};
-ghost use Rattle.exercise_review.specs.Heard.{same_receipt, receipt_fed, receipts_alike, first_kept, AreHeard};
+ghost use Rattle.exercise_review.specs.Heard.{same_receipt, receipt_fed, receipts_alike, first_kept, IsReceiptIndex};
 ghost use Rattle.exercise_model.specs.Held.{shown};
 ghost use Rattle.exercise_review.specs.Register.{key_at};
 ghost use borrow.Author.Rules.{rules};
 
-use exercise_findings::Hint;
+use exercise_findings::StridePredictor;
 use exercise_model::{EntryView, ExerciseLog, Form};
 use indexmap::IndexMap;
 use std::alloc::{AllocError, Global};
@@ -96,8 +96,8 @@ pub(crate) fn note_receipt<'a, L: ExerciseLog>(
     requires within { entry < length (L.recording log.now).entries }
     requires key { has_key ≡ is_some (key_at (L.recording log.now) entry) }
     requires at { slice_get (L.recording log.now).entries entry ≡ Some (shown view) }
-    requires tied { AreHeard (L.recording log.now) entry heard.old }
-    ensures { OnOk result (AreHeard (L.recording log.now) (entry + 1) heard.new) }
+    requires tied { IsReceiptIndex (L.recording log.now) entry heard.old }
+    ensures { OnOk result (IsReceiptIndex (L.recording log.now) (entry + 1) heard.new) }
 {
     let _end = log.entry_count();
     if log.form() != Form::Open && has_key {
@@ -128,7 +128,7 @@ fn receipts_at(heard: &Heard<'_>, place: usize, receipt: Receipt<'_>) -> Option<
 pub(crate) fn receipts_near(
     heard: &Heard<'_>,
     receipt: Receipt<'_>,
-    hint: &mut Hint,
+    hint: &mut StridePredictor,
 ) -> Option<Receipts>
     ensures { result ≡ get same_receipt heard.now receipt.entry }
 {

@@ -29,7 +29,7 @@ impl<L: ExerciseLog> Placing for Sources<'_, L> {
 /// For each entry, the number of entries that have it as their source: how often its datagram was
 /// received. Allocates memory for the counts.
 #[tactic(auto, unfolding(crate::specs::Receipts::receipts_of))]
-pub fn receipts_counted<L: ExerciseLog>(
+pub fn receipt_counts<L: ExerciseLog>(
     alloc: Global,
     findings: &Register<'_, L>,
 ) -> Result<Vec<usize>, AllocError>

@@ -7,9 +7,9 @@ ghost use Rattle.exercise_review.specs.Register.{order_key};
 ghost use Rattle.exercise_review.specs.Reply.{answers_order, takes_copy, is_reply, is_changing_reply, change_of_order, replies_in, has_reply_in, is_news};
 ghost use Rattle.exercise_review.specs.Stamped.{IsSaid, says};
 
-use crate::entries::{bytes_got, bytes_sent, meant, sent_by};
+use crate::entries::{bytes_received, bytes_sent, meant, pdu_sent};
 use crate::keys::order_key;
-use crate::order::Order;
+use crate::order::RecordedOrder;
 use crate::question::Question;
 use crate::register::Register;
 use crate::resent::says_again;
@@ -36,7 +36,7 @@ pub(crate) struct Reply<'a> {
 #[derive(Drop)]
 pub(crate) struct Replies<'a, L: ExerciseLog> {
     pub findings: &'a Register<'a, L>,
-    pub order: &'a Order<'a>,
+    pub order: &'a RecordedOrder<'a>,
     pub station: u16,
 }
 
@@ -52,7 +52,7 @@ impl<L: ExerciseLog> Replies<'_, L> {
     fn is_answer(&self, entry: usize) -> bool
         ensures { result ≡ answers_order self.now.findings.now (order_of self.now.order.now) self.now.station entry }
     {
-        match sent_by(self.findings, self.station, entry) {
+        match pdu_sent(self.findings, self.station, entry) {
             Some(pdu) => answers(&pdu, &self.order.request),
             None => false,
         }
@@ -74,12 +74,12 @@ impl<L: ExerciseLog> Replies<'_, L> {
     }
 
     /// Whether an entry is a copy of the order.
-    #[tactic(auto, unfolding(crate::specs::Order::gets_order, crate::specs::Entries::got_by))]
+    #[tactic(auto, unfolding(crate::specs::Order::gets_order, crate::specs::Entries::pdu_received))]
     fn is_copy(&self, entry: usize, said: Option<&[u8]>) -> bool
         requires { IsSaid self.now.findings.now (order_of self.now.order.now).request said }
         ensures { result ≡ is_copy self.now.findings.now (order_of self.now.order.now) self.now.station entry }
     {
-        match bytes_got(self.findings, self.station, entry) {
+        match bytes_received(self.findings, self.station, entry) {
             Some(bytes) => self.says(bytes, said),
             None => false,
         }
@@ -143,7 +143,7 @@ impl<L: ExerciseLog> Question for ChangingReplies<'_, L> {
 #[tactic(auto, unfolding(crate::specs::Reply::change_of_order), using(crate::proofs::Under::under_steps))]
 pub fn change_of_order<L: ExerciseLog>(
     findings: &Register<'_, L>,
-    order: &Order<'_>,
+    order: &RecordedOrder<'_>,
     station: u16,
 ) -> Option<usize>
     ensures { result ≡ change_of_order findings.now (order_of order.now) station }
@@ -207,7 +207,7 @@ impl<L: ExerciseLog> Question for News<'_, L> {
         let Some(maker) = self.replies.order.maker else {
             return false;
         };
-        match bytes_got(self.replies.findings, maker, entry) {
+        match bytes_received(self.replies.findings, maker, entry) {
             Some(bytes) => self.has_reply_in(bytes),
             None => false,
         }

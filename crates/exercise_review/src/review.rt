@@ -5,7 +5,7 @@ ghost use Rattle.exercise_model.specs.Account.{values_below};
 ghost use Rattle.exercise_review.specs.Review.{Reviews};
 ghost use Rattle.exercise_review.specs.Span.{all_spans};
 ghost use Rattle.exercise_review.specs.Tally.{station_counts};
-ghost use Rattle.exercise_review.specs.Told.{orders_told};
+ghost use Rattle.exercise_review.specs.Told.{reviewed_orders};
 
 use crate::fault::ReviewFault;
 use crate::reviewed::Reviewed;
@@ -51,14 +51,14 @@ fn stations_in<L: ExerciseLog>(
 }
 
 /// All orders at all their parties, in order.
-fn told_in<L: ExerciseLog>(
+fn listed_in<L: ExerciseLog>(
     alloc: Global,
     reviewed: &Reviewed<'_, L>,
 ) -> Result<Vec<OrderAt>, AllocError>
-    ensures { IfOk result (λ told. told.items ≡ orders_told reviewed.now) }
+    ensures { IfOk result (λ told. told.items ≡ reviewed_orders reviewed.now) }
 {
-    let mut told = Vec::with_capacity(alloc, reviewed.told_count())?;
-    for place in 0..reviewed.told_count() {
+    let mut told = Vec::with_capacity(alloc, reviewed.order_row_count())?;
+    for place in 0..reviewed.order_row_count() {
         told.push(reviewed.told(place))?;
     }
     Ok(told)
@@ -91,7 +91,7 @@ pub fn review_of<L: ExerciseLog>(
         others: reviewed.others(),
         fates: reviewed.fates(),
         stations: stations_in(alloc, &reviewed)?,
-        told: told_in(alloc, &reviewed)?,
+        told: listed_in(alloc, &reviewed)?,
         spans: spans_in(alloc, &reviewed)?,
     })
 }

@@ -3,23 +3,23 @@
 ghost use Rattle.std.specs.Prelude.{◌≡◌, ◌<◌, ◌≤◌, Some, Ok, Err, length, map, slice_get, IfOk, IfErr};
 ghost use Rattle.exercise_model.specs.Account.{others_of, values_below};
 ghost use Rattle.exercise_model.specs.Recording.{PlainRecording};
-ghost use Rattle.exercise_review.specs.Review.{KeepsReview, Reviews, line_count};
+ghost use Rattle.exercise_review.specs.Review.{AreReviewTables, Reviews, line_count};
 ghost use Rattle.exercise_review.specs.declared.review.TheConstants.{MOST_LINES};
 ghost use Rattle.exercise_review.specs.Span.{all_spans};
 ghost use Rattle.exercise_review.specs.Stay.{span_at};
-ghost use Rattle.exercise_review.specs.Tally.{IsTold, TellsWithin, fates_of, station_counts};
-ghost use Rattle.exercise_review.specs.Told.{orders_of, orders_told};
+ghost use Rattle.exercise_review.specs.Tally.{IsReviewBelow, ReviewsWithin, fates_of, station_counts};
+ghost use Rattle.exercise_review.specs.Told.{orders_of, reviewed_orders};
 
 use crate::changes::changes_by_station;
 use crate::fault::ReviewFault;
 use crate::register::Register;
 use crate::review::MOST_LINES;
-use crate::row::{Row, told_by};
+use crate::row::{OrderRow, reported_by};
 use crate::span::{Span, span_at};
 use crate::stay::Stay;
 use crate::stays::{refuse_many, stays_within};
-use crate::tally::{FateCounts, StationCounts, fates_of, stations_counted};
-use crate::told::{OrderAt, Told, told_within};
+use crate::tally::{FateCounts, StationCounts, counts_of_stations, fates_of};
+use crate::told::{OrderAt, OrderReview, rows_within};
 use exercise_findings::Findings;
 use exercise_model::ExerciseLog;
 use std::alloc::{AllocError, Global};
@@ -27,7 +27,7 @@ use std::marker::Model;
 
 /// The tables of a reviewed recording.
 #[derive(Drop)]
-struct KeptReview {
+struct ReviewTables {
     /// Number of orders.
     orders: usize,
     /// Number of orders at their parties with each fate.
@@ -35,7 +35,7 @@ struct KeptReview {
     /// The counts of each station, by rising address.
     stations: Vec<StationCounts>,
     /// The compact rows of the orders at their parties.
-    rows: Vec<Row>,
+    rows: Vec<OrderRow>,
     /// The compact spans of the lives of all entities.
     stays: Vec<Stay>,
 }
@@ -45,7 +45,7 @@ struct KeptReview {
 #[derive(Drop)]
 pub struct Reviewed<'a, L: ExerciseLog> {
     findings: Findings<'a, L>,
-    kept: KeptReview,
+    kept: ReviewTables,
 }
 
 impl<'a, L: ExerciseLog> Model for Reviewed<'a, L> {
@@ -53,22 +53,22 @@ impl<'a, L: ExerciseLog> Model for Reviewed<'a, L> {
 
     ghost view = { λ x. x.findings };
 
-    ghost invariant = { λ x. KeepsReview x.findings x.kept };
+    ghost invariant = { λ x. AreReviewTables x.findings x.kept };
 }
 
 /// The rows of the orders of a recording, and its findings. The other tables of the register are
 /// dropped.
-fn told_in<'a, L: ExerciseLog>(
+fn listed_in<'a, L: ExerciseLog>(
     alloc: Global,
     findings: Findings<'a, L>,
     most: usize,
-) -> Result<(Told, Findings<'a, L>), ReviewFault>
-    ensures refused { IfErr result (λ fault. TellsWithin findings.entry most (Err fault)) }
-    ensures told { IfOk result (λ made. TellsWithin findings.entry most (Ok made.0)) }
+) -> Result<(OrderReview, Findings<'a, L>), ReviewFault>
+    ensures refused { IfErr result (λ fault. ReviewsWithin findings.entry most (Err fault)) }
+    ensures told { IfOk result (λ made. ReviewsWithin findings.entry most (Ok made.0)) }
     ensures findings { IfOk result (λ made. made.1 ≡ findings.entry) }
 {
     let register = Register::of(alloc, findings)?;
-    let told = told_within(alloc, &register, most)?;
+    let told = rows_within(alloc, &register, most)?;
     Ok((told, register.into_findings()))
 }
 
@@ -78,9 +78,9 @@ fn told_in<'a, L: ExerciseLog>(
 fn listed<'a, L: ExerciseLog>(
     alloc: Global,
     findings: Findings<'a, L>,
-) -> Result<(Told, Vec<Stay>, Findings<'a, L>), ReviewFault>
+) -> Result<(OrderReview, Vec<Stay>, Findings<'a, L>), ReviewFault>
     ensures refused { IfErr result (λ fault. Reviews findings.entry (Err fault)) }
-    ensures told { IfOk result (λ made. IsTold findings.entry (length findings.entry.entries) made.0) }
+    ensures told { IfOk result (λ made. IsReviewBelow findings.entry (length findings.entry.entries) made.0) }
     ensures stays { IfOk result (λ made. map (span_at findings.entry) made.1.items ≡ all_spans findings.entry) }
     ensures within { IfOk result (λ _. line_count findings.entry ≤ MOST_LINES) }
     ensures findings { IfOk result (λ made. made.2 ≡ findings.entry) }
@@ -88,7 +88,7 @@ fn listed<'a, L: ExerciseLog>(
     let most = MOST_LINES - 1 - findings.log().station_count();
     let changes = changes_by_station(alloc, &findings)?;
     refuse_many(alloc, &findings, &changes, most)?;
-    let (told, findings) = told_in(alloc, findings, most)?;
+    let (told, findings) = listed_in(alloc, findings, most)?;
     let stays = stays_within(alloc, &findings, &changes, most - told.rows.len())?;
     Ok((told, stays, findings))
 }
@@ -97,15 +97,15 @@ fn listed<'a, L: ExerciseLog>(
 fn counted<L: ExerciseLog>(
     alloc: Global,
     findings: &Findings<'_, L>,
-    told: &Told,
+    told: &OrderReview,
 ) -> Result<(Vec<StationCounts>, FateCounts), AllocError>
-    requires { IsTold findings.now (length findings.now.entries) told.now }
+    requires { IsReviewBelow findings.now (length findings.now.entries) told.now }
     ensures stations { IfOk result (λ counts. counts.0.items ≡ values_below (station_counts findings.now) (length findings.now.setting.stations)) }
-    ensures fates { IfOk result (λ counts. counts.1 ≡ fates_of (orders_told findings.now)) }
+    ensures fates { IfOk result (λ counts. counts.1 ≡ fates_of (reviewed_orders findings.now)) }
 {
     let fates = fates_of(alloc, &told.rows)?;
     let states = findings.states(alloc)?;
-    let stations = stations_counted(alloc, findings.log(), &states, told)?;
+    let stations = counts_of_stations(alloc, findings.log(), &states, told)?;
     Ok((stations, fates))
 }
 
@@ -119,8 +119,8 @@ impl<'a, L: ExerciseLog> Reviewed<'a, L> {
     {
         let (told, stays, findings) = listed(alloc, findings)?;
         let (stations, fates) = counted(alloc, &findings, &told)?;
-        let Told { makers, rows, .. } = told;
-        let kept = KeptReview {
+        let OrderReview { makers, rows, .. } = told;
+        let kept = ReviewTables {
             orders: makers.len(),
             fates,
             stations,
@@ -153,7 +153,7 @@ impl<'a, L: ExerciseLog> Reviewed<'a, L> {
 
     /// Number of orders at their parties with each fate.
     pub fn fates(&self) -> FateCounts
-        ensures { result ≡ fates_of (orders_told self.now) }
+        ensures { result ≡ fates_of (reviewed_orders self.now) }
     {
         self.kept.fates
     }
@@ -166,8 +166,8 @@ impl<'a, L: ExerciseLog> Reviewed<'a, L> {
     }
 
     /// Number of orders at their parties.
-    pub fn told_count(&self) -> usize
-        ensures { result ≡ length (orders_told self.now) }
+    pub fn order_row_count(&self) -> usize
+        ensures { result ≡ length (reviewed_orders self.now) }
     {
         self.kept.rows.len()
     }
@@ -175,10 +175,10 @@ impl<'a, L: ExerciseLog> Reviewed<'a, L> {
     /// An order at one of its parties. They are sorted by head and then by address of the party; an
     /// order without parties occurs once.
     pub fn told(&self, place: usize) -> OrderAt
-        requires { place < length (orders_told self.now) }
-        ensures { slice_get (orders_told self.now) place ≡ Some result }
+        requires { place < length (reviewed_orders self.now) }
+        ensures { slice_get (reviewed_orders self.now) place ≡ Some result }
     {
-        told_by(&self.findings, self.kept.rows[place])
+        reported_by(&self.findings, self.kept.rows[place])
     }
 
     /// Number of spans of lives.

@@ -5,17 +5,17 @@ ghost use Rattle.std.specs.Option.{option_or};
 ghost use Rattle.exercise_findings.specs.Number.{entry_of};
 ghost use Rattle.exercise_review.specs.Order.{order_of, order_at};
 ghost use Rattle.exercise_review.specs.Outcome.{took};
-ghost use Rattle.exercise_review.specs.Parties.{outsider_at, party_address};
-ghost use Rattle.exercise_review.specs.Row.{sends_kept, receipts_kept, word_numbered, word_kept, outcome_kept, row_told, IsKept};
-ghost use Rattle.exercise_review.specs.Told.{order_told};
+ghost use Rattle.exercise_review.specs.Parties.{site_application, party_address};
+ghost use Rattle.exercise_review.specs.Row.{row_sends, row_receipts, word_numbered, row_word, row_outcome, row_order, IsKept};
+ghost use Rattle.exercise_review.specs.Told.{order_at_party};
 ghost use Rattle.exercise_review.specs.Word.{word_at};
 
 use crate::entry_number::{NO_ENTRY, entry_of};
 use crate::fate::Fate;
-use crate::order::Order;
+use crate::order::RecordedOrder;
 use crate::outcome::{Outcome, stamp_in};
 use crate::parties::{address_in, maker_in};
-use crate::party::{Outsider, Party};
+use crate::party::{Party, SiteApplication};
 use crate::register::Register;
 use crate::told::OrderAt;
 use crate::word::{Word, word_in};
@@ -26,7 +26,7 @@ use siman_pdus::{Message, request_id};
 /// An order at one of its parties, in little memory: fields that can be read from the log again are
 /// left out. Entries are numbers from 0; 0xFFFFFFFF means none.
 #[derive(Clone, Copy)]
-pub(crate) struct Row {
+pub(crate) struct OrderRow {
     /// The head of the order.
     pub head: u32,
     /// The party; `None` if the order has none.
@@ -53,7 +53,7 @@ pub(crate) struct Row {
 }
 
 /// An optional entry as a number of 32 bits.
-fn entry_kept(entry: Option<usize>) -> u32
+fn packed_entry(entry: Option<usize>) -> u32
     requires { IfSome entry (λ i. i < 0xFFFFFFFF) }
     ensures { entry_of result ≡ entry }
 {
@@ -64,7 +64,7 @@ fn entry_kept(entry: Option<usize>) -> u32
 }
 
 /// An optional count as a number of 32 bits; 0 if it is unknown.
-fn count_kept(count: Option<usize>) -> u32
+fn packed_count(count: Option<usize>) -> u32
     requires { IfSome count (λ n. n < 0x100000000) }
     ensures { result ≡ unwrap_or count 0 }
 {
@@ -111,26 +111,26 @@ fn word_numbered(number: u8) -> Option<Word>
 }
 
 /// Compact row of an order at one of its parties.
-#[tactic(auto, unfolding(crate::specs::Row::row_told))]
+#[tactic(auto, unfolding(crate::specs::Row::row_order))]
 pub(crate) fn row_of<L: ExerciseLog>(
     findings: &Register<'_, L>,
-    order: &Order<'_>,
+    order: &RecordedOrder<'_>,
     outcome: Outcome,
-) -> Row
+) -> OrderRow
     requires head { order_at findings.now order.now.head ≡ Some (order_of order.now) }
     requires kept { IsKept findings.now (order_of order.now) outcome }
-    ensures { row_told findings.now result ≡ Some (order_told findings.now (order_of order.now) outcome) }
+    ensures { row_order findings.now result ≡ Some (order_at_party findings.now (order_of order.now) outcome) }
 {
     let _end = findings.log().entry_count();
-    Row {
+    OrderRow {
         head: order.head as u32,
         party: outcome.party,
-        sends: count_kept(outcome.sends),
-        receipts: count_kept(outcome.receipts),
-        got: entry_kept(outcome.got),
-        answer: entry_kept(outcome.answer),
-        news: entry_kept(outcome.news),
-        change: entry_kept(outcome.change),
+        sends: packed_count(outcome.sends),
+        receipts: packed_count(outcome.receipts),
+        got: packed_entry(outcome.got),
+        answer: packed_entry(outcome.answer),
+        news: packed_entry(outcome.news),
+        change: packed_entry(outcome.change),
         said: word_number(outcome.said),
         heard: word_number(outcome.heard),
         fate: outcome.fate,
@@ -138,17 +138,17 @@ pub(crate) fn row_of<L: ExerciseLog>(
 }
 
 /// An order, read again at its head.
-fn order_again<L: ExerciseLog>(log: &L, head: usize) -> Order<'_>
+fn order_at_head<L: ExerciseLog>(log: &L, head: usize) -> RecordedOrder<'_>
     requires { is_some (order_at (L.recording log.now) head) ≡ true }
     ensures { Some (order_of result) ≡ order_at (L.recording log.now) head }
 {
     match log.entry(head) {
-        EntryView::Sent { station, bytes, .. } => Order {
+        EntryView::Sent { station, bytes, .. } => RecordedOrder {
             head,
             maker: Some(station),
             request: meaning_again(log.exercise(), bytes),
         },
-        EntryView::Received { bytes, .. } => Order {
+        EntryView::Received { bytes, .. } => RecordedOrder {
             head,
             maker: None,
             request: meaning_again(log.exercise(), bytes),
@@ -158,8 +158,8 @@ fn order_again<L: ExerciseLog>(log: &L, head: usize) -> Order<'_>
 }
 
 /// How often an order was sent, from the number in its row; `None` if its maker is not recorded.
-fn sends_kept(maker: Option<u16>, sends: u32) -> Option<usize>
-    ensures { result ≡ sends_kept maker sends }
+fn row_sends(maker: Option<u16>, sends: u32) -> Option<usize>
+    ensures { result ≡ row_sends maker sends }
 {
     match maker {
         Some(_) => Some(sends as usize),
@@ -169,8 +169,8 @@ fn sends_kept(maker: Option<u16>, sends: u32) -> Option<usize>
 
 /// How often a party received an order, from the number in its row; `None` if the party is not
 /// recorded.
-fn receipts_kept(party: Option<Party>, receipts: u32) -> Option<usize>
-    ensures { result ≡ receipts_kept party receipts }
+fn row_receipts(party: Option<Party>, receipts: u32) -> Option<usize>
+    ensures { result ≡ row_receipts party receipts }
 {
     match party {
         Some(Party::Station(_)) => Some(receipts as usize),
@@ -179,8 +179,8 @@ fn receipts_kept(party: Option<Party>, receipts: u32) -> Option<usize>
 }
 
 /// The word with this number, or else the word of an optional entry.
-fn word_kept<L: ExerciseLog>(log: &L, number: u8, entry: Option<usize>) -> Option<Word>
-    ensures { result ≡ word_kept (L.recording log.now) number entry }
+fn row_word<L: ExerciseLog>(log: &L, number: u8, entry: Option<usize>) -> Option<Word>
+    ensures { result ≡ row_word (L.recording log.now) number entry }
 {
     match (word_numbered(number), entry) {
         (Some(word), _) => Some(word),
@@ -191,7 +191,11 @@ fn word_kept<L: ExerciseLog>(log: &L, number: u8, entry: Option<usize>) -> Optio
 
 /// Time from the head of an order to the entry `news`, by the maker's clock; `None` if that was set
 /// back.
-fn took_again<L: ExerciseLog>(log: &L, order: &Order<'_>, news: Option<usize>) -> Option<u64>
+fn time_to_news<L: ExerciseLog>(
+    log: &L,
+    order: &RecordedOrder<'_>,
+    news: Option<usize>,
+) -> Option<u64>
     ensures { result ≡ took (L.recording log.now) (order_of order.now) news }
 {
     match (stamp_in(log, order.head), stamp_in(log, news?)) {
@@ -201,28 +205,28 @@ fn took_again<L: ExerciseLog>(log: &L, order: &Order<'_>, news: Option<usize>) -
 }
 
 /// Outcome of an order at one of its parties, read from its row.
-fn outcome_kept<L: ExerciseLog>(log: &L, order: &Order<'_>, row: Row) -> Outcome
-    ensures { result ≡ outcome_kept (L.recording log.now) (order_of order.now) row }
+fn row_outcome<L: ExerciseLog>(log: &L, order: &RecordedOrder<'_>, row: OrderRow) -> Outcome
+    ensures { result ≡ row_outcome (L.recording log.now) (order_of order.now) row }
 {
     let (answer, news) = (entry_of(row.answer), entry_of(row.news));
     Outcome {
         party: row.party,
-        sends: sends_kept(order.maker, row.sends),
-        receipts: receipts_kept(row.party, row.receipts),
+        sends: row_sends(order.maker, row.sends),
+        receipts: row_receipts(row.party, row.receipts),
         got: entry_of(row.got),
-        said: word_kept(log, row.said, answer),
+        said: row_word(log, row.said, answer),
         answer,
-        heard: word_kept(log, row.heard, news),
+        heard: row_word(log, row.heard, news),
         news,
-        took: took_again(log, order, news),
+        took: time_to_news(log, order, news),
         change: entry_of(row.change),
         fate: row.fate,
     }
 }
 
 /// Address of an optional party.
-fn party_address<L: ExerciseLog>(log: &L, party: Option<Party>) -> Option<Outsider>
-    ensures { result ≡ option_map (λ p. outsider_at (party_address (L.recording log.now) p)) party }
+fn party_address<L: ExerciseLog>(log: &L, party: Option<Party>) -> Option<SiteApplication>
+    ensures { result ≡ option_map (λ p. site_application (party_address (L.recording log.now) p)) party }
 {
     match party {
         Some(party) => Some(address_in(log, party)),
@@ -231,8 +235,8 @@ fn party_address<L: ExerciseLog>(log: &L, party: Option<Party>) -> Option<Outsid
 }
 
 /// An order at a party, with its outcome.
-fn order_told<L: ExerciseLog>(log: &L, order: &Order<'_>, outcome: Outcome) -> OrderAt
-    ensures { result ≡ order_told (L.recording log.now) (order_of order.now) outcome }
+fn order_at_party<L: ExerciseLog>(log: &L, order: &RecordedOrder<'_>, outcome: Outcome) -> OrderAt
+    ensures { result ≡ order_at_party (L.recording log.now) (order_of order.now) outcome }
 {
     OrderAt {
         head: order.head,
@@ -246,12 +250,12 @@ fn order_told<L: ExerciseLog>(log: &L, order: &Order<'_>, outcome: Outcome) -> O
 }
 
 /// An order at one of its parties, read from its row. Allocates no memory.
-#[tactic(auto, unfolding(crate::specs::Row::row_told))]
-pub(crate) fn told_by<L: ExerciseLog>(findings: &Findings<'_, L>, row: Row) -> OrderAt
-    requires { is_some (row_told findings.now row) ≡ true }
-    ensures { Some result ≡ row_told findings.now row }
+#[tactic(auto, unfolding(crate::specs::Row::row_order))]
+pub(crate) fn reported_by<L: ExerciseLog>(findings: &Findings<'_, L>, row: OrderRow) -> OrderAt
+    requires { is_some (row_order findings.now row) ≡ true }
+    ensures { Some result ≡ row_order findings.now row }
 {
     let log = findings.log();
-    let order = order_again(log, row.head as usize);
-    order_told(log, &order, outcome_kept(log, &order, row))
+    let order = order_at_head(log, row.head as usize);
+    order_at_party(log, &order, row_outcome(log, &order, row))
 }

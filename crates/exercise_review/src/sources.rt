@@ -9,15 +9,15 @@ ghost use Rattle.exercise_model.specs.Place.{first_below};
 ghost use Rattle.exercise_findings.specs.Source.{source_of};
 ghost use Rattle.exercise_review.specs.declared.receipt.Receipts.{Receipts};
 ghost use Rattle.exercise_review.specs.Counted.{last_below};
-ghost use Rattle.exercise_review.specs.Entries.{bytes_got};
+ghost use Rattle.exercise_review.specs.Entries.{bytes_received};
 ghost use Rattle.exercise_review.specs.Heard.{gets_in};
 ghost use Rattle.exercise_review.specs.Records.{entry_places};
 ghost use Rattle.exercise_review.specs.Register.{key_at, AreRegistered};
-ghost use Rattle.exercise_review.specs.Sourced.{TellsSources, AreSources, AreWhole, IsAnswerIn, is_unheard};
+ghost use Rattle.exercise_review.specs.Sourced.{AreColumns, AreSources, AreWhole, IsAnswerIn, is_unreceived};
 
+use crate::entry_chains::{EntryChains, indexed_end};
 use crate::entry_number::{NO_ENTRY, entry_of};
 use crate::receipt::Receipts;
-use crate::ways::{Ways, keyed_end};
 use exercise_findings::{Findings, number_at, put_number};
 use exercise_model::{EntryView, ExerciseLog, Form, meaning_view};
 use std::alloc::{AllocError, Global};
@@ -55,7 +55,7 @@ pub(crate) fn no_sources<L: ExerciseLog>(alloc: Global, log: &L) -> SourceColumn
 
 /// Stores that a station received, at the next entry, the datagram of the entry `source`. The
 /// columns become incomplete if two stations received it.
-fn note_from<L: ExerciseLog>(
+fn note_receipt_of<L: ExerciseLog>(
     sources: &mut SourceColumns,
     log: &L,
     station: u16,
@@ -67,7 +67,7 @@ fn note_from<L: ExerciseLog>(
     requires key { key_at (L.recording log.now) entry ≡ None }
     requires from { source_of (L.recording log.now) entry ≡ Some source }
     requires place { entry_places (L.recording log.now) entry ≡ Some station }
-    requires tied { TellsSources (L.recording log.now) entry sources.old }
+    requires tied { AreColumns (L.recording log.now) entry sources.old }
     ensures { OnOk result (AreSources (L.recording log.now) (entry + 1) sources.new) }
 {
     let count = log.entry_count();
@@ -97,13 +97,13 @@ fn note_received<L: ExerciseLog>(
 ) -> Result<(), AllocError>
     requires within { entry < length findings.now.entries }
     requires key { key_at findings.now entry ≡ None }
-    requires got { bytes_got findings.now station entry ≡ Some bytes.now }
-    requires tied { TellsSources findings.now entry sources.old }
+    requires got { bytes_received findings.now station entry ≡ Some bytes.now }
+    requires tied { AreColumns findings.now entry sources.old }
     ensures { OnOk result (AreSources findings.now (entry + 1) sources.new) }
 {
     let log = findings.log();
     if let Some(source) = findings.source_at_hand(entry) {
-        return note_from(sources, log, station, source as usize, entry);
+        return note_receipt_of(sources, log, station, source as usize, entry);
     }
     if meaning_view(log.exercise(), bytes).is_some() {
         sources.whole = false;
@@ -142,15 +142,15 @@ pub(crate) fn note_source<L: ExerciseLog>(
 
 /// Whether each entry that takes up a request was received, given the index of the entries. Only
 /// entries with a key can take up a request.
-fn all_heard<L: ExerciseLog>(
+fn are_all_received<L: ExerciseLog>(
     findings: &Findings<'_, L>,
-    orders: &Ways,
+    orders: &EntryChains,
     sources: &SourceColumns,
 ) -> bool
     requires { AreRegistered (key_at findings.now) (length findings.now.entries) orders.now }
-    ensures { result ≡ is_none (first_below (is_unheard findings.now sources.now) (length findings.now.entries)) }
+    ensures { result ≡ is_none (first_below (is_unreceived findings.now sources.now) (length findings.now.entries)) }
 {
-    for entry in 0..keyed_end(orders, findings.log().entry_count()) {
+    for entry in 0..indexed_end(orders, findings.log().entry_count()) {
         let first = entry_of(number_at(&sources.first, NO_ENTRY, entry));
         if findings.pair(entry).is_some() && first.is_none() {
             return false;
@@ -163,14 +163,14 @@ fn all_heard<L: ExerciseLog>(
 /// first and the last receipt of each entry that takes up a request.
 pub(crate) fn are_whole<L: ExerciseLog>(
     findings: &Findings<'_, L>,
-    orders: &Ways,
+    orders: &EntryChains,
     sources: &SourceColumns,
 ) -> bool
     requires orders { AreRegistered (key_at findings.now) (length findings.now.entries) orders.now }
     requires sources { AreSources findings.now (length findings.now.entries) sources.now }
     ensures { result ≡ true → AreWhole findings.now sources.now }
 {
-    sources.whole && all_heard(findings, orders, sources)
+    sources.whole && are_all_received(findings, orders, sources)
 }
 
 /// First and last entry at which a station received the datagram of an entry that takes up a

@@ -6,17 +6,17 @@ ghost use Rattle.siman_pdus.specs.Role.{request_id_of};
 ghost use Rattle.siman_pdus.specs.declared.pdu.Pdu.{Pdu};
 ghost use Rattle.exercise_model.specs.History.{station_at};
 ghost use Rattle.exercise_review.specs.Outcome.{stamp_at};
-ghost use Rattle.exercise_review.specs.Parties.{outsider_at};
+ghost use Rattle.exercise_review.specs.Parties.{site_application};
 ghost use Rattle.exercise_review.specs.Room.{MakesWithin};
 ghost use Rattle.exercise_review.specs.Span.{request_behind, entity_at, spans_of};
 ghost use Rattle.exercise_review.specs.Stay.{span_at};
 
-use crate::entries::meant_in;
+use crate::entries::pdu_in_log;
 use crate::entry_number::entry_of;
 use crate::fault::ReviewFault;
 use crate::outcome::stamp_in;
 use crate::parties::{parts_at, parts_in};
-use crate::party::Outsider;
+use crate::party::SiteApplication;
 use crate::register::Register;
 use crate::stay::Stay;
 use crate::stays::stays_of;
@@ -43,7 +43,7 @@ pub struct Span {
     /// The stamp of the entry that ended it.
     pub until: Option<u64>,
     /// The sender of the request for the change that began it.
-    pub by: Option<Outsider>,
+    pub by: Option<SiteApplication>,
     /// The identifier of that request.
     pub request: Option<u32>,
 }
@@ -53,15 +53,15 @@ pub struct Span {
 fn asked_behind<L: ExerciseLog>(
     findings: &Findings<'_, L>,
     entry: Option<usize>,
-) -> (Option<Outsider>, Option<u32>)
-    ensures by { result.0 ≡ option_map (λ (q : Pdu). outsider_at (pair_of q.origin)) (option_and_then (request_behind findings.now) entry) }
+) -> (Option<SiteApplication>, Option<u32>)
+    ensures by { result.0 ≡ option_map (λ (q : Pdu). site_application (pair_of q.origin)) (option_and_then (request_behind findings.now) entry) }
     ensures request { result.1 ≡ option_and_then (λ (q : Pdu). request_id_of q.body) (option_and_then (request_behind findings.now) entry) }
 {
     let Some(entry) = entry else {
         return (None, None);
     };
     match findings.pair(entry) {
-        Some(_) => match meant_in(findings.log(), entry) {
+        Some(_) => match pdu_in_log(findings.log(), entry) {
             Some(answer) => (Some(parts_in(answer.target)), request_id(&answer)),
             None => (None, None),
         },

@@ -2,7 +2,7 @@
 
 ghost use Rattle.std.specs.Prelude.{◌≡◌, ◌≤◌, length, OnOk};
 ghost use Rattle.exercise_review.specs.Room.{AddsWithin};
-ghost use Rattle.exercise_review.specs.Stay.{ended_at, ended_by, stays_on};
+ghost use Rattle.exercise_review.specs.Stay.{stay_ended_at, stay_ended_by, stay_after};
 
 use crate::fault::ReviewFault;
 use dis_records::EntityState;
@@ -32,7 +32,7 @@ pub(crate) fn end_stay(
     until: u32,
 ) -> Result<(), ReviewFault>
     requires { length stays.old.items ≤ most }
-    ensures { AddsWithin most stays.old.items (ended_at stay until) result stays.new.items }
+    ensures { AddsWithin most stays.old.items (stay_ended_at stay until) result stays.new.items }
 {
     if stay.state == EntityState::Absent {
         return Ok(());
@@ -55,8 +55,8 @@ pub(crate) fn stay_on(
     state: EntityState,
 ) -> Result<(), ReviewFault>
     requires { length stays.old.items ≤ most }
-    ensures added { AddsWithin most stays.old.items (ended_by stay.old entry state) result stays.new.items }
-    ensures stay { OnOk result (stay.new ≡ stays_on stay.old entry state) }
+    ensures added { AddsWithin most stays.old.items (stay_ended_by stay.old entry state) result stays.new.items }
+    ensures stay { OnOk result (stay.new ≡ stay_after stay.old entry state) }
 {
     if state == stay.state {
         return Ok(());

@@ -4,13 +4,13 @@ ghost use Rattle.std.specs.Prelude.{◌≡◌, ◌<◌, ◌≤◌, Err, IfErr, l
 ghost use Rattle.std.specs.List.{list_any};
 ghost use Rattle.exercise_review.specs.Room.{AddsWithin, CountsWithin};
 ghost use Rattle.exercise_review.specs.Span.{spans_of, all_spans, changes_made};
-ghost use Rattle.exercise_review.specs.Course.{AreChanges, AreInOrder, has_change_of_all, is_all, is_made_of_all, lives_in};
+ghost use Rattle.exercise_review.specs.Course.{AreChanges, AreInOrder, has_change_of_all, is_all, is_made_of_all, course_stretches};
 ghost use Rattle.exercise_review.specs.Stay.{StaysWithin, stay_of, stays_of, all_stays};
 
 use crate::changes::{Made, changes_made};
-use crate::course::Course;
+use crate::course::StationChanges;
 use crate::fault::ReviewFault;
-use crate::living::{last_living, may_live, push_life};
+use crate::living::{has_possible_life, last_entity_alive, push_life};
 use crate::stay::Stay;
 use dis_records::Scope;
 use exercise_findings::Findings;
@@ -22,15 +22,15 @@ use std::alloc::Global;
 fn push_entity(
     stays: &mut Vec<Stay>,
     most: usize,
-    course: &Course<'_>,
+    course: &StationChanges<'_>,
     station: u16,
     entity: u16,
 ) -> Result<(), ReviewFault>
     requires order { AreInOrder course.now }
     requires room { length stays.old.items ≤ most }
-    ensures { AddsWithin most stays.old.items (map (stay_of station entity) (lives_in course.now entity)) result stays.new.items }
+    ensures { AddsWithin most stays.old.items (map (stay_of station entity) (course_stretches course.now entity)) result stays.new.items }
 {
-    if may_live(course, entity) {
+    if has_possible_life(course, entity) {
         push_life(stays, most, course, station, entity)
     } else {
         Ok(())
@@ -52,8 +52,8 @@ fn push_station<L: ExerciseLog>(
     requires room { length stays.old.items ≤ most }
     ensures { AddsWithin most stays.old.items (stays_of findings.now station) result stays.new.items }
 {
-    let course = Course::of(alloc, findings, station, changes)?;
-    for below in 0..last_living(&course) {
+    let course = StationChanges::of(alloc, findings, station, changes)?;
+    for below in 0..last_entity_alive(&course) {
         push_entity(stays, most, &course, station, below + 1)?;
     }
     Ok(())
@@ -92,13 +92,13 @@ fn count_entity(
     made: &mut Vec<Stay>,
     count: usize,
     most: usize,
-    course: &Course<'_>,
+    course: &StationChanges<'_>,
     station: u16,
     entity: u16,
 ) -> Result<usize, ReviewFault>
     requires order { AreInOrder course.now }
     requires room { count ≤ most }
-    ensures { CountsWithin most count (map (stay_of station entity) (lives_in course.now entity)) result }
+    ensures { CountsWithin most count (map (stay_of station entity) (course_stretches course.now entity)) result }
 {
     made.clear();
     push_entity(made, most - count, course, station, entity)?;
@@ -120,10 +120,10 @@ fn count_station<L: ExerciseLog>(
     requires room { count ≤ most }
     ensures { CountsWithin most count (stays_of findings.now station) result }
 {
-    let course = Course::of(alloc, findings, station, changes)?;
+    let course = StationChanges::of(alloc, findings, station, changes)?;
     let mut made = Vec::new(alloc);
     let mut count = count;
-    for below in 0..last_living(&course) {
+    for below in 0..last_entity_alive(&course) {
         count = count_entity(&mut made, count, most, &course, station, below + 1)?;
     }
     Ok(count)
@@ -131,7 +131,7 @@ fn count_station<L: ExerciseLog>(
 
 /// Number of spans in the lives of all stations' entities, given the changes of each station;
 /// `OverLimit` if there are more than `most`. Stores the spans of only one entity at a time.
-fn spans_counted<L: ExerciseLog>(
+fn number_of_spans<L: ExerciseLog>(
     alloc: Global,
     findings: &Findings<'_, L>,
     changes: &[Vec<Made>],
@@ -192,7 +192,7 @@ pub(crate) fn refuse_many<L: ExerciseLog>(
     ensures { IfErr result (λ fault. CountsWithin most 0 (all_spans findings.now) (Err fault)) }
 {
     if is_some_change_of_all(changes) {
-        spans_counted(alloc, findings, changes, most)?;
+        number_of_spans(alloc, findings, changes, most)?;
     }
     Ok(())
 }

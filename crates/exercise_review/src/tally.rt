@@ -5,17 +5,17 @@ ghost use Rattle.exercise_model.specs.Account.{values_below};
 ghost use Rattle.exercise_model.specs.Recording.{PlainRecording};
 ghost use Rattle.exercise_review.specs.Order.{OrderData};
 ghost use Rattle.exercise_review.specs.Row.{AreRows};
-ghost use Rattle.exercise_review.specs.Tally.{fate_number, is_fate_at, passes_at, many, counts_by, fates_of, is_made_by, is_running, row_place, row_places, row_numbers, makers_of, maker_places, ArePresent, IsTold, AreCounted, station_counts};
+ghost use Rattle.exercise_review.specs.Tally.{fate_number, is_fate_at, passes_at, many, fate_counts, fates_of, is_made_by, is_running, row_place, row_places, row_numbers, makers_of, maker_places, ArePresent, IsReviewBelow, AreCounted, station_counts};
 ghost use Rattle.exercise_review.specs.declared.fate.Fate.{Fate};
 ghost use Rattle.exercise_review.specs.declared.told.OrderAt.{OrderAt};
 
 use crate::counting::{Placing, counts_of};
 use crate::fate::Fate;
 use crate::parties::parts_of;
-use crate::party::{Outsider, Party};
+use crate::party::{Party, SiteApplication};
 use crate::question::{Question, count_below};
-use crate::row::Row;
-use crate::told::Told;
+use crate::row::OrderRow;
+use crate::told::OrderReview;
 use dis_records::EntityState;
 use exercise_model::ExerciseLog;
 use std::alloc::{AllocError, Global};
@@ -42,7 +42,7 @@ pub struct FateCounts {
 #[derive(Clone, Copy, PartialEq, Eq)]
 pub struct StationCounts {
     /// Its address.
-    pub at: Outsider,
+    pub at: SiteApplication,
     /// Number of entries in its log.
     pub records: usize,
     /// Number of orders that it made.
@@ -77,7 +77,7 @@ impl Fate {
 /// The fate of each order at a party, by its number.
 #[derive(Drop)]
 struct FateNumbers<'a> {
-    rows: &'a [Row],
+    rows: &'a [OrderRow],
 }
 
 impl Placing for FateNumbers<'_> {
@@ -94,7 +94,7 @@ impl Placing for FateNumbers<'_> {
 
 /// Number of these orders at their parties with each fate.
 #[tactic(auto, using(crate::proofs::Places::all_fates))]
-pub(crate) fn fates_of(alloc: Global, rows: &[Row]) -> Result<FateCounts, AllocError>
+pub(crate) fn fates_of(alloc: Global, rows: &[OrderRow]) -> Result<FateCounts, AllocError>
     ensures { (r : PlainRecording) (told : List OrderAt) → AreRows r rows.now told → IfOk result (λ counts. counts ≡ fates_of told) }
 {
     let counts = counts_of(alloc, &FateNumbers { rows }, rows.len(), FATES)?;
@@ -102,7 +102,7 @@ pub(crate) fn fates_of(alloc: Global, rows: &[Row]) -> Result<FateCounts, AllocE
 }
 
 /// Counter of an order at a recorded party: each station has one for each fate.
-fn row_place(row: &Row) -> Option<usize>
+fn row_place(row: &OrderRow) -> Option<usize>
     ensures { result ≡ row_place row.now }
 {
     match row.party {
@@ -116,7 +116,7 @@ fn row_place(row: &Row) -> Option<usize>
 /// The counter of each order at a party.
 #[derive(Drop)]
 struct FatePlaces<'a> {
-    rows: &'a [Row],
+    rows: &'a [OrderRow],
 }
 
 impl Placing for FatePlaces<'_> {
@@ -148,7 +148,7 @@ impl Placing for MakerPlaces<'_> {
 
 /// Number of these orders that each station made.
 #[tactic(auto, using(crate::proofs::Places::orders_counted))]
-fn made_by_station(
+fn orders_by_station(
     alloc: Global,
     makers: &[Option<u16>],
     stations: usize,
@@ -162,7 +162,11 @@ fn made_by_station(
 /// Number of these orders at their parties with each fate at each station, nine counters for a
 /// station.
 #[tactic(auto, using(crate::proofs::Places::fates_counted, crate::proofs::Places::place_within))]
-fn fates_by_station(alloc: Global, rows: &[Row], stations: usize) -> Result<Vec<usize>, AllocError>
+fn fates_by_station(
+    alloc: Global,
+    rows: &[OrderRow],
+    stations: usize,
+) -> Result<Vec<usize>, AllocError>
     requires { stations ≤ 65536 }
     ensures each { (r : PlainRecording) (told : List OrderAt) → AreRows r rows.now told → IfOk result (λ counts. (s : ℕ) → s < stations → (f : Fate) → slice_index_or counts.items (s * 9 + fate_number f) 0 ≡ many (is_fate_at s f) told) }
     ensures count { IfOk result (λ counts. length counts.items ≡ stations * 9) }
@@ -173,7 +177,7 @@ fn fates_by_station(alloc: Global, rows: &[Row], stations: usize) -> Result<Vec<
 /// The nine counts of all fates, from an index on.
 fn fates_from(counts: &[usize], first: usize) -> FateCounts
     requires { first + 9 ≤ length counts.now }
-    ensures { result ≡ counts_by (λ f. slice_index_or counts.now (first + fate_number f) 0) }
+    ensures { result ≡ fate_counts (λ f. slice_index_or counts.now (first + fate_number f) 0) }
 {
     FateCounts {
         done: counts[first],
@@ -226,13 +230,13 @@ struct Counts {
 fn counts_by_station<L: ExerciseLog>(
     alloc: Global,
     log: &L,
-    told: &Told,
+    told: &OrderReview,
 ) -> Result<Counts, AllocError>
-    requires { let r = L.recording log.now in IsTold r (length r.entries) told.now }
+    requires { let r = L.recording log.now in IsReviewBelow r (length r.entries) told.now }
     ensures { IfOk result (AreCounted (L.recording log.now)) }
 {
     let stations = log.station_count();
-    let made = made_by_station(alloc, &told.makers, stations)?;
+    let made = orders_by_station(alloc, &told.makers, stations)?;
     let fates = fates_by_station(alloc, &told.rows, stations)?;
     Ok(Counts { made, fates })
 }
@@ -252,12 +256,12 @@ fn present_at(states: &[Vec<(u16, EntityState)>], station: usize) -> &[(u16, Ent
 fn station_counts<L: ExerciseLog>(
     log: &L,
     states: &[Vec<(u16, EntityState)>],
-    told: &Told,
+    told: &OrderReview,
     counts: &Counts,
     station: u16,
 ) -> StationCounts
     requires states { ArePresent (L.recording log.now) (map (λ v. v.items) states.now) }
-    requires told { let r = L.recording log.now in IsTold r (length r.entries) told.now }
+    requires told { let r = L.recording log.now in IsReviewBelow r (length r.entries) told.now }
     requires counts { AreCounted (L.recording log.now) counts.now }
     requires within { station < length (L.recording log.now).setting.stations }
     ensures { result ≡ station_counts (L.recording log.now) station }
@@ -276,14 +280,14 @@ fn station_counts<L: ExerciseLog>(
 
 /// Counts of each station, by rising address.
 #[tactic(auto, using(exercise_model::proofs::Offered::account_steps))]
-pub(crate) fn stations_counted<L: ExerciseLog>(
+pub(crate) fn counts_of_stations<L: ExerciseLog>(
     alloc: Global,
     log: &L,
     states: &[Vec<(u16, EntityState)>],
-    told: &Told,
+    told: &OrderReview,
 ) -> Result<Vec<StationCounts>, AllocError>
     requires states { ArePresent (L.recording log.now) (map (λ v. v.items) states.now) }
-    requires told { let r = L.recording log.now in IsTold r (length r.entries) told.now }
+    requires told { let r = L.recording log.now in IsReviewBelow r (length r.entries) told.now }
     ensures { let r = L.recording log.now in IfOk result (λ counts. counts.items ≡ values_below (station_counts r) (length r.setting.stations)) }
 {
     let counted = counts_by_station(alloc, log, told)?;

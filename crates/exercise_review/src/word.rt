@@ -4,11 +4,11 @@ ghost use Rattle.std.specs.Prelude.{◌≡◌, ◌<◌, length, option_map, opti
 ghost use Rattle.std.specs.Option.{option_or};
 ghost use Rattle.exercise_model.specs.Recording.{PlainRecording};
 ghost use Rattle.siman_pdus.specs.Reading.{body_of};
-ghost use Rattle.exercise_review.specs.Gathered.{IsSpoken};
+ghost use Rattle.exercise_review.specs.StationTrace.{IsEntryWord};
 ghost use Rattle.exercise_review.specs.Register.{IsUnder};
-ghost use Rattle.exercise_review.specs.Word.{response_word, status_word, word_of, settles, word_at, settles_at, is_settling, first_settling, telling, word_text};
+ghost use Rattle.exercise_review.specs.Word.{response_word, status_word, word_of, settles, word_at, settles_at, is_settling, first_settling, decisive_entry, word_text};
 
-use crate::entries::{meant_at, meant_in};
+use crate::entries::{pdu_at, pdu_in_log};
 use crate::question::Question;
 use crate::register::Register;
 use crate::walk::{first_entry, last_entry};
@@ -125,7 +125,7 @@ pub(crate) fn settles(body: &BodyView<'_>) -> bool
 pub(crate) fn word_in<L: ExerciseLog>(log: &L, entry: usize) -> Option<Word>
     ensures { result ≡ word_at (L.recording log.now) entry }
 {
-    match meant_in(log, entry) {
+    match pdu_in_log(log, entry) {
         Some(pdu) => Word::of(&pdu.body),
         None => None,
     }
@@ -157,7 +157,7 @@ pub(crate) fn word_of<L: ExerciseLog>(
 pub(crate) fn settles_at<L: ExerciseLog>(findings: &Register<'_, L>, entry: usize) -> bool
     ensures { result ≡ settles_at findings.now entry }
 {
-    match meant_at(findings, entry) {
+    match pdu_at(findings, entry) {
         Some(pdu) => settles(&pdu.body),
         None => false,
     }
@@ -165,38 +165,38 @@ pub(crate) fn settles_at<L: ExerciseLog>(findings: &Register<'_, L>, entry: usiz
 
 /// An optional entry whose word may count, and its word.
 #[derive(Clone, Copy)]
-pub(crate) struct Spoken {
+pub(crate) struct EntryWord {
     pub entry: Option<usize>,
     pub word: Option<Word>,
 }
 
-impl Spoken {
+impl EntryWord {
     /// No entry.
-    pub(crate) fn nothing() -> Spoken
+    pub(crate) fn nothing() -> EntryWord
         ensures entry { result.entry ≡ None }
         ensures word { result.word ≡ None }
     {
-        Spoken {
+        EntryWord {
             entry: None,
             word: None,
         }
     }
 
     /// An optional entry, with its word.
-    pub(crate) fn at<L: ExerciseLog>(findings: &Register<'_, L>, entry: Option<usize>) -> Spoken
+    pub(crate) fn at<L: ExerciseLog>(findings: &Register<'_, L>, entry: Option<usize>) -> EntryWord
         ensures entry { result.entry ≡ entry }
-        ensures word { IsSpoken findings.now result }
+        ensures word { IsEntryWord findings.now result }
     {
-        Spoken {
+        EntryWord {
             entry,
             word: word_of(findings, entry),
         }
     }
 
     /// This one, or `other` if this has no entry.
-    pub(crate) fn or(self, other: Spoken) -> Spoken
+    pub(crate) fn or(self, other: EntryWord) -> EntryWord
         ensures entry { result.entry ≡ option_or self.entry other.entry }
-        ensures word { (r : PlainRecording) → IsSpoken r self → IsSpoken r other → IsSpoken r result }
+        ensures word { (r : PlainRecording) → IsEntryWord r self → IsEntryWord r other → IsEntryWord r result }
     {
         match self.entry {
             Some(_) => self,
@@ -235,14 +235,14 @@ pub(crate) fn first_settling<L: ExerciseLog, Q: Question>(
 
 /// Entry whose word counts among those that pass, where all that pass have this key: the first that
 /// settles, else the last.
-#[tactic(auto, unfolding(crate::specs::Word::telling))]
-pub(crate) fn telling<L: ExerciseLog, Q: Question>(
+#[tactic(auto, unfolding(crate::specs::Word::decisive_entry))]
+pub(crate) fn decisive_entry<L: ExerciseLog, Q: Question>(
     findings: &Register<'_, L>,
     key: Option<u64>,
     question: &Q,
 ) -> Option<usize>
     requires { IfSome key (IsUnder findings.now (Q.test question.now)) }
-    ensures { result ≡ telling findings.now (Q.test question.now) }
+    ensures { result ≡ decisive_entry findings.now (Q.test question.now) }
 {
     match first_settling(findings, key, question) {
         Some(entry) => Some(entry),

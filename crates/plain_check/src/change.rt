@@ -1,6 +1,6 @@
 //! Acknowledgements of a station under one key, and the changes that its answers make.
 
-use crate::entries::sent_by;
+use crate::entries::pdu_sent;
 use crate::exchange::request_taken_up;
 use exercise_model::{AcknowledgeKey, Change, ExerciseLog, key_of, responds, responds_under};
 use siman_pdus::{ABLE, PduView};
@@ -13,7 +13,7 @@ pub(crate) fn acknowledges<L: ExerciseLog>(
     key: &AcknowledgeKey,
     entry: usize,
 ) -> bool {
-    match sent_by(log, station, entry) {
+    match pdu_sent(log, station, entry) {
         Some(pdu) => responds_under(response, key, &pdu),
         None => false,
     }
@@ -53,6 +53,6 @@ pub(crate) fn change_by<L: ExerciseLog>(
 
 /// The change that an entry of a station makes.
 pub(crate) fn change_made<L: ExerciseLog>(log: &L, station: usize, entry: usize) -> Option<Change> {
-    let pdu = sent_by(log, station, entry)?;
+    let pdu = pdu_sent(log, station, entry)?;
     change_by(log, station, entry, &pdu)
 }

@@ -40,7 +40,7 @@ pub(crate) fn is_own<L: ExerciseLog>(log: &L, station: usize, entry: usize) -> b
 }
 
 /// The PDU that an entry of a station sends, unless the datagram is "other".
-pub(crate) fn sent_by<L: ExerciseLog>(
+pub(crate) fn pdu_sent<L: ExerciseLog>(
     log: &L,
     station: usize,
     entry: usize,
@@ -80,6 +80,6 @@ pub(crate) fn bytes_at<L: ExerciseLog>(log: &L, entry: usize) -> Option<&[u8]> {
 }
 
 /// The PDU that an entry sends or receives, unless the datagram is "other".
-pub(crate) fn meant_at<L: ExerciseLog>(log: &L, entry: usize) -> Option<PduView<'_>> {
+pub(crate) fn pdu_at<L: ExerciseLog>(log: &L, entry: usize) -> Option<PduView<'_>> {
     meaning_view(log.exercise(), bytes_at(log, entry)?)
 }

@@ -1,7 +1,7 @@
 //! Judges whether the event of an entry can happen next, and with which entry its step links.
 
 use crate::change::{change_by, was_acknowledged};
-use crate::entries::{address_of, entry_at, sent_by};
+use crate::entries::{address_of, entry_at, pdu_sent};
 use crate::exchange::request_taken_up;
 use crate::state::state_before;
 use dis_records::{EntityState, Kind, Scope};
@@ -13,7 +13,7 @@ use exercise_model::{
 use siman_pdus::{ABLE, PduView, UNABLE, answers, is_request, is_under_identifier, same_order};
 
 /// The entry that a step links with, if any, or the first cause against it.
-pub(crate) type Judgement = Result<Option<usize>, Cause>;
+pub(crate) type PlainJudgement = Result<Option<usize>, Cause>;
 
 /// Whether a PDU is a request under the request identifier of another request, and another order.
 fn is_other_order(request: &PduView<'_>, other: &PduView<'_>) -> bool {
@@ -29,7 +29,7 @@ fn is_reused<L: ExerciseLog>(
     request: &PduView<'_>,
 ) -> bool {
     for i in 0..before {
-        if let Some(other) = sent_by(log, station, i) {
+        if let Some(other) = pdu_sent(log, station, i) {
             if is_other_order(request, &other) {
                 return true;
             }
@@ -76,7 +76,7 @@ fn judge_answer<L: ExerciseLog>(
     station: usize,
     place: usize,
     pdu: &PduView<'_>,
-) -> Judgement {
+) -> PlainJudgement {
     let Some((entry, request)) = request_taken_up(log, station, place, pdu) else {
         return Err(Cause::NoRequest);
     };
@@ -98,7 +98,7 @@ fn judge_sent<L: ExerciseLog>(
     station: usize,
     place: usize,
     pdu: &PduView<'_>,
-) -> Judgement {
+) -> PlainJudgement {
     match address_of(log, station) {
         Some(address) if is_from(address, pdu) => {}
         _ => return Err(Cause::WrongSender),
@@ -142,7 +142,7 @@ fn judge_received<L: ExerciseLog>(
     before: &[Step],
     bytes: &[u8],
     pdu: &PduView<'_>,
-) -> Judgement {
+) -> PlainJudgement {
     if sender_of(log, pdu).is_none() {
         return match log.form() {
             Form::Open => Ok(None),
@@ -161,7 +161,7 @@ pub(crate) fn judge<L: ExerciseLog>(
     before: &[Step],
     place: usize,
     entry: &EntryView<'_>,
-) -> Judgement {
+) -> PlainJudgement {
     match *entry {
         EntryView::Sent { station, bytes, .. } => match meaning_view(log.exercise(), bytes) {
             Some(pdu) => judge_sent(log, usize::from(station), place, &pdu),

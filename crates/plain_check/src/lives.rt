@@ -1,8 +1,8 @@
 //! The lives of the entities of a recording.
 
-use crate::entries::meant_at;
+use crate::entries::pdu_at;
 use crate::outcomes::stamp_of;
-use crate::parties::{outsider_at, station_address};
+use crate::parties::{site_application, station_address};
 use crate::report::{changes, plain_pair};
 use crate::state::opening_state;
 use dis_records::{EntityId, EntityState};
@@ -68,11 +68,11 @@ fn span_of<L: ExerciseLog>(log: &L, entity: EntityId, stretch: Stretch) -> Span 
         None => None,
     };
     let asked = match behind {
-        Some(request) => meant_at(log, request),
+        Some(request) => pdu_at(log, request),
         None => None,
     };
     let (by, request) = match asked {
-        Some(pdu) => (Some(outsider_at(pdu.origin)), request_id(&pdu)),
+        Some(pdu) => (Some(site_application(pdu.origin)), request_id(&pdu)),
         None => (None, None),
     };
     Span {

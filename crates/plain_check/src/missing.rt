@@ -21,7 +21,7 @@ fn first_send<L: ExerciseLog>(log: &L, sender: usize, datagram: &[u8]) -> Option
 }
 
 /// The bytes that an entry receives.
-fn bytes_got<L: ExerciseLog>(log: &L, entry: usize) -> Option<&[u8]> {
+fn bytes_received<L: ExerciseLog>(log: &L, entry: usize) -> Option<&[u8]> {
     match entry_at(log, entry)? {
         EntryView::Received { bytes, .. } => Some(bytes),
         EntryView::Sent { .. } | EntryView::Told { .. } => None,
@@ -31,7 +31,7 @@ fn bytes_got<L: ExerciseLog>(log: &L, entry: usize) -> Option<&[u8]> {
 /// For a datagram received from a recorded station, the first entry of that station that sends
 /// these bytes.
 pub fn plain_source<L: ExerciseLog>(log: &L, entry: usize) -> Option<usize> {
-    let bytes = bytes_got(log, entry)?;
+    let bytes = bytes_received(log, entry)?;
     let sender = sender_of(log, &meaning_view(log.exercise(), bytes)?)?;
     first_send(log, sender, bytes)
 }
@@ -50,7 +50,7 @@ pub fn plain_receipts<L: ExerciseLog>(log: &L, entry: usize) -> usize {
 /// Whether any entry before this one receives these bytes.
 fn is_received_before<L: ExerciseLog>(log: &L, before: usize, datagram: &[u8]) -> bool {
     for entry in 0..before {
-        if bytes_got(log, entry) == Some(datagram) {
+        if bytes_received(log, entry) == Some(datagram) {
             return true;
         }
     }
@@ -60,7 +60,7 @@ fn is_received_before<L: ExerciseLog>(log: &L, before: usize, datagram: &[u8]) -
 /// The missing send that an entry reveals: the entry is the first to receive a datagram of a
 /// recorded station that this station does not send.
 pub fn plain_missing<L: ExerciseLog>(log: &L, entry: usize) -> Option<Missing> {
-    let bytes = bytes_got(log, entry)?;
+    let bytes = bytes_received(log, entry)?;
     let pdu = meaning_view(log.exercise(), bytes)?;
     let sender = sender_of(log, &pdu)?;
     if is_received_before(log, entry, bytes) || first_send(log, sender, bytes).is_some() {

@@ -1,10 +1,10 @@
 //! Orders, each identified by its head: its first entry.
 
-use crate::entries::{address_of, entry_at, meant_at, received_by, sent_by};
+use crate::entries::{address_of, entry_at, pdu_at, pdu_sent, received_by};
 use crate::judge::sender_of;
 use dis_records::addressed;
 use exercise_model::{EntryView, ExerciseLog, Form};
-use exercise_review::Order;
+use exercise_review::RecordedOrder;
 use siman_pdus::{PduView, is_request, is_under_identifier, same_order};
 
 /// Whether the origin of a PDU is outside: the recording is open, and no recorded station is the
@@ -38,7 +38,7 @@ pub(crate) fn is_send<L: ExerciseLog>(
     request: &PduView<'_>,
     entry: usize,
 ) -> bool {
-    match sent_by(log, station, entry) {
+    match pdu_sent(log, station, entry) {
         Some(pdu) => same_order(request, &pdu),
         None => false,
     }
@@ -112,8 +112,8 @@ pub(crate) fn copies_of<L: ExerciseLog>(
 
 /// The order that an entry sends from its station, or receives from outside for a recorded station.
 /// Its head is the first entry that sends it there, or the first that receives it.
-fn order_with<L: ExerciseLog>(log: &L, entry: usize) -> Option<Order<'_>> {
-    let request = meant_at(log, entry)?;
+fn order_with<L: ExerciseLog>(log: &L, entry: usize) -> Option<RecordedOrder<'_>> {
+    let request = pdu_at(log, entry)?;
     if !is_request(&request) {
         return None;
     }
@@ -129,7 +129,7 @@ fn order_with<L: ExerciseLog>(log: &L, entry: usize) -> Option<Order<'_>> {
         }
         _ => return None,
     };
-    Some(Order {
+    Some(RecordedOrder {
         head: head?,
         maker,
         request,
@@ -145,7 +145,7 @@ pub fn plain_head<L: ExerciseLog>(log: &L, entry: usize) -> Option<usize> {
 }
 
 /// The order whose head is this entry, if any.
-pub(crate) fn order_at<L: ExerciseLog>(log: &L, entry: usize) -> Option<Order<'_>> {
+pub(crate) fn order_at<L: ExerciseLog>(log: &L, entry: usize) -> Option<RecordedOrder<'_>> {
     match order_with(log, entry) {
         Some(order) if order.head == entry => Some(order),
         _ => None,
@@ -153,9 +153,13 @@ pub(crate) fn order_at<L: ExerciseLog>(log: &L, entry: usize) -> Option<Order<'_
 }
 
 /// Whether an order is the first of its station under its request identifier.
-pub(crate) fn is_first_under_id<L: ExerciseLog>(log: &L, station: u16, order: &Order<'_>) -> bool {
+pub(crate) fn is_first_under_id<L: ExerciseLog>(
+    log: &L,
+    station: u16,
+    order: &RecordedOrder<'_>,
+) -> bool {
     for entry in 0..log.entry_count() {
-        match sent_by(log, usize::from(station), entry) {
+        match pdu_sent(log, usize::from(station), entry) {
             Some(pdu) if is_request(&pdu) && is_under_identifier(&order.request, &pdu) => {
                 return entry == order.head;
             }

@@ -3,10 +3,10 @@
 use crate::change::change_made;
 use crate::entries::entry_at;
 use crate::orders::{copies_of, send_count};
-use crate::parties::{outsider_at, parties_of, party_address, station_address, told_from};
-use crate::replies::{first_settling, news_of, replies_of, telling, word_of};
+use crate::parties::{parties_of, party_address, site_application, station_address, told_from};
+use crate::replies::{decisive_entry, first_settling, news_of, replies_of, word_of};
 use exercise_model::{EntryView, ExerciseLog};
-use exercise_review::{Fate, Order, OrderAt, Outcome, Outsider, Party, Word};
+use exercise_review::{Fate, OrderAt, Outcome, Party, RecordedOrder, SiteApplication, Word};
 use siman_pdus::{Message, request_id};
 use std::alloc::{AllocError, Global};
 
@@ -32,7 +32,7 @@ fn took<L: ExerciseLog>(log: &L, first: usize, last: Option<usize>) -> Option<u6
 /// receipts at the maker.
 fn fate_of<L: ExerciseLog>(
     log: &L,
-    order: &Order<'_>,
+    order: &RecordedOrder<'_>,
     is_got: bool,
     replies: &[usize],
     news: &[usize],
@@ -62,7 +62,7 @@ fn first_changing<L: ExerciseLog>(log: &L, station: u16, entries: &[usize]) -> O
 }
 
 /// The outcome of an order without parties.
-fn outcome_nowhere<L: ExerciseLog>(log: &L, order: &Order<'_>) -> Outcome {
+fn partyless_outcome<L: ExerciseLog>(log: &L, order: &RecordedOrder<'_>) -> Outcome {
     Outcome {
         party: None,
         sends: match order.maker {
@@ -85,19 +85,19 @@ fn outcome_nowhere<L: ExerciseLog>(log: &L, order: &Order<'_>) -> Outcome {
 /// maker.
 fn outcome_by<L: ExerciseLog>(
     log: &L,
-    order: &Order<'_>,
+    order: &RecordedOrder<'_>,
     station: u16,
     replies: &[usize],
     news: &[usize],
 ) -> Outcome {
     let (count, first) = copies_of(log, station, &order.request);
-    let mut outcome = outcome_nowhere(log, order);
+    let mut outcome = partyless_outcome(log, order);
     outcome.party = Some(Party::Station(station));
     outcome.receipts = Some(count);
     outcome.got = first;
-    outcome.answer = telling(log, replies);
+    outcome.answer = decisive_entry(log, replies);
     outcome.said = word_of(log, outcome.answer);
-    outcome.news = telling(log, news);
+    outcome.news = decisive_entry(log, news);
     outcome.heard = word_of(log, outcome.news);
     outcome.took = took(log, order.head, outcome.news);
     outcome.change = first_changing(log, station, replies);
@@ -106,10 +106,10 @@ fn outcome_by<L: ExerciseLog>(
 }
 
 /// The outcome of an order at a recorded station.
-fn outcome_here<L: ExerciseLog>(
+fn recorded_outcome<L: ExerciseLog>(
     alloc: Global,
     log: &L,
-    order: &Order<'_>,
+    order: &RecordedOrder<'_>,
     station: u16,
 ) -> Result<Outcome, AllocError> {
     let replies = replies_of(alloc, log, order, station)?;
@@ -120,16 +120,16 @@ fn outcome_here<L: ExerciseLog>(
 }
 
 /// The outcome of an order at an address of no recorded station.
-fn outcome_outside<L: ExerciseLog>(
+fn outsider_outcome<L: ExerciseLog>(
     alloc: Global,
     log: &L,
-    order: &Order<'_>,
-    address: Outsider,
+    order: &RecordedOrder<'_>,
+    address: SiteApplication,
 ) -> Result<Outcome, AllocError> {
     let told = told_from(alloc, log, order, address)?;
-    let mut outcome = outcome_nowhere(log, order);
+    let mut outcome = partyless_outcome(log, order);
     outcome.party = Some(Party::Outside(address));
-    outcome.news = telling(log, &told);
+    outcome.news = decisive_entry(log, &told);
     outcome.heard = word_of(log, outcome.news);
     outcome.took = took(log, order.head, outcome.news);
     outcome.fate = Fate::Unknown;
@@ -137,22 +137,22 @@ fn outcome_outside<L: ExerciseLog>(
 }
 
 /// An order with its outcome at a party, or without a party.
-fn order_told<L: ExerciseLog>(
+fn order_at_party<L: ExerciseLog>(
     alloc: Global,
     log: &L,
-    order: &Order<'_>,
+    order: &RecordedOrder<'_>,
     party: Option<Party>,
 ) -> Result<OrderAt, AllocError> {
     let outcome = match party {
-        Some(Party::Station(station)) => outcome_here(alloc, log, order, station)?,
-        Some(Party::Outside(address)) => outcome_outside(alloc, log, order, address)?,
-        None => outcome_nowhere(log, order),
+        Some(Party::Station(station)) => recorded_outcome(alloc, log, order, station)?,
+        Some(Party::Outside(address)) => outsider_outcome(alloc, log, order, address)?,
+        None => partyless_outcome(log, order),
     };
     Ok(OrderAt {
         head: order.head,
         from: match order.maker {
             Some(maker) => station_address(log, maker),
-            None => outsider_at(order.request.origin),
+            None => site_application(order.request.origin),
         },
         request: request_id(&order.request),
         kind: order.request.kind(),
@@ -170,14 +170,14 @@ fn push_at<L: ExerciseLog>(
     alloc: Global,
     log: &L,
     told: &mut Vec<OrderAt>,
-    order: &Order<'_>,
+    order: &RecordedOrder<'_>,
     parties: &[Party],
 ) -> Result<(), AllocError> {
     if parties.is_empty() {
-        told.push(order_told(alloc, log, order, None)?)?;
+        told.push(order_at_party(alloc, log, order, None)?)?;
     }
     for party in parties {
-        told.push(order_told(alloc, log, order, Some(*party))?)?;
+        told.push(order_at_party(alloc, log, order, Some(*party))?)?;
     }
     Ok(())
 }
@@ -187,7 +187,7 @@ pub(crate) fn push_order<L: ExerciseLog>(
     alloc: Global,
     log: &L,
     told: &mut Vec<OrderAt>,
-    order: &Order<'_>,
+    order: &RecordedOrder<'_>,
 ) -> Result<(), AllocError> {
     let parties = parties_of(alloc, log, order)?;
     push_at(alloc, log, told, order, &parties)

@@ -4,26 +4,26 @@ use crate::entries::{address_of, received_by};
 use crate::orders::{copies_of, is_first_under_id, is_meant, is_outside};
 use dis_records::{Address, EntityId};
 use exercise_model::{ExerciseLog, Form};
-use exercise_review::{Order, Outsider, Party};
+use exercise_review::{Party, RecordedOrder, SiteApplication};
 use siman_pdus::answers;
 use std::alloc::{AllocError, Global};
 
 /// Site and application of an identifier.
-pub(crate) fn outsider_at(id: EntityId) -> Outsider {
-    Outsider {
+pub(crate) fn site_application(id: EntityId) -> SiteApplication {
+    SiteApplication {
         site: id.site,
         application: id.application,
     }
 }
 
 /// Site and application of a recorded station; 0 and 0 past the last.
-pub(crate) fn station_address<L: ExerciseLog>(log: &L, station: u16) -> Outsider {
+pub(crate) fn station_address<L: ExerciseLog>(log: &L, station: u16) -> SiteApplication {
     match address_of(log, usize::from(station)) {
-        Some(address) => Outsider {
+        Some(address) => SiteApplication {
             site: address.site(),
             application: address.application(),
         },
-        None => Outsider {
+        None => SiteApplication {
             site: 0,
             application: 0,
         },
@@ -31,7 +31,7 @@ pub(crate) fn station_address<L: ExerciseLog>(log: &L, station: u16) -> Outsider
 }
 
 /// Site and application of a party.
-pub(crate) fn party_address<L: ExerciseLog>(log: &L, party: Party) -> Outsider {
+pub(crate) fn party_address<L: ExerciseLog>(log: &L, party: Party) -> SiteApplication {
     match party {
         Party::Station(station) => station_address(log, station),
         Party::Outside(address) => address,
@@ -40,7 +40,7 @@ pub(crate) fn party_address<L: ExerciseLog>(log: &L, party: Party) -> Outsider {
 
 /// Whether a recorded station is a party of an order: it is addressed, and if it made the order it
 /// also received it.
-fn is_party<L: ExerciseLog>(log: &L, order: &Order<'_>, station: u16) -> bool {
+fn is_party<L: ExerciseLog>(log: &L, order: &RecordedOrder<'_>, station: u16) -> bool {
     if !is_meant(log, &order.request, usize::from(station)) {
         return false;
     }
@@ -50,7 +50,11 @@ fn is_party<L: ExerciseLog>(log: &L, order: &Order<'_>, station: u16) -> bool {
 
 /// The address outside from which the maker of an order receives an answer to it at an entry after
 /// its head. `None` unless the order is the first of its maker under its identifier.
-fn told_at<L: ExerciseLog>(log: &L, order: &Order<'_>, entry: usize) -> Option<Outsider> {
+fn told_at<L: ExerciseLog>(
+    log: &L,
+    order: &RecordedOrder<'_>,
+    entry: usize,
+) -> Option<SiteApplication> {
     let maker = order.maker?;
     let pdu = received_by(log, usize::from(maker), entry)?;
     let is_told = answers(&pdu, &order.request)
@@ -58,7 +62,7 @@ fn told_at<L: ExerciseLog>(log: &L, order: &Order<'_>, entry: usize) -> Option<O
         && order.head < entry
         && is_first_under_id(log, maker, order);
     if is_told {
-        Some(outsider_at(pdu.origin))
+        Some(site_application(pdu.origin))
     } else {
         None
     }
@@ -68,8 +72,8 @@ fn told_at<L: ExerciseLog>(log: &L, order: &Order<'_>, entry: usize) -> Option<O
 pub(crate) fn told_from<L: ExerciseLog>(
     alloc: Global,
     log: &L,
-    order: &Order<'_>,
-    address: Outsider,
+    order: &RecordedOrder<'_>,
+    address: SiteApplication,
 ) -> Result<Vec<usize>, AllocError> {
     let mut told = Vec::new(alloc);
     for entry in 0..log.entry_count() {
@@ -116,10 +120,10 @@ fn push_party<L: ExerciseLog>(
 /// Adds the address outside that an order names, and those from which its maker received an answer.
 fn push_outsiders<L: ExerciseLog>(
     log: &L,
-    order: &Order<'_>,
+    order: &RecordedOrder<'_>,
     parties: &mut Vec<Party>,
 ) -> Result<(), AllocError> {
-    let named = outsider_at(order.request.target);
+    let named = site_application(order.request.target);
     match Address::new(named.site, named.application) {
         Some(address) if !is_recorded_at(log, address) => {
             push_party(log, parties, Party::Outside(named))?;
@@ -138,7 +142,7 @@ fn push_outsiders<L: ExerciseLog>(
 pub(crate) fn parties_of<L: ExerciseLog>(
     alloc: Global,
     log: &L,
-    order: &Order<'_>,
+    order: &RecordedOrder<'_>,
 ) -> Result<Vec<Party>, AllocError> {
     let mut parties = Vec::new(alloc);
     for station in 0..log.station_count() {

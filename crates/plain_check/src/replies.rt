@@ -1,16 +1,21 @@
 //! The replies of a party to an order, their receipts by its maker, and which of several answers
 //! counts.
 
-use crate::entries::{bytes_at, meant_at, received_by, sent_by};
+use crate::entries::{bytes_at, pdu_at, pdu_sent, received_by};
 use crate::report::plain_pair;
 use exercise_model::{EntryView, ExerciseLog};
-use exercise_review::{Order, Word};
+use exercise_review::{RecordedOrder, Word};
 use siman_pdus::{BodyView, answers, same_order};
 use std::alloc::{AllocError, Global};
 
 /// Whether a station sends, at an entry, an answer to an order that takes up a copy of it.
-fn is_reply<L: ExerciseLog>(log: &L, order: &Order<'_>, station: usize, entry: usize) -> bool {
-    let (Some(answer), Some(pair)) = (sent_by(log, station, entry), plain_pair(log, entry)) else {
+fn is_reply<L: ExerciseLog>(
+    log: &L,
+    order: &RecordedOrder<'_>,
+    station: usize,
+    entry: usize,
+) -> bool {
+    let (Some(answer), Some(pair)) = (pdu_sent(log, station, entry), plain_pair(log, entry)) else {
         return false;
     };
     match received_by(log, station, pair) {
@@ -23,7 +28,7 @@ fn is_reply<L: ExerciseLog>(log: &L, order: &Order<'_>, station: usize, entry: u
 pub(crate) fn replies_of<L: ExerciseLog>(
     alloc: Global,
     log: &L,
-    order: &Order<'_>,
+    order: &RecordedOrder<'_>,
     station: u16,
 ) -> Result<Vec<usize>, AllocError> {
     let mut replies = Vec::new(alloc);
@@ -50,7 +55,7 @@ fn are_bytes_of<L: ExerciseLog>(log: &L, entries: &[usize], bytes: &[u8]) -> boo
 pub(crate) fn news_of<L: ExerciseLog>(
     alloc: Global,
     log: &L,
-    order: &Order<'_>,
+    order: &RecordedOrder<'_>,
     replies: &[usize],
 ) -> Result<Vec<usize>, AllocError> {
     let mut news = Vec::new(alloc);
@@ -69,7 +74,7 @@ pub(crate) fn news_of<L: ExerciseLog>(
 
 /// Word of the PDU that an optional entry sends or receives.
 pub(crate) fn word_of<L: ExerciseLog>(log: &L, entry: Option<usize>) -> Option<Word> {
-    let pdu = meant_at(log, entry?)?;
+    let pdu = pdu_at(log, entry?)?;
     match pdu.body {
         BodyView::DataPdu { .. } => Some(Word::Data),
         BodyView::Acknowledge { response: 0, .. } | BodyView::ActionResponse { result: 0, .. } => {
@@ -92,7 +97,7 @@ pub(crate) fn word_of<L: ExerciseLog>(log: &L, entry: Option<usize>) -> Option<W
 
 /// Whether an entry sends or receives an answer that settles its order.
 fn settles<L: ExerciseLog>(log: &L, entry: usize) -> bool {
-    match meant_at(log, entry) {
+    match pdu_at(log, entry) {
         Some(pdu) => match pdu.body {
             BodyView::DataPdu { .. } => true,
             BodyView::Acknowledge { response, .. } => matches!(response, 1 | 2),
@@ -114,7 +119,7 @@ pub(crate) fn first_settling<L: ExerciseLog>(log: &L, entries: &[usize]) -> Opti
 }
 
 /// The entry that counts among these: the first that settles, else the last.
-pub(crate) fn telling<L: ExerciseLog>(log: &L, entries: &[usize]) -> Option<usize> {
+pub(crate) fn decisive_entry<L: ExerciseLog>(log: &L, entries: &[usize]) -> Option<usize> {
     match first_settling(log, entries) {
         Some(entry) => Some(entry),
         None => entries.last().copied(),

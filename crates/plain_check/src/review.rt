@@ -86,7 +86,7 @@ fn station_counts<L: ExerciseLog>(
 }
 
 /// Each order of a recording at its parties.
-fn told_of<L: ExerciseLog>(alloc: Global, log: &L) -> Result<Vec<OrderAt>, AllocError> {
+fn result_of<L: ExerciseLog>(alloc: Global, log: &L) -> Result<Vec<OrderAt>, AllocError> {
     let mut told = Vec::new(alloc);
     for entry in 0..log.entry_count() {
         if let Some(order) = order_at(log, entry) {
@@ -129,7 +129,7 @@ pub fn plain_review<L: ExerciseLog>(
     log: &L,
     most: u16,
 ) -> Result<Review, AllocError> {
-    let told = told_of(alloc, log)?;
+    let told = result_of(alloc, log)?;
     Ok(Review {
         orders: made_by(log, None),
         others: plain_others(log),

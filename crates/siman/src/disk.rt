@@ -1,6 +1,6 @@
 //! The operating system's files and sockets, as the `Outside` of the commands.
 
-use crate::part::{Part, begin_part};
+use crate::part::{PartFile, begin_part};
 use crate::sockets::{line_at, lines_of};
 use siman_console::{Endpoint, FileKind, Known, Outside, SystemCall, SystemFault, file_kind_of};
 use siman_lines::UdpLine;
@@ -27,7 +27,7 @@ pub(crate) fn is_among(opened: &[Identity], known: &Metadata) -> bool {
 pub(crate) struct MadeFile {
     file: File,
     /// The temporary path and final name; `None` for a file that is written in place.
-    part: Option<Part>,
+    part: Option<PartFile>,
     /// The error of the write that failed last.
     failed: Option<ErrorKind>,
 }
@@ -76,16 +76,16 @@ const INPUT_PATH: &str = "/dev/stdin";
 
 /// An open input: a file opened by its name, or standard input.
 #[derive(Drop)]
-pub(crate) enum Source {
+pub(crate) enum OpenInput {
     Named(File),
     Input(Stdin),
 }
 
-impl Read for Source {
+impl Read for OpenInput {
     fn read(&mut self, buf: &mut [u8]) -> io::Result<usize> {
         match self {
-            Source::Named(file) => file.read(buf),
-            Source::Input(input) => input.read(buf),
+            OpenInput::Named(file) => file.read(buf),
+            OpenInput::Input(input) => input.read(buf),
         }
     }
 }
@@ -129,19 +129,19 @@ impl Disk<'_> {
     }
 
     /// Metadata of an input.
-    fn metadata(&self, source: &Source) -> io::Result<Metadata> {
+    fn metadata(&self, source: &OpenInput) -> io::Result<Metadata> {
         match source {
-            Source::Named(file) => file.metadata(),
-            Source::Input(_) => fs::metadata(self.rt, INPUT_PATH),
+            OpenInput::Named(file) => file.metadata(),
+            OpenInput::Input(_) => fs::metadata(self.rt, INPUT_PATH),
         }
     }
 
     /// Opens a file for reading by its name, or takes standard input for `-`.
-    fn source(&self, name: &str) -> io::Result<Source> {
+    fn source(&self, name: &str) -> io::Result<OpenInput> {
         if name == INPUT {
-            return Ok(Source::Input(self.rt.stdin()));
+            return Ok(OpenInput::Input(self.rt.stdin()));
         }
-        Ok(Source::Named(File::open(self.rt, name)?))
+        Ok(OpenInput::Named(File::open(self.rt, name)?))
     }
 
     /// Begins a file beside the name that it is to take on saving, from any existing file (`force`)
@@ -182,7 +182,7 @@ impl Disk<'_> {
 
     /// Opens a file by its name, or standard input, to be read from its start. `IsADirectory` for a
     /// directory; the identity of the input is added to `opened`.
-    fn open_named(&mut self, name: &str) -> io::Result<Source> {
+    fn open_named(&mut self, name: &str) -> io::Result<OpenInput> {
         let mut source = self.source(name)?;
         let known = self.metadata(&source)?;
         if known.is_dir() {
@@ -195,9 +195,9 @@ impl Disk<'_> {
 
     /// Records the kind of the first and of the second input. Only a regular file that was opened
     /// by its name has a kind; others are `FileKind::Unknown`.
-    fn look_at(&mut self, source: &mut Source, known: &Metadata) -> io::Result<()> {
+    fn look_at(&mut self, source: &mut OpenInput, known: &Metadata) -> io::Result<()> {
         let kind = match source {
-            Source::Named(file) if known.is_file() => kind_of(file)?,
+            OpenInput::Named(file) if known.is_file() => kind_of(file)?,
             _ => FileKind::Unknown,
         };
         match self.opened.len() {
@@ -253,27 +253,27 @@ impl Disk<'_> {
 }
 
 impl Outside for Disk<'_> {
-    type Opened = Source;
+    type Opened = OpenInput;
 
-    type File = Source;
+    type File = OpenInput;
 
     type Made = MadeFile;
 
     type Line = UdpLine;
 
-    fn open(&mut self, name: &str) -> io::Result<Source> {
+    fn open(&mut self, name: &str) -> io::Result<OpenInput> {
         let opened = self.open_named(name);
         self.keep(SystemCall::Open, opened)
     }
 
-    fn is_opened(&mut self, source: &Source, name: &str) -> bool {
+    fn is_opened(&mut self, source: &OpenInput, name: &str) -> bool {
         match (self.metadata(source), fs::metadata(self.rt, name)) {
             (Ok(opened), Ok(known)) => known.is_file() && identity(&known) == identity(&opened),
             _ => false,
         }
     }
 
-    fn read(&mut self, source: Source) -> Source {
+    fn read(&mut self, source: OpenInput) -> OpenInput {
         source
     }
 

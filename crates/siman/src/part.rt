@@ -17,7 +17,7 @@ const OWN_MODE: u32 = 0o600;
 
 /// A file that is being written: its temporary path, its final name, and the file that it replaces.
 #[derive(Drop)]
-pub(crate) struct Part {
+pub(crate) struct PartFile {
     /// The temporary path: `name` and `.part`.
     path: String,
     /// The final name.
@@ -176,11 +176,11 @@ pub(crate) fn begin_part(
     stands: Option<&Metadata>,
     force: bool,
     opened: &[Identity],
-) -> io::Result<(File, Part)> {
+) -> io::Result<(File, PartFile)> {
     let name = path_of(rt, name, stands)?;
     let path = format!(in rt.alloc(); "{name}.part")?;
     let file = make_part(rt, &path, stands, opened)?;
-    let part = Part {
+    let part = PartFile {
         path,
         name,
         mode: permissions_of(stands),
@@ -203,7 +203,7 @@ fn sync_folder(rt: &HostRuntime, path: &str) {
     }
 }
 
-impl Part {
+impl PartFile {
     /// Sets the permissions of the replaced file, if there was one, and syncs the file.
     fn take_mode(&self, file: &File) -> io::Result<()> {
         if let Some(mode) = &self.mode {

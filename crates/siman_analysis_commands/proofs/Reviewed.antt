@@ -17,7 +17,7 @@ use Rattle.siman_outside.specs.Ending.{of_recording}
 use Rattle.siman_analysis_commands.specs.FilterWords.{filter_of}
 use Rattle.siman_outside.specs.Recorded.{Recorded}
 use Rattle.siman_outside.specs.Making.{Answered as Answer}
-use Rattle.siman_analysis_commands.specs.Review.{AskFor, IsFirstBad, IsUnsaid, TellsReview}
+use Rattle.siman_analysis_commands.specs.Review.{AskFor, IsFirstBad, IsUnsaid, GivesReview}
 use Rattle.siman_outside.proofs.Offered.{unsearched}
 
 -- a list, taken apart at one of its items
@@ -40,13 +40,13 @@ first_bad view text ws i w filters within is ask bad = record {
 
 -- nothing was said, and nothing is out
 pub untold : (spelling : Spelling) (filters : List Filter) (recorded : Recorded) (fault : Fault) (result : Answer) (known : Option (List ℕ))
-    → IsErrAnd result (λ e. e ≡ fault) → IsUnsaid recorded fault → TellsReview spelling filters recorded result (record { old = known; new = known })
+    → IsErrAnd result (λ e. e ≡ fault) → IsUnsaid recorded fault → GivesReview spelling filters recorded result (record { old = known; new = known })
 untold spelling filters recorded fault (Ok status) known passed why = absurd passed
 untold spelling filters recorded fault (Err e) known passed why = rw passed (inl (fault, why, refl, Keeps-refl known))
 
 -- a recording that could not be read
 pub unreviewed : (spelling : Spelling) (filters : List Filter) (recorded : Recorded) (fault : RecordingFault) (result : Answer) (known : Option (List ℕ))
-    → IsErrAnd result (λ e. e ≡ of_recording fault) → Fails (format_of fault) recorded → TellsReview spelling filters recorded result (record { old = known; new = known })
+    → IsErrAnd result (λ e. e ≡ of_recording fault) → Fails (format_of fault) recorded → GivesReview spelling filters recorded result (record { old = known; new = known })
 unreviewed spelling filters recorded fault result known passed why =
     untold spelling filters recorded (of_recording fault) result known passed (inl (unsearched recorded fault why))
 

@@ -6,13 +6,13 @@ use Rattle.exercise_model.specs.Headline.{Holds}
 use Rattle.exercise_model.specs.Alike.{IsAlwaysAsSaid}
 use Rattle.exercise_check.specs.declared.certificate.Step.{Step}
 use Rattle.exercise_check.specs.Certificate.{certificate_text}
-use Rattle.exercise_check.specs.Order.{order_of}
+use Rattle.exercise_check.specs.Sequence.{sequence_of}
 use Rattle.exercise_check.specs.Goodness.{IsGood}
 use Rattle.exercise_audit.specs.declared.blocks.Block.{Block}
 use Rattle.exercise_audit.specs.Audit.{IsBlocked}
 use Rattle.siman_outside.specs.declared.fault.Fault.{Fault}
 use Rattle.siman_analysis_commands.specs.declared.audit.Finding.{Finding}
-use Rattle.siman_analysis_commands.specs.declared.audit.Finding.TheVariants.{Order, Stuck}
+use Rattle.siman_analysis_commands.specs.declared.audit.Finding.TheVariants.{Sequence, Stuck}
 use Rattle.siman_outside.specs.Recorded.{Recorded, IsUnsearched, explained_text}
 use Rattle.siman_outside.specs.Ending.{EndsWith}
 use Rattle.siman_outside.specs.Outside.{Has, Stream, Deed}
@@ -35,14 +35,14 @@ IsListOf r text = (blocks : List Block) × IsBlocked r blocks × (text ≡ block
 -- ---- the result of a search
 
 -- SOME SEQUENCE EXPLAINS the recording, and these are the steps of its certificate
-pub record FindsOrder (recorded : Recorded) (steps : List Step) : Type 0 where
+pub record FindsSequence (recorded : Recorded) (steps : List Step) : Type 0 where
   -- The file is this recording.
   pub recording : PlainRecording
   pub read : recorded ≡ Ok recording
   -- There is a step for each entry, and each step is good.
   pub good : IsGood recording steps
   -- The sequence that the steps name is a run that explains the recording: the headline's sentences hold of it.
-  pub holds : Holds recording (order_of recording steps)
+  pub holds : Holds recording (sequence_of recording steps)
   -- What the recording says holds in every run that explains it: the pairs of entries, and the states at the end.
   pub said : IsAlwaysAsSaid recording
 
@@ -62,8 +62,8 @@ pub record AreTextsOf (steps : List Step) (certificate line : List ℕ) : Type 0
 
 -- the result of a search, with its texts
 abbrev pub Finds : Recorded → Finding → Type 0
-Finds recorded (Order texts) =
-    (steps : List Step) × FindsOrder recorded steps × AreTextsOf steps texts.certificate.items (string_bytes texts.line)
+Finds recorded (Sequence texts) =
+    (steps : List Step) × FindsSequence recorded steps × AreTextsOf steps texts.certificate.items (string_bytes texts.line)
 Finds recorded (Stuck text) = FindsNone recorded (string_bytes text)
 
 abbrev pub Searches : Recorded → Result Finding Fault → Type 0
@@ -74,19 +74,19 @@ Searches recorded (Err fault) = IsUnsearched recorded fault
 
 -- THE TEXTS OF A RESULT are written: certificate and line of a sequence, or the blocked list
 abbrev pub PutsFinding : Finding → Result ℕ Fault → (file out : Stream) → Type 0
-PutsFinding (Order texts) answered file out = PutsBoth texts.certificate.items (string_bytes texts.line) answered file out
+PutsFinding (Sequence texts) answered file out = PutsBoth texts.certificate.items (string_bytes texts.line) answered file out
 PutsFinding (Stuck text) answered file out = Keeps file.old file.new × PutsBlocked (string_bytes text) answered out
 
 -- The answer of `audit`: a fault, with nothing written; or a sequence explains the recording, and its certificate and its line are written; or none does, the file is unchanged, and the blocked list is written.
-abbrev pub TellsAudit : Recorded → (answered : Result ℕ Fault) → (file out : Stream) → Type 0
-TellsAudit recorded answered file out =
+abbrev pub GivesAudit : Recorded → (answered : Result ℕ Fault) → (file out : Stream) → Type 0
+GivesAudit recorded answered file out =
     ((fault : Fault) × IsUnsearched recorded fault × (answered ≡ Err fault) × Keeps file.old file.new × Keeps out.old out.new)
     ⊎ ((finding : Finding) × Finds recorded finding × PutsFinding finding answered file out)
 
 -- HOW `audit` ENDS: its answer is in the file and on the output, and its status and fault are those of the answer
 abbrev pub EndsAudit : Recorded → (status : ℕ) → (file out errors : Stream) → Type 0
 EndsAudit recorded status file out errors =
-    (answered : Result ℕ Fault) × TellsAudit recorded answered file out × EndsWith answered status errors.old errors.new
+    (answered : Result ℕ Fault) × GivesAudit recorded answered file out × EndsWith answered status errors.old errors.new
 
 -- ---- by the names of files
 
@@ -95,5 +95,5 @@ abbrev pub SearchesFile : (known : Option (List ℕ)) → Result Finding Fault �
 SearchesFile known found = (bytes : List ℕ) × Has known bytes × Searches (recording_at LARGEST_RECORDING bytes) found
 
 abbrev pub MakesFinding : Finding → (force : Bool) → (name : List ℕ) → List Deed → Result ℕ Fault → (out : Stream) → Type 0
-MakesFinding (Order texts) force name deeds answered out = MakesFile (PutsBoth texts.certificate.items (string_bytes texts.line)) force name deeds answered out
+MakesFinding (Sequence texts) force name deeds answered out = MakesFile (PutsBoth texts.certificate.items (string_bytes texts.line)) force name deeds answered out
 MakesFinding (Stuck text) force name deeds answered out = (deeds ≡ []) × PutsBlocked (string_bytes text) answered out

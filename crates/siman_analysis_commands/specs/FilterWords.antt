@@ -11,15 +11,15 @@ use Rattle.exercise_review.specs.declared.filter.EntryName.{EntryName}
 use Rattle.exercise_review.specs.declared.filter.EntryName.TheVariants as names
 use Rattle.exercise_review.specs.declared.filter.Filter.{Filter}
 use Rattle.exercise_review.specs.declared.filter.Filter.TheVariants as filters
-use Rattle.exercise_review.specs.declared.party.Outsider.{Outsider}
+use Rattle.exercise_review.specs.declared.party.SiteApplication.{SiteApplication}
 use Rattle.exercise_review.specs.Fate.{fate_text}
-use Rattle.siman_scripts.specs.Text.{cut_at, number_to}
+use Rattle.byte_files.specs.Text.{cut_at, number_to}
 use Rattle.siman_scripts.specs.Statement.{◌>>=◌, target_of}
 use Rattle.siman_command_line.specs.declared.commands.ViewWord.{ViewWord}
 use Rattle.siman_command_line.specs.declared.commands.ViewWord.TheVariants.{Review, Log}
 
 -- `S:A`, a site and an application: each number in 0 to 65535
-abbrev pub outsider_of : List ℕ → Option Outsider
+abbrev pub outsider_of : List ℕ → Option SiteApplication
 outsider_of word = do
   p ← cut_at 58 word
   site ← number_to 65535 p.0

@@ -31,8 +31,8 @@ use Rattle.siman_outside.specs.Saying.{SaysOfFile, SaysOfFiles}
 -- ---- a recording alone
 
 -- the lines of a recording's conflict, then those of the entries that they name
-abbrev pub conflict_told : PlainRecording → Conflict → List Line
-conflict_told r c = conflict_lines r c ++ named_lines r (conflict_entries c)
+abbrev pub conflict_rows : PlainRecording → Conflict → List Line
+conflict_rows r c = conflict_lines r c ++ named_lines r (conflict_entries c)
 
 -- SOME SEQUENCE EXPLAINS the recording
 pub record SaysExplained (spelling : Spelling) (recorded : Recorded) (text : List ℕ) : Type 0 where
@@ -53,7 +53,7 @@ pub record SaysConflict (spelling : Spelling) (recorded : Recorded) (text : List
   pub conflict : Conflict
   pub contradicts : IsConflictOf recording conflict
   -- The text is its lines.
-  pub text_is : text ≡ lines_spelled spelling (conflict_told recording conflict)
+  pub text_is : text ≡ lines_spelled spelling (conflict_rows recording conflict)
 
 -- THE ANSWER FOR A RECORDING, with status 0 if some sequence explains it, else with status 1
 abbrev pub SaysWhy : Spelling → Recorded → (text : List ℕ) → (status : ℕ) → Type 0
@@ -66,8 +66,8 @@ Whys spelling recorded (Err fault) = IsUnsearched recorded fault
 -- ---- a recording and a certificate
 
 -- the lines of a certificate that is not good, then those of the entries that they name
-abbrev pub refusal_told : PlainRecording → Refusal → List Line
-refusal_told r f = refusal_lines r f ++ named_lines r (refusal_entries f)
+abbrev pub refusal_rows : PlainRecording → Refusal → List Line
+refusal_rows r f = refusal_lines r f ++ named_lines r (refusal_entries f)
 
 -- THE CERTIFICATE IS GOOD
 pub record SaysGood (spelling : Spelling) (recorded : Recorded) (certified : Certified) (text : List ℕ) : Type 0 where
@@ -89,7 +89,7 @@ pub record SaysRefusal (spelling : Spelling) (recorded : Recorded) (certified : 
   -- the first bad step with the first cause that holds there, its clash, and whether some run explains the recording
   pub refusal : Refusal
   pub refused : IsRefusalOf recording steps refusal
-  pub text_is : text ≡ lines_spelled spelling (refusal_told recording refusal)
+  pub text_is : text ≡ lines_spelled spelling (refusal_rows recording refusal)
 
 -- THE ANSWER FOR A RECORDING AND A CERTIFICATE, with status 0 if the certificate is good, else with status 1
 abbrev pub SaysWhyNot : Spelling → Recorded → Certified → (text : List ℕ) → (status : ℕ) → Type 0
@@ -108,15 +108,15 @@ PutsWhy text status (Ok answered) out = (answered ≡ status) × Appends out.old
 PutsWhy text status (Err fault) out = (fault ≡ Output) × WritesPart out.old out.new text
 
 -- The answer of `why`: its text, or a fault with no text.
-abbrev pub TellsWhy : (Says : (text : List ℕ) → (status : ℕ) → Type 0) → (IsUnsaid : Fault → Type 0) → Answered → (out : Stream) → Type 0
-TellsWhy Says IsUnsaid answered out =
+abbrev pub GivesWhy : (Says : (text : List ℕ) → (status : ℕ) → Type 0) → (IsUnsaid : Fault → Type 0) → Answered → (out : Stream) → Type 0
+GivesWhy Says IsUnsaid answered out =
     ((fault : Fault) × IsUnsaid fault × (answered ≡ Err fault) × Keeps out.old out.new)
     ⊎ ((text : List ℕ) × (status : ℕ) × Says text status × PutsWhy text status answered out)
 
 -- THE ANSWER OF `why` for a file with these bytes, if they are known
 abbrev pub WhyOfFile : Spelling → (known : Option (List ℕ)) → Answered → (out : Stream) → Type 0
 WhyOfFile spelling known answered out =
-    (bytes : List ℕ) × Has known bytes × (let recorded = recording_at LARGEST_RECORDING bytes in TellsWhy (SaysWhy spelling recorded) (IsUnsearched recorded) answered out)
+    (bytes : List ℕ) × Has known bytes × (let recorded = recording_at LARGEST_RECORDING bytes in GivesWhy (SaysWhy spelling recorded) (IsUnsearched recorded) answered out)
 
 -- the answer for a recording and a certificate
 abbrev pub WhyOfFiles : Spelling → (recording certificate : Option (List ℕ)) → Answered → (out : Stream) → Type 0
@@ -125,7 +125,7 @@ WhyOfFiles spelling recording certificate answered out =
     × ((text : List ℕ) × Has certificate text
     × (let recorded = recording_at LARGEST_RECORDING bytes in
     let certified = certificate_at LARGEST_CERTIFICATE text in
-    TellsWhy (SaysWhyNot spelling recorded certified) (IsUnjudged recorded certified) answered out))
+    GivesWhy (SaysWhyNot spelling recorded certified) (IsUnjudged recorded certified) answered out))
 
 -- HOW `why` ENDS: its answer is on the output, and its status and fault are those of the answer
 abbrev pub EndsWhy : (Tells : Answered → Stream → Type 0) → (status : ℕ) → (out errors : Stream) → Type 0

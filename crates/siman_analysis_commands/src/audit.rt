@@ -8,17 +8,17 @@ ghost use Rattle.exercise_check.specs.Goodness.{IsGood};
 ghost use Rattle.exercise_audit.specs.Audit.{IsBlocked};
 ghost use Rattle.siman_outside.specs.declared.limits.TheConstants.{LARGEST_RECORDING};
 ghost use Rattle.siman_outside.specs.Outside.{Has, Stream, Deed, Found, Adds, WasHeld};
-ghost use Rattle.siman_analysis_commands.specs.Audit.{Finds, Searches, PutsFinding, TellsAudit, EndsAudit, MakesFinding};
+ghost use Rattle.siman_analysis_commands.specs.Audit.{Finds, Searches, PutsFinding, GivesAudit, EndsAudit, MakesFinding};
 
 use byte_files::put;
 use exercise_audit::{Audit, Block, audit};
 use exercise_check::{Certificate, good_steps_have_no_cause, write_certificate};
 use exercise_conflict::put_blocked;
-use exercise_model::{ExerciseLog, entries_stand, what_explains_holds};
+use exercise_model::{ExerciseLog, entries_have_one_place, what_explains_holds};
 use exercise_recording::{RecordingView, fetch_recording};
 use siman_outside::{
-    Fault, LARGEST_RECORDING, Making, Notes, Outside, Product, end, make_file, put_stuck,
-    settle_and_say,
+    Fault, LARGEST_RECORDING, Making, Notes, Outside, Product, end, flush_and_print, make_file,
+    put_blocked_answer,
 };
 use siman_print::{Spelling, counted};
 use std::alloc::{AllocError, Global};
@@ -27,7 +27,7 @@ use std::io::{Read, Write};
 /// The texts about a sequence that explains a recording: its certificate, and the line of the
 /// answer.
 #[derive(Drop)]
-pub struct OrderTexts {
+pub struct SequenceTexts {
     pub certificate: Vec<u8>,
     pub line: String,
 }
@@ -36,7 +36,7 @@ pub struct OrderTexts {
 #[derive(Drop)]
 pub enum Finding {
     /// Some sequence explains the recording.
-    Order(OrderTexts),
+    Sequence(SequenceTexts),
     /// No sequence does: the blocked list.
     Stuck(String),
 }
@@ -76,7 +76,7 @@ fn audited<R: Read + Drop, F: Write, W: Write>(
 ) -> Result<u8, Fault<'static>>
     ensures { let file : Stream = record { old = F.contents certificate.old; new = F.contents certificate.new } in
         let out : Stream = record { old = W.contents out.old; new = W.contents out.new } in
-        (bytes : List ℕ) × Has (R.remaining recording) bytes × TellsAudit (recording_at LARGEST_RECORDING bytes) result file out }
+        (bytes : List ℕ) × Has (R.remaining recording) bytes × GivesAudit (recording_at LARGEST_RECORDING bytes) result file out }
 {
     match search(alloc, recording, &mut Notes::nothing()) {
         Ok(finding) => put_finding(alloc, &finding, certificate, out),
@@ -125,10 +125,10 @@ fn order<L: ExerciseLog>(
 {
     good_steps_have_no_cause();
     what_explains_holds();
-    entries_stand();
+    entries_have_one_place();
     // There is a step for each entry.
     let steps = log.entry_count();
-    Ok(Finding::Order(OrderTexts {
+    Ok(Finding::Sequence(SequenceTexts {
         certificate: certificate_bytes(alloc, certificate)?,
         line: counted(alloc, "explained", "steps", steps)?,
     }))
@@ -168,13 +168,13 @@ fn put_finding<F: Write, W: Write>(
         PutsFinding finding.now result file out }
 {
     match finding {
-        Finding::Order(order) => order.put(alloc, file, out),
-        Finding::Stuck(text) => put_stuck(text, out),
+        Finding::Sequence(order) => order.put(alloc, file, out),
+        Finding::Stuck(text) => put_blocked_answer(text, out),
     }
 }
 
 /// The file of a certificate.
-impl Making for OrderTexts {
+impl Making for SequenceTexts {
     ghost use Rattle.std.specs.Prelude.{string_bytes};
     ghost use Rattle.siman_outside.specs.Making.{PutsBoth};
 
@@ -189,7 +189,7 @@ impl Making for OrderTexts {
         if put(file, &self.certificate).is_err() {
             return Err(Fault::Output);
         }
-        match settle_and_say(file, &self.line, out) {
+        match flush_and_print(file, &self.line, out) {
             Ok(()) => Ok(0),
             Err(fault) => Err(fault),
         }
@@ -237,7 +237,7 @@ fn make_found<O: Outside, W: Write>(
         (deeds : List Deed) × Adds (O.deeds outside.old) (O.deeds outside.new) deeds × ((holds : List ℕ → Option Found) → All (WasHeld holds) deeds) × MakesFinding finding.now force name.now deeds result out }
 {
     match finding {
-        Finding::Order(order) => make_file(alloc, order, name, force, outside, out),
-        Finding::Stuck(list) => put_stuck(list, out),
+        Finding::Sequence(order) => make_file(alloc, order, name, force, outside, out),
+        Finding::Stuck(list) => put_blocked_answer(list, out),
     }
 }

@@ -3,17 +3,18 @@
 ghost use Rattle.std.specs.Prelude.{◌≡◌};
 ghost use Rattle.siman_analysis_commands.specs.FilterWords.{outsider_of, request_of, fate_of, request_kind_of, other_kind_of, kind_of, name_of, own_filter, filter_by, filter_of};
 
+use byte_files::{number_16, number_32, split_once};
 use dis_records::Kind;
-use exercise_review::{EntryName, Fate, Filter, Outsider};
+use exercise_review::{EntryName, Fate, Filter, SiteApplication};
 use siman_command_line::ViewWord;
-use siman_scripts::{number_16, number_32, split_once, target_of};
+use siman_scripts::target_of;
 
 /// The site and the application that a word `S:A` spells.
-fn outsider_of(word: &[u8]) -> Option<Outsider>
+fn outsider_of(word: &[u8]) -> Option<SiteApplication>
     ensures { result ≡ outsider_of word.now }
 {
     let (site, application) = split_once(word, b':')?;
-    Some(Outsider {
+    Some(SiteApplication {
         site: number_16(site)?,
         application: number_16(application)?,
     })

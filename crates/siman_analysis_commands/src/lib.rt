@@ -17,7 +17,7 @@ mod log;
 mod review;
 mod why;
 
-pub use audit::{Finding, OrderTexts, audit_command};
+pub use audit::{Finding, SequenceTexts, audit_command};
 pub use filter_words::filter_of;
 pub use log::{log_command, log_named};
 pub use review::{review_command, review_named};

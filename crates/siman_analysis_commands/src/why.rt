@@ -8,7 +8,7 @@ ghost use Rattle.exercise_recording.specs.Reading.{recording_at};
 ghost use Rattle.exercise_check.specs.Certificate.{certificate_at};
 ghost use Rattle.exercise_check.specs.Goodness.{IsGood};
 ghost use Rattle.exercise_conflict.specs.Whole.{IsConflictOf, IsRefusalOf};
-ghost use Rattle.exercise_findings.specs.Account.{TellsAccount};
+ghost use Rattle.exercise_findings.specs.Account.{IsAccount};
 ghost use Rattle.siman_outside.specs.declared.limits.TheConstants.{LARGEST_CERTIFICATE, LARGEST_RECORDING};
 ghost use Rattle.siman_outside.specs.Outside.{Has, Stream, Deed, Adds, WasHeld};
 ghost use Rattle.siman_analysis_commands.specs.Why.{SaysWhy, Whys, SaysWhyNot, WhysNot, PutsWhy, WhyOfFile, WhyOfFiles, EndsWhy, WhyNamed};
@@ -16,7 +16,7 @@ ghost use Rattle.siman_analysis_commands.specs.Why.{SaysWhy, Whys, SaysWhyNot, W
 use byte_files::put;
 use exercise_check::{Certificate, fetch_certificate};
 use exercise_conflict::{
-    Conflict, Explaining, Explanation, Judged, Refusal, conflict_entries, conflict_found,
+    Conflict, ConflictFindings, ConflictSearch, Judged, Refusal, conflict_entries, conflict_found,
     put_conflict, put_explained, put_refusal, put_yes, refusal_entries, refusal_found,
 };
 use exercise_findings::{Account, Findings};
@@ -235,13 +235,15 @@ fn why_log<L: ExerciseLog>(
     ensures { IfOk result (λ told. SaysWhy spelling (Ok (L.recording log.now)) (string_bytes told.text) told.status) }
 {
     let found = Findings::of(alloc, log)?;
-    let Explaining {
+    let ConflictFindings {
         explanation,
         findings,
     } = conflict_found(alloc, found)?;
     match explanation {
-        Explanation::Explained(certificate) => explained(alloc, log, spelling, &certificate),
-        Explanation::Contradicted(conflict) => contradicted(alloc, findings, spelling, &conflict),
+        ConflictSearch::Explained(certificate) => explained(alloc, log, spelling, &certificate),
+        ConflictSearch::Contradicted(conflict) => contradicted(
+            alloc, findings, spelling, &conflict,
+        ),
     }
 }
 
@@ -341,7 +343,7 @@ fn good<L: ExerciseLog>(
     account: &Account,
 ) -> Result<WhyText, AllocError>
     requires good { IsGood (L.recording log.now) certificate.now.steps.items }
-    requires tells { TellsAccount (L.recording log.now) account.now }
+    requires tells { IsAccount (L.recording log.now) account.now }
     ensures { IfOk result (λ told. SaysWhyNot spelling (Ok (L.recording log.now)) (Ok certificate.now.steps.items) (string_bytes told.text) told.status) }
 {
     let mut text = String::new(alloc);

@@ -13,7 +13,7 @@ use Rattle.exercise_model.specs.declared.acknowledge.AcknowledgeKey.{Acknowledge
 use Rattle.exercise_model.specs.History.{History, Send, Get, Tell}
 use Rattle.exercise_model.specs.Meaning.{meaning}
 use Rattle.exercise_model.specs.Change.{key_of, responds_under, response_of, same_key, was_acknowledged}
-use Rattle.siman_application.specs.Outfit.{Outfit}
+use Rattle.siman_application.specs.AppProfile.{AppProfile}
 use Rattle.siman_application.specs.Distinct.{Placed, is_for, is_under_key, first_under, distinct}
 use Rattle.siman_application.specs.Answer.{Knowledge, answer}
 use Rattle.siman_application.specs.Play.{known, reply}
@@ -30,11 +30,11 @@ use Rattle.siman_application.proofs.Turns.{same_key_of, first_same, first_more, 
 pub text_of : (o : Option Pdu) (p : Pdu) → o ≡ Some p → IsReplyText o → IsReplyText (Some p)
 text_of o p e text = subst IsReplyText e text
 
-pub goes : (a : Outfit) (k : Knowledge) (d : Pdu) (stamp : ℕ) → is_for a d ≡ true → GoesTo d (answer a k d stamp)
+pub goes : (a : AppProfile) (k : Knowledge) (d : Pdu) (stamp : ℕ) → is_for a d ≡ true → GoesTo d (answer a k d stamp)
 goes a k d stamp own = let is = is_answer a k d stamp own in record { target = is.target; id = is.id }
 
 -- an answer with another timestamp responds alike
-pub responds_stamped : (a : Outfit) (f : Placed) (stamp n : ℕ) (k : AcknowledgeKey) → is_for a f.request ≡ true
+pub responds_stamped : (a : AppProfile) (f : Placed) (stamp n : ℕ) (k : AcknowledgeKey) → is_for a f.request ≡ true
     → responds_under n k (answer_at a f stamp) ≡ responds_under n k (answer_at a f 0)
 responds_stamped a f stamp n k own =
     ap (responds_under n k) (answer_stamped a (known a f.before) f.request stamp 0 (for_parts a f.request own).request)
@@ -83,7 +83,7 @@ unfolding first_under
 none_under r = refl
 
 -- what was acknowledged of the first of the distinct requests under the key of r
-abbrev pub acked_as : Outfit → ℕ → AcknowledgeKey → Option Placed → Bool
+abbrev pub acked_as : AppProfile → ℕ → AcknowledgeKey → Option Placed → Bool
 acked_as a n k o = option_map_or (λ f. responds_under n k (answer_at a f 0)) o false
 
 pub or_same : (b : Bool) → (b || b) ≡ b
@@ -91,7 +91,7 @@ or_same true = refl
 or_same false = refl
 
 -- the reply to a request whose key is known
-pub acks_same : (a : Outfit) (r p q : Pdu) (ds : List Pdu) (n stamp : ℕ) (k : AcknowledgeKey) (f : Placed) → GoesTo r p → IsKeyOf k p
+pub acks_same : (a : AppProfile) (r p q : Pdu) (ds : List Pdu) (n stamp : ℕ) (k : AcknowledgeKey) (f : Placed) → GoesTo r p → IsKeyOf k p
     → is_for a f.request ≡ true → first_under q ds ≡ Some f
     → (b : Bool) → is_under_key r f.request ≡ b
     → (responds_under n k (answer_at a f stamp) || acked_as a n k (first_under r ds)) ≡ acked_as a n k (first_under r ds)
@@ -106,7 +106,7 @@ acks_same a r p q ds n stamp k f to key own first true u =
     (ap (acked_as a n k) found)
 
 -- the reply to one that is the first under its key
-pub acks_fresh : (a : Outfit) (r p q : Pdu) (ds : List Pdu) (n stamp : ℕ) (k : AcknowledgeKey) → GoesTo r p → IsKeyOf k p → is_for a q ≡ true
+pub acks_fresh : (a : AppProfile) (r p q : Pdu) (ds : List Pdu) (n stamp : ℕ) (k : AcknowledgeKey) → GoesTo r p → IsKeyOf k p → is_for a q ≡ true
     → first_under q ds ≡ None
     → (b : Bool) → is_under_key r q ≡ b
     → (responds_under n k (answer a (known a ds) q stamp) || acked_as a n k (first_under r ds)) ≡ acked_as a n k
@@ -128,7 +128,7 @@ acks_fresh a r p q ds n stamp k to key own none true u =
       or_none true = refl
       or_none false = refl
 
-pub acks_taken : (a : Outfit) (r p q : Pdu) (s stamp n : ℕ) (k : AcknowledgeKey) (b : List ℕ) (qs : List Pdu) (log : History) → GoesTo r p
+pub acks_taken : (a : AppProfile) (r p q : Pdu) (s stamp n : ℕ) (k : AcknowledgeKey) (b : List ℕ) (qs : List Pdu) (log : History) → GoesTo r p
     → IsKeyOf k p → IsReplyText (reply a qs q stamp) → Course a (distinct a qs) q stamp
     → was_acknowledged a.exercise n k log ≡ acked_as a n k (first_under r (distinct a qs))
     → was_acknowledged a.exercise n k (sent_after s (reply a qs q stamp) (Get s b ∷ log)) ≡ acked_as a n k (first_under r (distinct a (q ∷ qs)))
@@ -155,7 +155,7 @@ acks_taken a r p q s stamp n k b qs log to key text (Fresh own none reply_is sam
     ∙ sym (ap (acked_as a n k) (ap (first_under r) same ∙ first_more r q (distinct a qs)))
 
 -- WHICH ACKNOWLEDGES a log of turns sends under the key of an answer to r: those of the first of the distinct requests under the key of r
-pub acks_turns : (a : Outfit) (s : ℕ) (ts : List OwnTurn) → AreMeant a true ts → (r p : Pdu) → GoesTo r p → (n : ℕ) (k : AcknowledgeKey) → IsKeyOf k p
+pub acks_turns : (a : AppProfile) (s : ℕ) (ts : List OwnTurn) → AreMeant a true ts → (r p : Pdu) → GoesTo r p → (n : ℕ) (k : AcknowledgeKey) → IsKeyOf k p
     → was_acknowledged a.exercise n k (log_in a s ts) ≡ acked_as a n k (first_under r (distinct a (taken_in ts)))
 acks_turns a s [] are r p to n k key = ack_start a.exercise n k ∙ sym (ap (acked_as a n k) (none_under r))
 acks_turns a s (Tells e y ∷ ts) are r p to n k key = ack_tell a.exercise n k s e y (log_in a s ts) ∙ acks_turns a s ts are r p to n k key

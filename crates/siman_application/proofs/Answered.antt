@@ -24,9 +24,9 @@ use Rattle.exercise_model.specs.Station.{is_entity, is_absent}
 use Rattle.exercise_model.specs.Place.{first_below}
 use Rattle.exercise_model.specs.Change.{able, unable, responds}
 use Rattle.exercise_model.specs.Cause.{is_hopeless}
-use Rattle.siman_application.specs.Outfit.{Outfit}
+use Rattle.siman_application.specs.AppProfile.{AppProfile}
 use Rattle.siman_application.specs.Distinct.{is_for}
-use Rattle.siman_application.specs.Answer.{Knowledge, has_place, is_free, chosen, is_meant, own_number, answer_pdu, plain_answer, created, obeyed, data_answer, held_records, told_of, ids_of, answer_by, answer, with_stamp}
+use Rattle.siman_application.specs.Answer.{Knowledge, has_place, is_free, chosen, is_meant, own_number, answer_pdu, plain_answer, created, obeyed, data_answer, held_records, result_of, ids_of, answer_by, answer, with_stamp}
 use Rattle.exercise_model.specs.State.{change_of}
 use Rattle.siman_application.specs.Listed.{IsPossible}
 use Rattle.siman_application.proofs.DataThatFits.{cut_is}
@@ -43,12 +43,12 @@ or_right true b e = refl
 or_right false b e = e
 
 -- what a request that is for the station says of itself
-pub record IsFor (a : Outfit) (q : Pdu) : Type 0 where
+pub record IsFor (a : AppProfile) (q : Pdu) : Type 0 where
   pub exercise : (q.exercise == a.exercise) ≡ true
   pub request : is_request_body q.body ≡ true
   pub addressed : is_addressed q.target a.station.address ≡ true
 
-pub for_parts : (a : Outfit) (q : Pdu) → is_for a q ≡ true → IsFor a q
+pub for_parts : (a : AppProfile) (q : Pdu) → is_for a q ≡ true → IsFor a q
 for_parts a q e =
     let p = and_parts (q.exercise == a.exercise) (is_request_body q.body && is_addressed q.target a.station.address) e in
     let r = and_parts (is_request_body q.body) (is_addressed q.target a.station.address) p.1 in
@@ -139,7 +139,7 @@ is_chosen y n m e = chosen_by y n m (has_place y) refl (n == ANY_NUMBER) refl e
 
 -- It answers the request.
 
-pub answers_it : (a : Outfit) (q : Pdu) (stamp m : ℕ) (body : Body) → IsFor a q → matches_kind body (body_kind q.body) ≡ true
+pub answers_it : (a : AppProfile) (q : Pdu) (stamp m : ℕ) (body : Body) → IsFor a q → matches_kind body (body_kind q.body) ≡ true
     → same_id (request_id_of body) (request_id_of q.body) ≡ true
     → are_fitting (body_kind q.body) q.target.entity m ≡ true → is_answer_to (answer_pdu a q stamp m body) q ≡ true
 answers_it a q stamp m body own kind id fits =
@@ -179,7 +179,7 @@ meant_possible kind y n create e = meant_by kind y n create (is_open kind n) ref
 -- The answer.
 
 -- what holds of an answer, given what is known
-pub record IsAnswer (a : Outfit) (y : ℕ → EntityState) (q p : Pdu) : Type 0 where
+pub record IsAnswer (a : AppProfile) (y : ℕ → EntityState) (q p : Pdu) : Type 0 where
   pub answers : is_answer_to p q ≡ true
   pub able_can : responds able p ≡ true → IsPossible (change_of p q) y
   pub target : p.target ≡ q.origin
@@ -194,7 +194,7 @@ record Asks (q : Pdu) (kind : Kind) (request : ℕ) : Type 0 where
   kind_is : body_kind q.body ≡ kind
   id_is : request_id_of q.body ≡ Some request
 
-answer_is : (a : Outfit) (y : ℕ → EntityState) (q : Pdu) (stamp m : ℕ) (body : Body) (kind : Kind) (request : ℕ) → IsFor a q → Asks q kind request
+answer_is : (a : AppProfile) (y : ℕ → EntityState) (q : Pdu) (stamp m : ℕ) (body : Body) (kind : Kind) (request : ℕ) → IsFor a q → Asks q kind request
     → matches_kind body kind ≡ true → request_id_of body ≡ Some request → are_fitting kind q.target.entity m ≡ true
     → (responds able (answer_pdu a q stamp m body) ≡ true → IsPossible (change_of (answer_pdu a q stamp m body) q) y)
     → IsAnswer a y q (answer_pdu a q stamp m body)
@@ -212,7 +212,7 @@ answer_is a y q stamp m body kind request own asks matches id fits can = record 
   same = ap (λ (o : Option ℕ). same_id o (request_id_of q.body)) id ∙ ap (same_id (Some request)) asks.id_is ∙ equal_self request
 
 -- the answer from the number of the request
-plain_is : (a : Outfit) (y : ℕ → EntityState) (q : Pdu) (stamp : ℕ) (body : Body) (kind : Kind) (request : ℕ) → IsFor a q → Asks q kind request
+plain_is : (a : AppProfile) (y : ℕ → EntityState) (q : Pdu) (stamp : ℕ) (body : Body) (kind : Kind) (request : ℕ) → IsFor a q → Asks q kind request
     → matches_kind body kind ≡ true → request_id_of body ≡ Some request
     → (responds able (plain_answer a q stamp body) ≡ true → IsPossible (change_of (plain_answer a q stamp body) q) y)
     → IsAnswer a y q (plain_answer a q stamp body)
@@ -220,7 +220,7 @@ plain_is a y q stamp body kind request own asks matches id can =
     answer_is a y q stamp (own_number (body_kind q.body) q.target.entity) body kind request own asks matches id
     (ap (λ (k : Kind). are_fitting kind q.target.entity (own_number k q.target.entity)) asks.kind_is ∙ own_fits kind q.target.entity) can
 
-created_is : (a : Outfit) (y : ℕ → EntityState) (q : Pdu) (stamp request : ℕ) → IsFor a q → Asks q kinds.CreateEntity request
+created_is : (a : AppProfile) (y : ℕ → EntityState) (q : Pdu) (stamp request : ℕ) → IsFor a q → Asks q kinds.CreateEntity request
     → (o : Option ℕ) → chosen y q.target.entity ≡ o → IsAnswer a y q (created a q stamp request o)
 created_is a y q stamp request own asks None e =
     plain_is a y q stamp (Acknowledge 1 unable request) kinds.CreateEntity request own asks refl refl (λ r. absurd cc)
@@ -233,7 +233,7 @@ created_is a y q stamp request own asks (Some m) e =
       place = λ c. is.place;
     })
 
-obeyed_by : (a : Outfit) (y : ℕ → EntityState) (q : Pdu) (stamp flag request : ℕ) (kind : Kind) → IsFor a q → Asks q kind request
+obeyed_by : (a : AppProfile) (y : ℕ → EntityState) (q : Pdu) (stamp flag request : ℕ) (kind : Kind) → IsFor a q → Asks q kind request
     → is_create kind ≡ false → matches_kind (Acknowledge flag unable request) kind ≡ true
     → (b : Bool) → is_meant (body_kind q.body) y q.target.entity ≡ b
     → IsAnswer a y q (plain_answer a q stamp (Acknowledge flag (if b then able else unable) request))
@@ -246,7 +246,7 @@ obeyed_by a y q stamp flag request kind own asks create matches true e =
       place = λ c. let clash : is_create (body_kind q.body) ≡ false = ap is_create asks.kind_is ∙ create in absurd cc;
     })
 
-obeyed_is : (a : Outfit) (y : ℕ → EntityState) (q : Pdu) (stamp flag request : ℕ) (kind : Kind) → IsFor a q → Asks q kind request
+obeyed_is : (a : AppProfile) (y : ℕ → EntityState) (q : Pdu) (stamp flag request : ℕ) (kind : Kind) → IsFor a q → Asks q kind request
     → is_create kind ≡ false → matches_kind (Acknowledge flag unable request) kind ≡ true
     → IsAnswer a y q (obeyed a y q stamp flag request)
 obeyed_is a y q stamp flag request kind own asks create matches =
@@ -255,7 +255,7 @@ obeyed_is a y q stamp flag request kind own asks create matches =
 asks : (q : Pdu) (body : Body) (request : ℕ) → q.body ≡ body → request_id_of body ≡ Some request → Asks q (body_kind body) request
 asks q body request e id = record { kind_is = ap body_kind e; id_is = ap request_id_of e ∙ id }
 
-answer_by_is : (a : Outfit) (k : Knowledge) (q : Pdu) (stamp : ℕ) (body : Body) → q.body ≡ body → is_request_body body ≡ true → IsFor a q
+answer_by_is : (a : AppProfile) (k : Knowledge) (q : Pdu) (stamp : ℕ) (body : Body) → q.body ≡ body → is_request_body body ≡ true → IsFor a q
     → IsAnswer a k.states q (answer_by a k q stamp body)
 answer_by_is a k q stamp (CreateEntity request) e r own =
     created_is a k.states q stamp request own (asks q (CreateEntity request) request e refl) (chosen k.states q.target.entity) refl
@@ -279,19 +279,19 @@ answer_by_is a k q stamp (DataPdu request datums) e r own = absurd cc
 answer_by_is a k q stamp (EventReport event datums) e r own = absurd cc
 answer_by_is a k q stamp (Comment datums) e r own = absurd cc
 
-pub is_answer : (a : Outfit) (k : Knowledge) (q : Pdu) (stamp : ℕ) → is_for a q ≡ true → IsAnswer a k.states q (answer a k q stamp)
+pub is_answer : (a : AppProfile) (k : Knowledge) (q : Pdu) (stamp : ℕ) → is_for a q ≡ true → IsAnswer a k.states q (answer a k q stamp)
 is_answer a k q stamp own = let parts = for_parts a q own in answer_by_is a k q stamp q.body refl parts.request parts
 
 -- The timestamp.
 
-created_stamped : (a : Outfit) (q : Pdu) (s t request : ℕ) (o : Option ℕ) → with_stamp t (created a q s request o) ≡ created a q t request o
+created_stamped : (a : AppProfile) (q : Pdu) (s t request : ℕ) (o : Option ℕ) → with_stamp t (created a q s request o) ≡ created a q t request o
 created_stamped a q s t request None = refl
 created_stamped a q s t request (Some m) = refl
 
-data_stamped : (a : Outfit) (q : Pdu) (s t request : ℕ) (d : DatumLists) → with_stamp t (data_answer a q s request d) ≡ data_answer a q t request d
+data_stamped : (a : AppProfile) (q : Pdu) (s t request : ℕ) (d : DatumLists) → with_stamp t (data_answer a q s request d) ≡ data_answer a q t request d
 data_stamped a q s t request d = ap (with_stamp t) (cut_is a q s request d) ∙ sym (cut_is a q t request d)
 
-stamped_by : (a : Outfit) (k : Knowledge) (q : Pdu) (s t : ℕ) (body : Body) → is_request_body body ≡ true
+stamped_by : (a : AppProfile) (k : Knowledge) (q : Pdu) (s t : ℕ) (body : Body) → is_request_body body ≡ true
     → with_stamp t (answer_by a k q s body) ≡ answer_by a k q t body
 stamped_by a k q s t (CreateEntity request) r = created_stamped a q s t request (chosen k.states q.target.entity)
 stamped_by a k q s t (RemoveEntity request) r = refl
@@ -301,15 +301,15 @@ stamped_by a k q s t (Acknowledge flag response request) r = absurd (outside fla
 stamped_by a k q s t (ActionRequest request action datums) r = refl
 stamped_by a k q s t (ActionResponse request status datums) r = absurd cc
 stamped_by a k q s t (DataQuery request interval ids) r = data_stamped a q s t request (held_records k ids)
-stamped_by a k q s t (SetData request datums) r = data_stamped a q s t request (held_records (told_of datums k) (ids_of datums))
+stamped_by a k q s t (SetData request datums) r = data_stamped a q s t request (held_records (result_of datums k) (ids_of datums))
 stamped_by a k q s t (DataPdu request datums) r = absurd cc
 stamped_by a k q s t (EventReport event datums) r = absurd cc
 stamped_by a k q s t (Comment datums) r = absurd cc
 
 -- an answer with another timestamp is the answer with that timestamp
-pub answer_stamped : (a : Outfit) (k : Knowledge) (q : Pdu) (s t : ℕ) → is_request_body q.body ≡ true → with_stamp t (answer a k q s) ≡ answer a k q t
+pub answer_stamped : (a : AppProfile) (k : Knowledge) (q : Pdu) (s t : ℕ) → is_request_body q.body ≡ true → with_stamp t (answer a k q s) ≡ answer a k q t
 answer_stamped a k q s t r = stamped_by a k q s t q.body r
 
 -- an answer has the timestamp that it is given
-pub stamp_of : (a : Outfit) (k : Knowledge) (q : Pdu) (stamp : ℕ) → is_request_body q.body ≡ true → (answer a k q stamp).stamp ≡ stamp
+pub stamp_of : (a : AppProfile) (k : Knowledge) (q : Pdu) (stamp : ℕ) → is_request_body q.body ≡ true → (answer a k q stamp).stamp ≡ stamp
 stamp_of a k q stamp r = ap (λ (p : Pdu). p.stamp) (sym (answer_stamped a k q stamp stamp r))

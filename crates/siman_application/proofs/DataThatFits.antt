@@ -11,7 +11,7 @@ use Rattle.dis_records.specs.Layout.{Field, size, bytes_for}
 use Rattle.siman_pdus.specs.declared.pdu.Pdu.{Pdu}
 use Rattle.siman_pdus.specs.DatumLists.{DatumLists}
 use Rattle.siman_pdus.specs.Spelling.{pdu_size}
-use Rattle.siman_application.specs.Outfit.{Outfit}
+use Rattle.siman_application.specs.AppProfile.{AppProfile}
 use Rattle.siman_application.specs.Answer.{largest, first_records, record_count, data_pdu, data_answer}
 use Rattle.siman_application.specs.Records.{fitting, cut_records}
 
@@ -47,7 +47,7 @@ size_variable : (ds : List Datum) → size (variable_layouts ds) ≡ records_siz
 size_variable [] = refl
 size_variable (d ∷ ds) = let room : 8 + bytes_for d.bits ≤ padded d.bits = omega arith in omega (arith, size_variable ds, room)
 
-pub data_size : (a : Outfit) (q : Pdu) (stamp request : ℕ) (d : DatumLists)
+pub data_size : (a : AppProfile) (q : Pdu) (stamp request : ℕ) (d : DatumLists)
     → pdu_size (data_pdu a q stamp request d) ≡ 40 + 8 * length d.fixed + records_size d.variable
 data_size a q stamp request d = omega (arith, size_fixed_then d.fixed (variable_layouts d.variable), size_variable d.variable)
 
@@ -153,7 +153,7 @@ filled_full d many =
       past j lt true t = let low : j ≤ length d.fixed = grind (arith, nat_tests) in omega (arith, length-take j d.fixed low)
       past j lt false t = let high : length d.fixed < j = grind (arith, nat_tests) in omega (arith, ap length (take_all j d.fixed (omega arith)))
 
-cut_by : (a : Outfit) (q : Pdu) (stamp request : ℕ) (d : DatumLists) (k : ℕ) → Filled d k
+cut_by : (a : AppProfile) (q : Pdu) (stamp request : ℕ) (d : DatumLists) (k : ℕ) → Filled d k
     → data_answer a q stamp request d ≡ data_pdu a q stamp request (cut_records d)
 cut_by a q stamp request d k f =
     ap (λ (n : ℕ). data_pdu a q stamp request (first_records n d))
@@ -164,7 +164,7 @@ cut_by a q stamp request d k f =
     (omega (arith, data_size a q stamp request (first_records j d), f.most j lt high))))
     ∙ ap (data_pdu a q stamp request) f.same
 
-pub cut_is : (a : Outfit) (q : Pdu) (stamp request : ℕ) (d : DatumLists)
+pub cut_is : (a : AppProfile) (q : Pdu) (stamp request : ℕ) (d : DatumLists)
     → data_answer a q stamp request d ≡ data_pdu a q stamp request (cut_records d)
 cut_is a q stamp request d = by (nat_le (length d.fixed) 1019) refl where
   by : (b : Bool) → nat_le (length d.fixed) 1019 ≡ b → data_answer a q stamp request d ≡ data_pdu a q stamp request (cut_records d)

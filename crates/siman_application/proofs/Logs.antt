@@ -6,11 +6,11 @@ use Rattle.siman_pdus.specs.Reading.{reading}
 use Rattle.exercise_model.specs.History.{History, Get}
 use Rattle.exercise_model.specs.Meaning.{meant, meaning}
 use Rattle.exercise_model.specs.State.{state_after}
-use Rattle.siman_application.specs.Outfit.{Outfit}
+use Rattle.siman_application.specs.AppProfile.{AppProfile}
 use Rattle.siman_application.specs.Distinct.{is_for, first_under, with_request, distinct}
 use Rattle.siman_application.specs.Play.{state_over, reply, reply_after}
 use Rattle.siman_application.specs.Application.{ApplicationData, Takes, came}
-use Rattle.siman_application.specs.OwnLog.{OwnTurn, Tells, Orders, Passes, Takes as takes, Loses, taken_in, sent_after, log_in, is_due, IsOwnLog, MissNone, TakesAll, HasGet, AreOneOrder, IsClear, AnswersStand}
+use Rattle.siman_application.specs.OwnLog.{OwnTurn, Tells, Orders, Passes, Takes as takes, Loses, taken_in, sent_after, log_in, is_due, IsOwnLog, MissNone, TakesAll, HasGet, AreOneOrder, IsClear, AnswersHaveNoCause}
 use Rattle.siman_application.proofs.Answered.{for_parts}
 use Rattle.siman_application.proofs.Meanings.{taken_means}
 use Rattle.siman_application.proofs.Meant.{AreMeant, meant_turns}
@@ -24,7 +24,7 @@ unread : (x : ℕ) (b : List ℕ) → reading b ≡ None → meaning x b ≡ Non
 unfolding meaning
 unread x b e = ap (option_and_then (meant x)) e
 
-all_alike : (a : Outfit) (q : Pdu) (ts : List OwnTurn) → TakesAll ts → PassedAlike a q ts
+all_alike : (a : AppProfile) (q : Pdu) (ts : List OwnTurn) → TakesAll ts → PassedAlike a q ts
 all_alike a q [] all = tt
 all_alike a q (Tells e y ∷ ts) all = all_alike a q ts all
 all_alike a q (Orders b o ∷ ts) all = all_alike a q ts all
@@ -33,7 +33,7 @@ all_alike a q (Passes b ∷ ts) all =
 all_alike a q (takes b p stamp ∷ ts) all = all_alike a q ts all
 all_alike a q (Loses b p stamp ∷ ts) all = all_alike a q ts all
 
-all_settled : (a : Outfit) (ts : List OwnTurn) → TakesAll ts → AreSettled a ts
+all_settled : (a : AppProfile) (ts : List OwnTurn) → TakesAll ts → AreSettled a ts
 all_settled a [] all = tt
 all_settled a (Tells e y ∷ ts) all = all_settled a ts all
 all_settled a (Orders b o ∷ ts) all = all_settled a ts all
@@ -45,7 +45,7 @@ get_sent : (s : ℕ) (o : Option Pdu) (log : History) (c : List ℕ) → HasGet 
 get_sent s None log c h = h
 get_sent s (Some p) log c h = h
 
-one_alike : (a : Outfit) (s : ℕ) (h : History) → AreOneOrder a h → (b : List ℕ) (q : Pdu) → HasGet h b → meaning a.exercise b ≡ Some q
+one_alike : (a : AppProfile) (s : ℕ) (h : History) → AreOneOrder a h → (b : List ℕ) (q : Pdu) → HasGet h b → meaning a.exercise b ≡ Some q
     → is_for a q ≡ true
     → (ts : List OwnTurn) → ((c : List ℕ) → HasGet (log_in a s ts) c → HasGet h c) → PassedAlike a q ts
 one_alike a s h one b q got m own [] within = tt
@@ -60,7 +60,7 @@ one_alike a s h one b q got m own (takes c p stamp ∷ ts) within =
     one_alike a s h one b q got m own ts (λ d g. within d (get_sent s (reply a (taken_in ts) p stamp) (Get s c ∷ log_in a s ts) d (inr g)))
 one_alike a s h one b q got m own (Loses c p stamp ∷ ts) within = one_alike a s h one b q got m own ts (λ d g. within d (inr g))
 
-one_settled : (a : Outfit) (s : ℕ) (h : History) → AreOneOrder a h → (later : Bool) (ts : List OwnTurn) → AreMeant a later ts
+one_settled : (a : AppProfile) (s : ℕ) (h : History) → AreOneOrder a h → (later : Bool) (ts : List OwnTurn) → AreMeant a later ts
     → ((c : List ℕ) → HasGet (log_in a s ts) c → HasGet h c) → AreSettled a ts
 one_settled a s h one later [] are within = tt
 one_settled a s h one later (Tells e y ∷ ts) are within = one_settled a s h one later ts are within
@@ -76,18 +76,18 @@ one_settled a s h one later (Loses b q stamp ∷ ts) are within = (
   one_settled a s h one true ts are.2 (λ d g. within d (inr g)),
 )
 
-settled : (a : Outfit) (s : ℕ) (ts : List OwnTurn) (h : History) → log_in a s ts ≡ h → AreMeant a false ts → IsClear a ts h → AreSettled a ts
+settled : (a : AppProfile) (s : ℕ) (ts : List OwnTurn) (h : History) → log_in a s ts ≡ h → AreMeant a false ts → IsClear a ts h → AreSettled a ts
 settled a s ts h e are (inl all) = all_settled a ts all
 settled a s ts h e are (inr one) = one_settled a s h one false ts are (λ c g. subst (λ (log : History). HasGet log c) e g)
 
 -- The laws.
 
-pub answers_stand : (a : Outfit) (s : ℕ) (ts : List OwnTurn) (h : History) (qs : List Pdu) → IsOwnLog a s ts h qs → IsClear a ts h → AnswersStand a h
+pub answers_stand : (a : AppProfile) (s : ℕ) (ts : List OwnTurn) (h : History) (qs : List Pdu) → IsOwnLog a s ts h qs → IsClear a ts h → AnswersHaveNoCause a h
 answers_stand a s ts h qs own clear =
     let are = meant_turns a own.outfit false ts own.turns in
-    subst (AnswersStand a) own.log_is (stands_turns a own.outfit s false ts are (settled a s ts h own.log_is are clear))
+    subst (AnswersHaveNoCause a) own.log_is (stands_turns a own.outfit s false ts are (settled a s ts h own.log_is are clear))
 
-miss_none : (a : Outfit) (later : Bool) (ts : List OwnTurn) → MissNone ts → AreMeant a later ts → AreMeant a true ts
+miss_none : (a : AppProfile) (later : Bool) (ts : List OwnTurn) → MissNone ts → AreMeant a later ts → AreMeant a true ts
 miss_none a later [] none are = tt
 miss_none a later (Tells e y ∷ ts) none are = miss_none a later ts none are
 miss_none a later (Orders b o ∷ ts) none are = (are.0, miss_none a later ts none are.1)
@@ -95,7 +95,7 @@ miss_none a later (Passes b ∷ ts) none are = miss_none a later ts none are
 miss_none a later (takes b q stamp ∷ ts) none are = (are.0, are.1, miss_none a (later || is_due a ts q stamp) ts none are.2)
 miss_none a later (Loses b q stamp ∷ ts) none are = absurd none
 
-pub states_stand : (a : Outfit) (s : ℕ) (ts : List OwnTurn) (h : History) (qs : List Pdu) → IsOwnLog a s ts h qs → IsClear a ts h → MissNone ts → (e : ℕ)
+pub states_stand : (a : AppProfile) (s : ℕ) (ts : List OwnTurn) (h : History) (qs : List Pdu) → IsOwnLog a s ts h qs → IsClear a ts h → MissNone ts → (e : ℕ)
     → state_after a.exercise a.station h e ≡ state_over a (distinct a qs) e
 states_stand a s ts h qs own clear none e =
     let are = meant_turns a own.outfit false ts own.turns in
@@ -105,18 +105,18 @@ states_stand a s ts h qs own clear none e =
 
 -- Requests that come again.
 
-pub again_same : (a : Outfit) (q : Pdu) (newer older : List Pdu) → (is_for a q && is_none (first_under q (distinct a older))) ≡ false
+pub again_same : (a : AppProfile) (q : Pdu) (newer older : List Pdu) → (is_for a q && is_none (first_under q (distinct a older))) ≡ false
     → distinct a (newer ++ q ∷ older) ≡ distinct a (newer ++ older)
 again_same a q [] older e = ap (λ (b : Bool). if b then q ∷ distinct a older else distinct a older) e
 again_same a q (r ∷ newer) older e = ap (λ (ds : List Pdu). with_request a ds r) (again_same a q newer older e)
 
-once_by : (a : Outfit) (q : Pdu) (ds : List Pdu) → distinct a ds ≡ ds → Course a ds q 0 → distinct a (with_request a ds q) ≡ with_request a ds q
+once_by : (a : AppProfile) (q : Pdu) (ds : List Pdu) → distinct a ds ≡ ds → Course a ds q 0 → distinct a (with_request a ds q) ≡ with_request a ds q
 once_by a q ds rest (Foreign reply_is same out) = ap (distinct a) same ∙ rest ∙ sym same
 once_by a q ds rest (Same f own first reply_is same) = ap (distinct a) same ∙ rest ∙ sym same
 once_by a q ds rest (Other f own first reply_is same) = ap (distinct a) same ∙ rest ∙ sym same
 once_by a q ds rest (Fresh own none reply_is same) = ap (distinct a) same ∙ ap (λ (xs : List Pdu). with_request a xs q) rest
 
-pub once_same : (a : Outfit) (qs : List Pdu) → distinct a (distinct a qs) ≡ distinct a qs
+pub once_same : (a : AppProfile) (qs : List Pdu) → distinct a (distinct a qs) ≡ distinct a qs
 once_same a [] = refl
 once_same a (q ∷ qs) = once_by a q (distinct a qs) (once_same a qs) (course a (distinct a qs) q 0)
 
@@ -125,7 +125,7 @@ once_same a (q ∷ qs) = once_by a q (distinct a qs) (once_same a qs) (course a 
 pub steps_on : (old new : ApplicationData) (qs : List Pdu) (q : Pdu) → Takes old q new → came old ≡ distinct old.outfit qs
     → came new ≡ distinct new.outfit (q ∷ qs)
 steps_on old new qs q step e =
-    step.came_is ∙ ap (λ (ds : List Pdu). with_request old.outfit ds q) e ∙ ap (λ (a : Outfit). with_request a (distinct a qs) q) (sym step.outfit)
+    step.came_is ∙ ap (λ (ds : List Pdu). with_request old.outfit ds q) e ∙ ap (λ (a : AppProfile). with_request a (distinct a qs) q) (sym step.outfit)
 
 pub replies_on : (s : ApplicationData) (qs : List Pdu) (q : Pdu) (stamp : ℕ) → came s ≡ distinct s.outfit qs
     → reply_after s.outfit (came s) q stamp ≡ reply s.outfit qs q stamp

@@ -10,7 +10,7 @@ use Rattle.siman_pdus.specs.Reading.{reading}
 use Rattle.siman_pdus.specs.Role.{role_of, is_request_role, is_request_body}
 use Rattle.siman_pdus.specs.Spelling.{pdu_text}
 use Rattle.exercise_model.specs.Meaning.{is_outside, meant, meaning}
-use Rattle.siman_application.specs.Outfit.{Outfit}
+use Rattle.siman_application.specs.AppProfile.{AppProfile}
 use Rattle.siman_application.specs.Distinct.{is_for}
 use Rattle.siman_application.specs.Answer.{Knowledge, chosen, created, answer_by, answer}
 use Rattle.siman_application.proofs.Answered.{for_parts, is_answer, equal_self, outside}
@@ -35,14 +35,14 @@ pub request_means : (x : ℕ) (b : List ℕ) (q : Pdu) → reading b ≡ Some q 
 request_means x b q e exercise request = read_means x b q e exercise (request_role (role_of q.body) request)
 
 -- what is read as a PDU for the station means it
-pub taken_means : (a : Outfit) (b : List ℕ) (q : Pdu) → reading b ≡ Some q → is_for a q ≡ true → meaning a.exercise b ≡ Some q
+pub taken_means : (a : AppProfile) (b : List ℕ) (q : Pdu) → reading b ≡ Some q → is_for a q ≡ true → meaning a.exercise b ≡ Some q
 taken_means a b q e own = let parts = for_parts a q own in request_means a.exercise b q e parts.exercise parts.request
 
-created_inside : (a : Outfit) (q : Pdu) (stamp request : ℕ) (o : Option ℕ) → is_outside (role_of (created a q stamp request o).body) ≡ false
+created_inside : (a : AppProfile) (q : Pdu) (stamp request : ℕ) (o : Option ℕ) → is_outside (role_of (created a q stamp request o).body) ≡ false
 created_inside a q stamp request None = refl
 created_inside a q stamp request (Some m) = refl
 
-answer_inside : (a : Outfit) (k : Knowledge) (q : Pdu) (stamp : ℕ) (body : Body) → is_request_body body ≡ true
+answer_inside : (a : AppProfile) (k : Knowledge) (q : Pdu) (stamp : ℕ) (body : Body) → is_request_body body ≡ true
     → is_outside (role_of (answer_by a k q stamp body).body) ≡ false
 answer_inside a k q stamp (CreateEntity request) e = created_inside a q stamp request (chosen k.states q.target.entity)
 answer_inside a k q stamp (RemoveEntity request) e = refl
@@ -58,7 +58,7 @@ answer_inside a k q stamp (EventReport event datums) e = absurd cc
 answer_inside a k q stamp (Comment datums) e = absurd cc
 
 -- the text of an answer means it
-pub answer_means : (a : Outfit) (k : Knowledge) (q : Pdu) (stamp : ℕ) → is_for a q ≡ true
+pub answer_means : (a : AppProfile) (k : Knowledge) (q : Pdu) (stamp : ℕ) → is_for a q ≡ true
     → reading (pdu_text (answer a k q stamp)) ≡ Some (answer a k q stamp)
     → meaning a.exercise (pdu_text (answer a k q stamp)) ≡ Some (answer a k q stamp)
 answer_means a k q stamp own e =

@@ -8,8 +8,8 @@ use Rattle.siman_pdus.specs.Role.{is_request_body}
 use Rattle.siman_pdus.specs.Spelling.{pdu_text}
 use Rattle.siman_pdus.proofs.Offered.{read_in_range}
 use Rattle.exercise_model.specs.Meaning.{meaning}
-use Rattle.siman_application.specs.Outfit.{Outfit}
-use Rattle.siman_application.specs.Ranges.{IsOutfitInRange}
+use Rattle.siman_application.specs.AppProfile.{AppProfile}
+use Rattle.siman_application.specs.Ranges.{IsProfileInRange}
 use Rattle.siman_application.specs.Play.{reply}
 use Rattle.siman_application.specs.OwnLog.{OwnTurn, Tells, Orders, Passes, Takes, Loses, taken_in, IsOrder, IsRead, is_due, AreTurns}
 use Rattle.siman_application.proofs.Answered.{equal_self}
@@ -26,12 +26,12 @@ pub record IsTaken (b : List ℕ) (q : Pdu) : Type 0 where
   pub ranges : IsInRange q
 
 -- the datagram of an order means it, and it is a request
-pub record IsOrdered (a : Outfit) (b : List ℕ) (p : Pdu) : Type 0 where
+pub record IsOrdered (a : AppProfile) (b : List ℕ) (p : Pdu) : Type 0 where
   pub means : meaning a.exercise b ≡ Some p
   pub request : is_request_body p.body ≡ true
 
 -- the turns, where `later` says that a reply is due later on
-abbrev pub AreMeant : Outfit → Bool → List OwnTurn → Type 0
+abbrev pub AreMeant : AppProfile → Bool → List OwnTurn → Type 0
 AreMeant a later [] = Unit {0}
 AreMeant a later (Tells e y ∷ ts) = AreMeant a later ts
 AreMeant a later (Orders b p ∷ ts) = IsOrdered a b p × AreMeant a later ts
@@ -42,13 +42,13 @@ AreMeant a later (Loses b q stamp ∷ ts) = IsTaken b q × (later ≡ false) × 
 taken : (b : List ℕ) (q : Pdu) → IsRead b q → IsTaken b q
 taken b q is = record { read = is.read; ranges = read_in_range b q is.bytes is.read }
 
-ordered : (a : Outfit) (b : List ℕ) (p : Pdu) → IsOrder a b p → IsOrdered a b p
+ordered : (a : AppProfile) (b : List ℕ) (p : Pdu) → IsOrder a b p → IsOrdered a b p
 ordered a b p is = record {
   means = request_means a.exercise b p is.read.read (ap (λ (n : ℕ). n == a.exercise) is.exercise ∙ equal_self a.exercise) is.request;
   request = is.request;
 }
 
-pub taken_in_range : (a : Outfit) (later : Bool) (ts : List OwnTurn) → AreTurns a later ts → Each IsInRange (taken_in ts)
+pub taken_in_range : (a : AppProfile) (later : Bool) (ts : List OwnTurn) → AreTurns a later ts → Each IsInRange (taken_in ts)
 taken_in_range a later [] are = tt
 taken_in_range a later (Tells e y ∷ ts) are = taken_in_range a later ts are
 taken_in_range a later (Orders b p ∷ ts) are = taken_in_range a later ts are.1
@@ -57,7 +57,7 @@ taken_in_range a later (Takes b q stamp ∷ ts) are = ((taken b q are.0).ranges,
 taken_in_range a later (Loses b q stamp ∷ ts) are = ((taken b q are.0).ranges, taken_in_range a true ts are.4)
 
 -- THE TURNS OF A STATION ARE MEANT
-pub meant_turns : (a : Outfit) → IsOutfitInRange a → (later : Bool) (ts : List OwnTurn) → AreTurns a later ts → AreMeant a later ts
+pub meant_turns : (a : AppProfile) → IsProfileInRange a → (later : Bool) (ts : List OwnTurn) → AreTurns a later ts → AreMeant a later ts
 meant_turns a own later [] are = tt
 meant_turns a own later (Tells e y ∷ ts) are = meant_turns a own later ts are
 meant_turns a own later (Orders b p ∷ ts) are = (ordered a b p are.0, meant_turns a own later ts are.1)

@@ -29,7 +29,7 @@ use Rattle.exercise_model.specs.State.{state_made, scope_has, changed, change_of
 use Rattle.exercise_model.specs.Cause.{is_hopeless}
 use Rattle.exercise_model.specs.Answered.{IsFirstAnswer}
 use Rattle.exercise_model.proofs.Offered.{received_keeps, able_changes, others_keep}
-use Rattle.siman_application.specs.Outfit.{Outfit}
+use Rattle.siman_application.specs.AppProfile.{AppProfile}
 use Rattle.siman_application.specs.Distinct.{Placed, is_for, is_under_key, first_under}
 use Rattle.siman_application.specs.Answer.{Knowledge, answer_by, answer}
 use Rattle.siman_application.specs.Listed.{IsPossible, after}
@@ -58,7 +58,7 @@ not_asked true true true true e = e
 not_asked true true true false e = refl
 
 -- an answer p to the request q does not take up a request under another key
-pub other_not_asked : (a : Outfit) (q d p : Pdu) → p.target ≡ q.origin → request_id_of p.body ≡ request_id_of q.body → is_under_key q d ≡ false
+pub other_not_asked : (a : AppProfile) (q d p : Pdu) → p.target ≡ q.origin → request_id_of p.body ≡ request_id_of q.body → is_under_key q d ≡ false
     → is_asked a.station.address p d ≡ false
 other_not_asked a q d p target id other =
     ap (λ (i : EntityId). is_request_body d.body &&
@@ -146,12 +146,12 @@ first_none q d ds e = by (first_under q ds) (is_under_key q d) e where
   by (Some x) b e = absurd cc
 
 -- one more request in the play, where it speaks of entities, and where not
-play_more : (a : Outfit) (d : Pdu) (ds : List Pdu) (b : Bool) → is_for_entities (body_kind d.body) ≡ b
+play_more : (a : AppProfile) (d : Pdu) (ds : List Pdu) (b : Bool) → is_for_entities (body_kind d.body) ≡ b
     → play a (d ∷ ds) ≡ (if b then Send 0 (pdu_text (answer a (known a ds) d 0)) ∷ Get 0 (pdu_text d) ∷ play a ds else play a ds)
 unfolding play
 play_more a d ds b e = ap (λ (v : Bool). if v then Send 0 (pdu_text (answer a (known a ds) d 0)) ∷ Get 0 (pdu_text d) ∷ play a ds else play a ds) e
 
-taken_get : (x : ℕ) (a : Outfit) (p d : Pdu) (s t : ℕ) (b c : List ℕ) (log : History) → meaning x b ≡ Some d → is_asked a.station.address p d ≡ false
+taken_get : (x : ℕ) (a : AppProfile) (p d : Pdu) (s t : ℕ) (b c : List ℕ) (log : History) → meaning x b ≡ Some d → is_asked a.station.address p d ≡ false
     → request_taken_up x a.station.address p log ≡ None → request_taken_up x a.station.address p (Send s c ∷ Get t b ∷ log) ≡ None
 unfolding request_taken_up
 taken_get x a p d s t b c log m other rest =
@@ -166,16 +166,16 @@ acked_send x n k r s t b c log m other rest =
     ap (λ (o : Option Pdu). option_map_or (responds_under n k) o false || (false || was_acknowledged x n k log)) m
     ∙ ap (λ (v : Bool). v || (false || was_acknowledged x n k log)) other ∙ rest
 
-none_start : (x : ℕ) (a : Outfit) (p : Pdu) → request_taken_up x a.station.address p (play a []) ≡ None
+none_start : (x : ℕ) (a : AppProfile) (p : Pdu) → request_taken_up x a.station.address p (play a []) ≡ None
 unfolding play request_taken_up
 none_start x a p = refl
 
-acked_start : (x n : ℕ) (a : Outfit) (k : AcknowledgeKey) → was_acknowledged x n k (play a []) ≡ false
+acked_start : (x n : ℕ) (a : AppProfile) (k : AcknowledgeKey) → was_acknowledged x n k (play a []) ≡ false
 unfolding play was_acknowledged
 acked_start x n a k = refl
 
 -- nothing in the play is taken up by the answer to a request under no key before
-none_taken : (a : Outfit) (ds : List Pdu) → AreSpelled a ds → (q p : Pdu) → p.target ≡ q.origin → request_id_of p.body ≡ request_id_of q.body
+none_taken : (a : AppProfile) (ds : List Pdu) → AreSpelled a ds → (q p : Pdu) → p.target ≡ q.origin → request_id_of p.body ≡ request_id_of q.body
     → first_under q ds ≡ None
     → request_taken_up a.exercise a.station.address p (play a ds) ≡ None
 none_taken a [] spelled q p target id none = none_start a.exercise a p
@@ -189,7 +189,7 @@ none_taken a (d ∷ ds) spelled q p target id none =
       by false e rest = ap (request_taken_up a.exercise a.station.address p) (play_more a d ds false e) ∙ rest
 
 -- nor is there an Acknowledge under its key
-none_acked : (a : Outfit) (ds : List Pdu) → AreSpelled a ds → AreFor a ds → (q p : Pdu) (n : ℕ) (k : AcknowledgeKey) → p.target ≡ q.origin
+none_acked : (a : AppProfile) (ds : List Pdu) → AreSpelled a ds → AreFor a ds → (q p : Pdu) (n : ℕ) (k : AcknowledgeKey) → p.target ≡ q.origin
     → request_id_of p.body ≡ request_id_of q.body → IsKeyOf k p → first_under q ds ≡ None
     → was_acknowledged a.exercise n k (play a ds) ≡ false
 none_acked a [] spelled are q p n k target id key none = acked_start a.exercise n a k
@@ -206,7 +206,7 @@ none_acked a (d ∷ ds) spelled are q p n k target id key none =
 
 -- The states after one more request.
 
-pub is_asked_by : (a : Outfit) (y : ℕ → EntityState) (q p : Pdu) (request : ℕ) → IsFor a q → IsAnswer a y q p → request_id_of q.body ≡ Some request
+pub is_asked_by : (a : AppProfile) (y : ℕ → EntityState) (q p : Pdu) (request : ℕ) → IsFor a q → IsAnswer a y q p → request_id_of q.body ≡ Some request
     → is_asked a.station.address p q ≡ true
 is_asked_by a y q p request own is id =
     and_from (is_request_body q.body) (is_addressed q.target a.station.address &&
@@ -236,7 +236,7 @@ pub request_id : (q : Pdu) → is_request_body q.body ≡ true → (n : ℕ) × 
 request_id q e = request_id_by q.body e
 
 -- only what speaks of entities is answered by an Able
-unable_by : (a : Outfit) (k : Knowledge) (q : Pdu) (stamp : ℕ) (body : Body) → is_request_body body ≡ true → is_for_entities (body_kind body) ≡ false
+unable_by : (a : AppProfile) (k : Knowledge) (q : Pdu) (stamp : ℕ) (body : Body) → is_request_body body ≡ true → is_for_entities (body_kind body) ≡ false
     → responds able (answer_by a k q stamp body) ≡ false
 unable_by a k q stamp (CreateEntity request) r e = absurd cc
 unable_by a k q stamp (RemoveEntity request) r e = absurd cc
@@ -285,12 +285,12 @@ stays_by kinds.DataPdu s e y h out = scoped (record { kind = kinds.DataPdu; scop
 stays_by kinds.EventReport s e y h out = scoped (record { kind = kinds.EventReport; scope = s }) e refl
 stays_by kinds.Comment s e y h out = scoped (record { kind = kinds.Comment; scope = s }) e refl
 
-pub outside_range : (x : ℕ) (a : Outfit) (log : History) (e : ℕ) → is_entity e ≡ false → state_after x a.station log e ≡ Absent
+pub outside_range : (x : ℕ) (a : AppProfile) (log : History) (e : ℕ) → is_entity e ≡ false → state_after x a.station log e ≡ Absent
 unfolding state_after
 outside_range x a log e out = ap (λ (b : Bool). if b then entity_state x a.station log e else Absent) out
 
 -- a first answer in a log that leaves an entity's state to that of the play
-pub answered_state : (x : ℕ) (a : Outfit) (log : History) (s t : ℕ) (b c : List ℕ) (q p : Pdu) → IsFirstAnswer x a.station log b c q p
+pub answered_state : (x : ℕ) (a : AppProfile) (log : History) (s t : ℕ) (b c : List ℕ) (q p : Pdu) → IsFirstAnswer x a.station log b c q p
     → (responds able p ≡ true → IsPossible (change_of p q) (λ e. state_after x a.station log e))
     → (e : ℕ) → state_after x a.station (Send s c ∷ Get t b ∷ log) e ≡ after p q (λ e. state_after x a.station log e) e
 answered_state x a log s t b c q p first can e = by (responds able p) refl where
@@ -306,7 +306,7 @@ answered_state x a log s t b c q p first can e = by (responds able p) refl where
   by false r = others_keep x a.station (Get t b ∷ log) s c p first.answer r e ∙ received_keeps x a.station log t b e
 
 -- a request under no key before, and its answer, go on in the play
-first_in_play : (a : Outfit) (d : Pdu) (ds : List Pdu) → is_for a d ≡ true → AreFor a ds → AreSpelled a ds → first_under d ds ≡ None
+first_in_play : (a : AppProfile) (d : Pdu) (ds : List Pdu) → is_for a d ≡ true → AreFor a ds → AreSpelled a ds → first_under d ds ≡ None
     → meaning a.exercise (pdu_text d) ≡ Some (carried d) → meaning a.exercise (pdu_text (answer a (known a ds) d 0)) ≡ Some (answer a (known a ds) d 0)
     → IsFirstAnswer a.exercise a.station (play a ds) (pdu_text d) (pdu_text (answer a (known a ds) d 0)) (carried d) (answer a (known a ds) d 0)
 first_in_play a d ds own are spelled none m n =
@@ -324,7 +324,7 @@ first_in_play a d ds own are spelled none m n =
     }
 
 -- THE STATES GO ON: one more request changes them as its answer says
-pub states_go_on : (a : Outfit) (d : Pdu) (ds : List Pdu) → is_for a d ≡ true → AreFor a ds → AreSpelled a (d ∷ ds) → first_under d ds ≡ None
+pub states_go_on : (a : AppProfile) (d : Pdu) (ds : List Pdu) → is_for a d ≡ true → AreFor a ds → AreSpelled a (d ∷ ds) → first_under d ds ≡ None
     → (e : ℕ) → state_over a (d ∷ ds) e ≡ after (answer a (known a ds) d 0) d (state_over a ds) e
 states_go_on a d ds own are spelled none e = by (is_for_entities (body_kind d.body)) refl where
   by : (b : Bool) → is_for_entities (body_kind d.body) ≡ b → state_over a (d ∷ ds) e ≡ after (answer a (known a ds) d 0) d (state_over a ds) e

@@ -26,11 +26,11 @@ use Rattle.siman_pdus.specs.Spelling.{body_kind, body_layout, HasCarriedStatus, 
 use Rattle.siman_pdus.proofs.Offered.{text_is_read, text_is_carried, zero_is_carried}
 use Rattle.exercise_model.specs.Station.{is_entity, is_absent}
 use Rattle.exercise_model.specs.Change.{able, unable}
-use Rattle.siman_application.specs.Outfit.{Outfit}
-use Rattle.siman_application.specs.Ranges.{IsOutfitInRange}
+use Rattle.siman_application.specs.AppProfile.{AppProfile}
+use Rattle.siman_application.specs.Ranges.{IsProfileInRange}
 use Rattle.siman_application.specs.Records.{fixed_id, variable_id, last_under, stored, found, fitting, cut_records}
 use Rattle.siman_application.specs.Distinct.{Placed, is_for, is_under_key, first_under, distinct}
-use Rattle.siman_application.specs.Answer.{Knowledge, chosen, is_meant, own_number, answer_pdu, plain_answer, created, obeyed, no_datums, data_answer, held_records, told_of, ids_of, brought, answer_by, answer}
+use Rattle.siman_application.specs.Answer.{Knowledge, chosen, is_meant, own_number, answer_pdu, plain_answer, created, obeyed, no_datums, data_answer, held_records, result_of, ids_of, brought, answer_by, answer}
 use Rattle.siman_application.specs.KeptRequests.{AreFor}
 use Rattle.siman_application.specs.Play.{is_for_entities, fixed_after, variable_after, known, answer_under, reply_after, reply}
 use Rattle.siman_application.proofs.Answered.{for_parts, is_answer, is_chosen, outside}
@@ -94,14 +94,14 @@ abbrev pub Each : (Pdu → Type 0) → List Pdu → Type 0
 Each P [] = Unit {0}
 Each P (d ∷ ds) = P d × Each P ds
 
-fixed_in : (a : Outfit) (ds : List Pdu) → IsOutfitInRange a → Each IsInRange ds → (id : ℕ) (d : FixedDatum) → fixed_after a ds id ≡ Some d
+fixed_in : (a : AppProfile) (ds : List Pdu) → IsProfileInRange a → Each IsInRange ds → (id : ℕ) (d : FixedDatum) → fixed_after a ds id ≡ Some d
     → IsFixedInRange d
 fixed_in a [] own each id d e = last_in IsFixedInRange fixed_id id a.datums.fixed own.datums.0 d e
 fixed_in a (q ∷ ds) own each id d e =
     stored_in IsFixedInRange (last_under fixed_id id (brought q.body).fixed) (fixed_after a ds id)
     (last_in IsFixedInRange fixed_id id (brought q.body).fixed (brought_in q.body each.0.body).0) (fixed_in a ds own each.1 id) d e
 
-variable_in : (a : Outfit) (ds : List Pdu) → IsOutfitInRange a → Each IsInRange ds → (id : ℕ) (d : Datum) → variable_after a ds id ≡ Some d
+variable_in : (a : AppProfile) (ds : List Pdu) → IsProfileInRange a → Each IsInRange ds → (id : ℕ) (d : Datum) → variable_after a ds id ≡ Some d
     → IsVariableInRange d
 variable_in a [] own each id d e = last_in IsVariableInRange variable_id id a.datums.variable own.datums.1 d e
 variable_in a (q ∷ ds) own each id d e =
@@ -113,11 +113,11 @@ record KnowsInRange (k : Knowledge) : Type 0 where
   fixed : (id : ℕ) (d : FixedDatum) → k.fixed id ≡ Some d → IsFixedInRange d
   variable : (id : ℕ) (d : Datum) → k.variable id ≡ Some d → IsVariableInRange d
 
-known_in : (a : Outfit) (ds : List Pdu) → IsOutfitInRange a → Each IsInRange ds → KnowsInRange (known a ds)
+known_in : (a : AppProfile) (ds : List Pdu) → IsProfileInRange a → Each IsInRange ds → KnowsInRange (known a ds)
 known_in a ds own each = record { fixed = fixed_in a ds own each; variable = variable_in a ds own each }
 
-told_in : (d : DatumLists) (k : Knowledge) → AreDatumsInRange d → KnowsInRange k → KnowsInRange (told_of d k)
-told_in d k datums knows = record {
+listed_in : (d : DatumLists) (k : Knowledge) → AreDatumsInRange d → KnowsInRange k → KnowsInRange (result_of d k)
+listed_in d k datums knows = record {
   fixed = λ id. stored_in IsFixedInRange (last_under fixed_id id d.fixed) (k.fixed id) (last_in IsFixedInRange fixed_id id d.fixed datums.0) (knows.fixed id);
   variable = λ id. stored_in IsVariableInRange (last_under variable_id id d.variable) (k.variable id) (last_in IsVariableInRange variable_id id d.variable datums.1) (knows.variable id);
 }
@@ -136,17 +136,17 @@ own_in kind n h = by (is_open kind n) where
   by true = omega arith
   by false = h
 
-from_in : (a : Outfit) (q : Pdu) (stamp m : ℕ) (body : Body) → IsOutfitInRange a → IsInRange q → stamp < 2 ^ 32 → m < 2 ^ 16 → IsBodyInRange body
+from_in : (a : AppProfile) (q : Pdu) (stamp m : ℕ) (body : Body) → IsProfileInRange a → IsInRange q → stamp < 2 ^ 32 → m < 2 ^ 16 → IsBodyInRange body
     → IsInRange (answer_pdu a q stamp m body)
 from_in a q stamp m body own r s number b =
     record { exercise = own.exercise; stamp = s; status = omega arith; origin = (own.site, own.application, number); target = r.origin; body = b }
 
-plain_in : (a : Outfit) (q : Pdu) (stamp : ℕ) (body : Body) → IsOutfitInRange a → IsInRange q → stamp < 2 ^ 32 → IsBodyInRange body
+plain_in : (a : AppProfile) (q : Pdu) (stamp : ℕ) (body : Body) → IsProfileInRange a → IsInRange q → stamp < 2 ^ 32 → IsBodyInRange body
     → IsInRange (plain_answer a q stamp body)
 plain_in a q stamp body own r s b =
     from_in a q stamp (own_number (body_kind q.body) q.target.entity) body own r s (own_in (body_kind q.body) q.target.entity r.target.2) b
 
-created_in : (a : Outfit) (y : ℕ → EntityState) (q : Pdu) (stamp request : ℕ) → IsOutfitInRange a → IsInRange q → stamp < 2 ^ 32 → request < 2 ^ 32
+created_in : (a : AppProfile) (y : ℕ → EntityState) (q : Pdu) (stamp request : ℕ) → IsProfileInRange a → IsInRange q → stamp < 2 ^ 32 → request < 2 ^ 32
     → (o : Option ℕ) → chosen y q.target.entity ≡ o → IsInRange (created a q stamp request o)
 created_in a y q stamp request own r s h None e = plain_in a q stamp (Acknowledge 1 unable request) own r s (omega arith, omega arith, h)
 created_in a y q stamp request own r s h (Some m) e =
@@ -156,25 +156,25 @@ created_in a y q stamp request own r s h (Some m) e =
     let high : m ≤ LARGEST_ENTITY = grind (arith, nat_tests) in
     from_in a q stamp m (Acknowledge 1 able request) own r s (omega arith) (omega arith, omega arith, h)
 
-obeyed_in : (a : Outfit) (y : ℕ → EntityState) (q : Pdu) (stamp flag request : ℕ) → IsOutfitInRange a → IsInRange q → stamp < 2 ^ 32 → flag < 2 ^ 16
+obeyed_in : (a : AppProfile) (y : ℕ → EntityState) (q : Pdu) (stamp flag request : ℕ) → IsProfileInRange a → IsInRange q → stamp < 2 ^ 32 → flag < 2 ^ 16
     → request < 2 ^ 32 → IsInRange (obeyed a y q stamp flag request)
 obeyed_in a y q stamp flag request own r s f h = by (is_meant (body_kind q.body) y q.target.entity) where
   by : (b : Bool) → IsInRange (plain_answer a q stamp (Acknowledge flag (if b then able else unable) request))
   by true = plain_in a q stamp (Acknowledge flag able request) own r s (f, omega arith, h)
   by false = plain_in a q stamp (Acknowledge flag unable request) own r s (f, omega arith, h)
 
-acted_in : (a : Outfit) (q : Pdu) (stamp request : ℕ) → IsOutfitInRange a → IsInRange q → stamp < 2 ^ 32 → request < 2 ^ 32 → (b : Bool)
+acted_in : (a : AppProfile) (q : Pdu) (stamp request : ℕ) → IsProfileInRange a → IsInRange q → stamp < 2 ^ 32 → request < 2 ^ 32 → (b : Bool)
     → IsInRange (plain_answer a q stamp (ActionResponse request (if b then 4 else 5) no_datums))
 acted_in a q stamp request own r s h true = plain_in a q stamp (ActionResponse request 4 no_datums) own r s (h, omega arith, no_datums_in)
 acted_in a q stamp request own r s h false = plain_in a q stamp (ActionResponse request 5 no_datums) own r s (h, omega arith, no_datums_in)
 
-data_in : (a : Outfit) (q : Pdu) (stamp request : ℕ) (d : DatumLists) → IsOutfitInRange a → IsInRange q → stamp < 2 ^ 32 → request < 2 ^ 32
+data_in : (a : AppProfile) (q : Pdu) (stamp request : ℕ) (d : DatumLists) → IsProfileInRange a → IsInRange q → stamp < 2 ^ 32 → request < 2 ^ 32
     → AreDatumsInRange d → IsInRange (data_answer a q stamp request d)
 data_in a q stamp request d own r s h datums =
     subst IsInRange (sym (cut_is a q stamp request d)) (plain_in a q stamp (DataPdu request (cut_records d)) own r s (h, cut_in d datums))
 
 -- what is known is asked for where the request is not for entities
-answer_in_by : (a : Outfit) (k : Knowledge) (q : Pdu) (stamp : ℕ) → IsOutfitInRange a → IsInRange q → stamp < 2 ^ 32
+answer_in_by : (a : AppProfile) (k : Knowledge) (q : Pdu) (stamp : ℕ) → IsProfileInRange a → IsInRange q → stamp < 2 ^ 32
     → (body : Body) → IsBodyInRange body → (is_for_entities (body_kind body) ≡ false → KnowsInRange k) → IsInRange (answer_by a k q stamp body)
 answer_in_by a k q stamp own r s (CreateEntity request) h knows =
     created_in a k.states q stamp request own r s h (chosen k.states q.target.entity) refl
@@ -188,28 +188,28 @@ answer_in_by a k q stamp own r s (ActionResponse request status datums) h knows 
 answer_in_by a k q stamp own r s (DataQuery request interval ids) h knows =
     data_in a q stamp request (held_records k ids) own r s h.0 (held_in k ids (knows refl))
 answer_in_by a k q stamp own r s (SetData request datums) h knows =
-    data_in a q stamp request (held_records (told_of datums k) (ids_of datums)) own r s h.0
-    (held_in (told_of datums k) (ids_of datums) (told_in datums k h.1 (knows refl)))
+    data_in a q stamp request (held_records (result_of datums k) (ids_of datums)) own r s h.0
+    (held_in (result_of datums k) (ids_of datums) (listed_in datums k h.1 (knows refl)))
 answer_in_by a k q stamp own r s (DataPdu request datums) h knows = r
 answer_in_by a k q stamp own r s (EventReport event datums) h knows = r
 answer_in_by a k q stamp own r s (Comment datums) h knows = r
 
-answer_in_range : (a : Outfit) (ds : List Pdu) (q : Pdu) (stamp : ℕ) → IsOutfitInRange a → Each IsInRange ds → IsInRange q → stamp < 2 ^ 32
+answer_in_range : (a : AppProfile) (ds : List Pdu) (q : Pdu) (stamp : ℕ) → IsProfileInRange a → Each IsInRange ds → IsInRange q → stamp < 2 ^ 32
     → IsInRange (answer a (known a ds) q stamp)
 answer_in_range a ds q stamp own each r s = answer_in_by a (known a ds) q stamp own r s q.body r.body (λ e. known_in a ds own each)
 
 -- Sizes.
 
-created_size : (a : Outfit) (q : Pdu) (stamp request : ℕ) (o : Option ℕ) → pdu_size (created a q stamp request o) ≤ LARGEST_DATAGRAM
+created_size : (a : AppProfile) (q : Pdu) (stamp request : ℕ) (o : Option ℕ) → pdu_size (created a q stamp request o) ≤ LARGEST_DATAGRAM
 created_size a q stamp request None = omega arith
 created_size a q stamp request (Some m) = omega arith
 
-data_fits : (a : Outfit) (q : Pdu) (stamp request : ℕ) (d : DatumLists) → pdu_size (data_answer a q stamp request d) ≤ LARGEST_DATAGRAM
+data_fits : (a : AppProfile) (q : Pdu) (stamp request : ℕ) (d : DatumLists) → pdu_size (data_answer a q stamp request d) ≤ LARGEST_DATAGRAM
 data_fits a q stamp request d =
     subst (λ (p : Pdu). pdu_size p ≤ LARGEST_DATAGRAM) (sym (cut_is a q stamp request d))
     (omega (arith, data_size a q stamp request (cut_records d), cut_fits d))
 
-answer_size_by : (a : Outfit) (k : Knowledge) (q : Pdu) (stamp : ℕ) (body : Body) → is_request_body body ≡ true
+answer_size_by : (a : AppProfile) (k : Knowledge) (q : Pdu) (stamp : ℕ) (body : Body) → is_request_body body ≡ true
     → pdu_size (answer_by a k q stamp body) ≤ LARGEST_DATAGRAM
 answer_size_by a k q stamp (CreateEntity request) e = created_size a q stamp request (chosen k.states q.target.entity)
 answer_size_by a k q stamp (RemoveEntity request) e = omega arith
@@ -219,16 +219,16 @@ answer_size_by a k q stamp (Acknowledge flag response request) e = absurd (outsi
 answer_size_by a k q stamp (ActionRequest request action datums) e = omega arith
 answer_size_by a k q stamp (ActionResponse request status datums) e = absurd cc
 answer_size_by a k q stamp (DataQuery request interval ids) e = data_fits a q stamp request (held_records k ids)
-answer_size_by a k q stamp (SetData request datums) e = data_fits a q stamp request (held_records (told_of datums k) (ids_of datums))
+answer_size_by a k q stamp (SetData request datums) e = data_fits a q stamp request (held_records (result_of datums k) (ids_of datums))
 answer_size_by a k q stamp (DataPdu request datums) e = absurd cc
 answer_size_by a k q stamp (EventReport event datums) e = absurd cc
 answer_size_by a k q stamp (Comment datums) e = absurd cc
 
-answer_size : (a : Outfit) (k : Knowledge) (q : Pdu) (stamp : ℕ) → is_for a q ≡ true → pdu_size (answer a k q stamp) ≤ LARGEST_DATAGRAM
+answer_size : (a : AppProfile) (k : Knowledge) (q : Pdu) (stamp : ℕ) → is_for a q ≡ true → pdu_size (answer a k q stamp) ≤ LARGEST_DATAGRAM
 answer_size a k q stamp own = answer_size_by a k q stamp q.body (for_parts a q own).request
 
 -- An answer has status 0.
-answer_status : (a : Outfit) (k : Knowledge) (q : Pdu) (stamp : ℕ) → is_for a q ≡ true → HasCarriedStatus (answer a k q stamp)
+answer_status : (a : AppProfile) (k : Knowledge) (q : Pdu) (stamp : ℕ) → is_for a q ≡ true → HasCarriedStatus (answer a k q stamp)
 answer_status a k q stamp own = zero_is_carried (answer a k q stamp) (is_answer a k q stamp own).status
 
 -- A request for entities and its answer, which needs nothing that is known of datums.
@@ -250,7 +250,7 @@ small_body (Comment datums) e = absurd cc
 pub request_read : (q : Pdu) → IsInRange q → is_for_entities (body_kind q.body) ≡ true → reading (pdu_text q) ≡ Some (carried q)
 request_read q r e = let small = small_body q.body e in text_is_carried q r (omega (arith, small))
 
-pub answer_read : (a : Outfit) (k : Knowledge) (q : Pdu) (stamp : ℕ) → IsOutfitInRange a → IsInRange q → stamp < 2 ^ 32 → is_for a q ≡ true
+pub answer_read : (a : AppProfile) (k : Knowledge) (q : Pdu) (stamp : ℕ) → IsProfileInRange a → IsInRange q → stamp < 2 ^ 32 → is_for a q ≡ true
     → is_for_entities (body_kind q.body) ≡ true
     → reading (pdu_text (answer a k q stamp)) ≡ Some (answer a k q stamp)
 answer_read a k q stamp own r s mine e =
@@ -274,7 +274,7 @@ first_in P q (d ∷ ds) each f e = by (first_under q ds) (first_in P q ds each.1
   by None rest b g = here b g
 
 -- what holds of each answer to a request that came holds of a reply
-reply_as : (Q : Pdu → Type 0) (a : Outfit) (ds : List Pdu) (q : Pdu) (stamp : ℕ) → (is_for a q ≡ true → Q (answer a (known a ds) q stamp))
+reply_as : (Q : Pdu → Type 0) (a : AppProfile) (ds : List Pdu) (q : Pdu) (stamp : ℕ) → (is_for a q ≡ true → Q (answer a (known a ds) q stamp))
     → ((f : Placed) → first_under q ds ≡ Some f → Q (answer a (known a f.before) f.request stamp)) → IfSome (reply_after a ds q stamp) Q
 reply_as Q a ds q stamp new again = by (is_for a q) refl (first_under q ds) refl where
   here : (f : Placed) → first_under q ds ≡ Some f → (b : Bool) → IfSome (if b then Some (answer a (known a f.before) f.request stamp) else None) Q
@@ -286,24 +286,24 @@ reply_as Q a ds q stamp new again = by (is_for a q) refl (first_under q ds) refl
   by true own None e = new own
   by true own (Some f) e = here f e (is_same_order q f.request)
 
-each_for : (a : Outfit) (ds : List Pdu) → AreFor a ds → Each (λ d. is_for a d ≡ true) ds
+each_for : (a : AppProfile) (ds : List Pdu) → AreFor a ds → Each (λ d. is_for a d ≡ true) ds
 each_for a [] are = tt
 each_for a (d ∷ ds) are = (are.0, each_for a ds are.1)
 
-pub reply_size : (a : Outfit) (ds : List Pdu) (q : Pdu) (stamp : ℕ) → AreFor a ds
+pub reply_size : (a : AppProfile) (ds : List Pdu) (q : Pdu) (stamp : ℕ) → AreFor a ds
     → IfSome (reply_after a ds q stamp) (λ p. pdu_size p ≤ LARGEST_DATAGRAM)
 reply_size a ds q stamp are =
     reply_as (λ p. pdu_size p ≤ LARGEST_DATAGRAM) a ds q stamp (answer_size a (known a ds) q stamp)
     (λ f e. answer_size a (known a f.before) f.request stamp (first_in (λ d. is_for a d ≡ true) q ds (each_for a ds are) f e).0)
 
-pub reply_status : (a : Outfit) (ds : List Pdu) (q : Pdu) (stamp : ℕ) → AreFor a ds → IfSome (reply_after a ds q stamp) HasCarriedStatus
+pub reply_status : (a : AppProfile) (ds : List Pdu) (q : Pdu) (stamp : ℕ) → AreFor a ds → IfSome (reply_after a ds q stamp) HasCarriedStatus
 reply_status a ds q stamp are =
     reply_as HasCarriedStatus a ds q stamp (answer_status a (known a ds) q stamp)
     (λ f e. answer_status a (known a f.before) f.request stamp (first_in (λ d. is_for a d ≡ true) q ds (each_for a ds are) f e).0)
 
 -- Each distinct request is for the station, and is as each that was taken.
 
-own_distinct : (a : Outfit) (qs : List Pdu) → Each (λ d. is_for a d ≡ true) (distinct a qs)
+own_distinct : (a : AppProfile) (qs : List Pdu) → Each (λ d. is_for a d ≡ true) (distinct a qs)
 own_distinct a [] = tt
 own_distinct a (q ∷ qs) = by (is_for a q) refl (is_none (first_under q (distinct a qs))) (own_distinct a qs) where
   by : (b : Bool) → is_for a q ≡ b → (c : Bool) → Each (λ d. is_for a d ≡ true) (distinct a qs) → Each (λ d. is_for a d ≡ true) (if b && c then q ∷ distinct a qs else distinct a qs)
@@ -311,10 +311,10 @@ own_distinct a (q ∷ qs) = by (is_for a q) refl (is_none (first_under q (distin
   by true own false each = each
   by false own c each = each
 
-pub for_at : (a : Outfit) (qs : List Pdu) (r : Pdu) (f : Placed) → first_under r (distinct a qs) ≡ Some f → is_for a f.request ≡ true
+pub for_at : (a : AppProfile) (qs : List Pdu) (r : Pdu) (f : Placed) → first_under r (distinct a qs) ≡ Some f → is_for a f.request ≡ true
 for_at a qs r f e = (first_in (λ d. is_for a d ≡ true) r (distinct a qs) (own_distinct a qs) f e).0
 
-each_distinct : (P : Pdu → Type 0) (a : Outfit) (qs : List Pdu) → Each P qs → Each P (distinct a qs)
+each_distinct : (P : Pdu → Type 0) (a : AppProfile) (qs : List Pdu) → Each P qs → Each P (distinct a qs)
 each_distinct P a [] each = tt
 each_distinct P a (q ∷ qs) each = by (is_for a q && is_none (first_under q (distinct a qs))) (each_distinct P a qs each.1) where
   by : (b : Bool) → Each P (distinct a qs) → Each P (if b then q ∷ distinct a qs else distinct a qs)
@@ -322,7 +322,7 @@ each_distinct P a (q ∷ qs) each = by (is_for a q && is_none (first_under q (di
   by false rest = rest
 
 -- THE TEXT OF A REPLY is read as it.
-pub reply_read : (a : Outfit) (qs : List Pdu) (q : Pdu) (stamp : ℕ) → IsOutfitInRange a → Each IsInRange qs → IsInRange q → stamp < 2 ^ 32
+pub reply_read : (a : AppProfile) (qs : List Pdu) (q : Pdu) (stamp : ℕ) → IsProfileInRange a → Each IsInRange qs → IsInRange q → stamp < 2 ^ 32
     → IfSome (reply a qs q stamp) (λ p. reading (pdu_text p) ≡ Some p)
 reply_read a qs q stamp own each r s =
     let ds = distinct a qs in
@@ -335,13 +335,13 @@ reply_read a qs q stamp own each r s =
     (answer_status a (known a f.before) f.request stamp (for_at a qs q f e)) (answer_size a (known a f.before) f.request stamp (for_at a qs q f e)))
 
 -- A reply is an answer to a request for the station: what holds of each of these holds of it.
-pub reply_answers : (Q : Pdu → Type 0) (a : Outfit) (qs : List Pdu) (q : Pdu) (stamp : ℕ)
+pub reply_answers : (Q : Pdu → Type 0) (a : AppProfile) (qs : List Pdu) (q : Pdu) (stamp : ℕ)
     → ((k : Knowledge) (d : Pdu) → is_for a d ≡ true → Q (answer a k d stamp)) → IfSome (reply a qs q stamp) Q
 reply_answers Q a qs q stamp each =
     reply_as Q a (distinct a qs) q stamp (each (known a (distinct a qs)) q) (λ f e. each (known a f.before) f.request (for_at a qs q f e))
 
 -- A reply is in its ranges.
-pub reply_in_range : (a : Outfit) (qs : List Pdu) (q : Pdu) (stamp : ℕ) → IsOutfitInRange a → Each IsInRange qs → IsInRange q → stamp < 2 ^ 32
+pub reply_in_range : (a : AppProfile) (qs : List Pdu) (q : Pdu) (stamp : ℕ) → IsProfileInRange a → Each IsInRange qs → IsInRange q → stamp < 2 ^ 32
     → IfSome (reply a qs q stamp) IsInRange
 reply_in_range a qs q stamp own each r s =
     let all = each_distinct IsInRange a qs each in
@@ -349,5 +349,5 @@ reply_in_range a qs q stamp own each r s =
     (λ f e. let found = first_in IsInRange q (distinct a qs) all f e in answer_in_range a f.before f.request stamp own found.1 found.0 s)
 
 -- It has at most 8192 bytes.
-pub reply_is_short : (a : Outfit) (qs : List Pdu) (q : Pdu) (stamp : ℕ) → IfSome (reply a qs q stamp) (λ p. pdu_size p ≤ LARGEST_DATAGRAM)
+pub reply_is_short : (a : AppProfile) (qs : List Pdu) (q : Pdu) (stamp : ℕ) → IfSome (reply a qs q stamp) (λ p. pdu_size p ≤ LARGEST_DATAGRAM)
 reply_is_short a qs q stamp = reply_answers (λ p. pdu_size p ≤ LARGEST_DATAGRAM) a qs q stamp (λ k d own. answer_size a k d stamp own)

@@ -24,12 +24,12 @@ use Rattle.exercise_model.specs.Change.{able, unable, responds, key_of, responds
 use Rattle.exercise_model.specs.State.{changed, change_of, state_after}
 use Rattle.exercise_model.specs.Cause.{first_cause, is_reused, is_changed_answer, is_hopeless, is_impossible, send_cause}
 use Rattle.exercise_model.proofs.Offered.{received_keeps}
-use Rattle.siman_application.specs.Outfit.{Outfit}
+use Rattle.siman_application.specs.AppProfile.{AppProfile}
 use Rattle.siman_application.specs.Distinct.{Placed, is_for, first_under, with_request, distinct}
 use Rattle.siman_application.specs.Answer.{answer}
 use Rattle.siman_application.specs.Play.{known, reply, state_over}
-use Rattle.siman_application.specs.Ranges.{IsOutfitInRange}
-use Rattle.siman_application.specs.OwnLog.{OwnTurn, Tells, Orders, Passes, Takes, Loses, taken_in, sent_after, log_in, is_due, AnswersStand}
+use Rattle.siman_application.specs.Ranges.{IsProfileInRange}
+use Rattle.siman_application.specs.OwnLog.{OwnTurn, Tells, Orders, Passes, Takes, Loses, taken_in, sent_after, log_in, is_due, AnswersHaveNoCause}
 use Rattle.siman_application.proofs.Answered.{IsAnswer, is_answer, equal_self}
 use Rattle.siman_application.proofs.Played.{key_is}
 use Rattle.siman_application.proofs.Replies.{for_at}
@@ -55,7 +55,7 @@ and_false false c e = refl
 false_and : (b c : Bool) → b ≡ false → (b && c) ≡ false
 false_and b c e = ap (λ (v : Bool). v && c) e
 
-none_sent : (x : ℕ) (a : Outfit) (log : History) (p f : Pdu) → request_taken_up x a.station.address p log ≡ Some f
+none_sent : (x : ℕ) (a : AppProfile) (log : History) (p f : Pdu) → request_taken_up x a.station.address p log ≡ Some f
     → is_from a.station.address p ≡ true → is_request_body p.body ≡ false → is_answer_to p f ≡ true
     → is_changed_answer x p log ≡ false → is_impossible x a.station log p f ≡ false → send_cause x a.station log p ≡ None
 unfolding send_cause causes
@@ -90,7 +90,7 @@ never_both false true = refl
 never_both false false = refl
 
 -- an answer that comes again is no other than before
-again_unchanged : (a : Outfit) (s stamp : ℕ) (b : List ℕ) (q : Pdu) (f : Placed) (ts : List OwnTurn) → AreMeant a true ts → is_for a f.request ≡ true
+again_unchanged : (a : AppProfile) (s stamp : ℕ) (b : List ℕ) (q : Pdu) (f : Placed) (ts : List OwnTurn) → AreMeant a true ts → is_for a f.request ≡ true
     → first_under q (distinct a (taken_in ts)) ≡ Some f
     → is_changed_answer a.exercise (answer_at a f stamp) (Get s b ∷ log_in a s ts) ≡ false
 unfolding is_changed_answer
@@ -116,7 +116,7 @@ again_unchanged a s stamp b q f ts are own first = by (key_of (answer_at a f sta
       (option_map_or (same_key k) (key_of (answer_at a f stamp)) false)
       (λ r u. let no : responds unable (answer_at a f stamp) ≡ false = exclusive_in (response_of (answer_at a f stamp).body) r in absurd cc)
 
-fresh_unchanged : (a : Outfit) (s stamp : ℕ) (b : List ℕ) (q : Pdu) (ts : List OwnTurn) → AreMeant a true ts → is_for a q ≡ true
+fresh_unchanged : (a : AppProfile) (s stamp : ℕ) (b : List ℕ) (q : Pdu) (ts : List OwnTurn) → AreMeant a true ts → is_for a q ≡ true
     → first_under q (distinct a (taken_in ts)) ≡ None
     → is_changed_answer a.exercise (answer a (known a (distinct a (taken_in ts))) q stamp) (Get s b ∷ log_in a s ts) ≡ false
 unfolding is_changed_answer
@@ -137,13 +137,13 @@ fresh_unchanged a s stamp b q ts are own none = by (key_of (answer a (known a (d
       (responds unable (answer a (known a (distinct a (taken_in ts))) q stamp))
 
 -- what is no change is not impossible
-unchanged_possible : (a : Outfit) (p f : Pdu) (log : History) → is_change a.exercise p log ≡ false
+unchanged_possible : (a : AppProfile) (p f : Pdu) (log : History) → is_change a.exercise p log ≡ false
     → is_impossible a.exercise a.station log p f ≡ false
 unfolding is_impossible
 unchanged_possible a p f log e =
     ap (λ (b : Bool). b && is_hopeless (change_of p f).kind (change_of p f).scope (state_after a.exercise a.station log)) e
 
-fresh_possible : (a : Outfit) (s stamp : ℕ) (b : List ℕ) (q f : Pdu) (ts : List OwnTurn) → is_for a q ≡ true → IsSameOrder f q
+fresh_possible : (a : AppProfile) (s stamp : ℕ) (b : List ℕ) (q f : Pdu) (ts : List OwnTurn) → is_for a q ≡ true → IsSameOrder f q
     → ((e : ℕ) → state_after a.exercise a.station (log_in a s ts) e ≡ state_over a (distinct a (taken_in ts)) e)
     → is_impossible a.exercise a.station (Get s b ∷ log_in a s ts) (answer a (known a (distinct a (taken_in ts))) q stamp) f ≡ false
 unfolding is_impossible
@@ -171,7 +171,7 @@ fresh_possible a s stamp b q f ts own same rest = by (responds able (answer a (k
 
 -- THE ANSWERS STAND
 
-answer_from : (a : Outfit) (y : ℕ → EntityState) (q p : Pdu) → IsAnswer a y q p → is_from a.station.address p ≡ true
+answer_from : (a : AppProfile) (y : ℕ → EntityState) (q p : Pdu) → IsAnswer a y q p → is_from a.station.address p ≡ true
 answer_from a y q p is =
     and_from (p.origin.site == a.station.address.site) (p.origin.application == a.station.address.application)
     (ap (λ (n : ℕ). n == a.station.address.site) is.site ∙ equal_self a.station.address.site)
@@ -183,7 +183,7 @@ no_request_by roles.Answer e = refl
 no_request_by roles.Notice e = absurd cc
 no_request_by roles.Outside e = absurd cc
 
-stands_same : (a : Outfit) (s stamp : ℕ) (b : List ℕ) (q : Pdu) (f : Placed) (ts : List OwnTurn) → IsTaken b q
+stands_same : (a : AppProfile) (s stamp : ℕ) (b : List ℕ) (q : Pdu) (f : Placed) (ts : List OwnTurn) → IsTaken b q
     → IsReplyText (reply a (taken_in ts) q stamp) → AreMeant a true ts → (is_for a q ≡ true → PassedAlike a q ts) → AreSettled a ts
     → first_under q (distinct a (taken_in ts)) ≡ Some f → with_request a (distinct a (taken_in ts)) q ≡ distinct a (taken_in ts)
     → is_answer_body (answer_at a f stamp).body ≡ true
@@ -201,7 +201,7 @@ stands_same a s stamp b q f ts read text are alike settled first same body =
     (answers_same p f.request up.request up.same is.answers) (again_unchanged a s stamp b q f ts are kept first)
     (unchanged_possible a p up.request (Get s b ∷ log_in a s ts) (again_no_change a s stamp b q f ts are kept first))
 
-stands_fresh : (a : Outfit) → IsOutfitInRange a → (s stamp : ℕ) (b : List ℕ) (q : Pdu) (ts : List OwnTurn) → IsTaken b q
+stands_fresh : (a : AppProfile) → IsProfileInRange a → (s stamp : ℕ) (b : List ℕ) (q : Pdu) (ts : List OwnTurn) → IsTaken b q
     → IsReplyText (reply a (taken_in ts) q stamp) → AreMeant a true ts → (is_for a q ≡ true → PassedAlike a q ts) → AreSettled a ts
     → is_for a q ≡ true → first_under q (distinct a (taken_in ts)) ≡ None → with_request a (distinct a (taken_in ts)) q ≡ q ∷ distinct a (taken_in ts)
     → is_answer_body (answer a (known a (distinct a (taken_in ts))) q stamp).body ≡ true
@@ -224,23 +224,23 @@ or_true true = refl
 or_true false = refl
 
 -- before a turn in which a reply is due, one is due later on
-due_later : (a : Outfit) (later : Bool) (q : Pdu) (stamp : ℕ) (ts : List OwnTurn) (p : Pdu) → reply a (taken_in ts) q stamp ≡ Some p
+due_later : (a : AppProfile) (later : Bool) (q : Pdu) (stamp : ℕ) (ts : List OwnTurn) (p : Pdu) → reply a (taken_in ts) q stamp ≡ Some p
     → AreMeant a (later || is_due a ts q stamp) ts → AreMeant a true ts
 due_later a later q stamp ts p e are = subst (λ (b : Bool). AreMeant a b ts) (ap (λ (o : Option Pdu). later || is_some o) e ∙ or_true later) are
 
-stands_taken : (a : Outfit) → IsOutfitInRange a → (s stamp : ℕ) (later : Bool) (b : List ℕ) (q : Pdu) (ts : List OwnTurn) → IsTaken b q
+stands_taken : (a : AppProfile) → IsProfileInRange a → (s stamp : ℕ) (later : Bool) (b : List ℕ) (q : Pdu) (ts : List OwnTurn) → IsTaken b q
     → IsReplyText (reply a (taken_in ts) q stamp) → AreMeant a (later || is_due a ts q stamp) ts → (is_for a q ≡ true → PassedAlike a q ts)
     → AreSettled a ts
-    → Course a (distinct a (taken_in ts)) q stamp → AnswersStand a (log_in a s ts)
-    → AnswersStand a (sent_after s (reply a (taken_in ts) q stamp) (Get s b ∷ log_in a s ts))
+    → Course a (distinct a (taken_in ts)) q stamp → AnswersHaveNoCause a (log_in a s ts)
+    → AnswersHaveNoCause a (sent_after s (reply a (taken_in ts) q stamp) (Get s b ∷ log_in a s ts))
 stands_taken a station s stamp later b q ts read text are alike settled (Foreign reply_is same out) rest =
-    subst (λ (o : Option Pdu). AnswersStand a (sent_after s o (Get s b ∷ log_in a s ts))) (sym reply_is) rest
+    subst (λ (o : Option Pdu). AnswersHaveNoCause a (sent_after s o (Get s b ∷ log_in a s ts))) (sym reply_is) rest
 stands_taken a station s stamp later b q ts read text are alike settled (Other f own first reply_is same) rest =
-    subst (λ (o : Option Pdu). AnswersStand a (sent_after s o (Get s b ∷ log_in a s ts))) (sym reply_is) rest
+    subst (λ (o : Option Pdu). AnswersHaveNoCause a (sent_after s o (Get s b ∷ log_in a s ts))) (sym reply_is) rest
 stands_taken a station s stamp later b q ts read text are alike settled (Same f own first reply_is same) rest =
     let p = answer_at a f stamp in
     let m = known_text a (taken_in ts) q stamp (known a f.before) f.request (for_at a (taken_in ts) q f first) reply_is text in
-    subst (λ (o : Option Pdu). AnswersStand a (sent_after s o (Get s b ∷ log_in a s ts))) (sym reply_is) (
+    subst (λ (o : Option Pdu). AnswersHaveNoCause a (sent_after s o (Get s b ∷ log_in a s ts))) (sym reply_is) (
       λ r e body. let is : p ≡ r = one_of p r (meaning a.exercise (pdu_text p)) m e in
           subst (λ (w : Pdu). send_cause a.exercise a.station (Get s b ∷ log_in a s ts) w ≡ None) is
           (stands_same a s stamp b q f ts read text (due_later a later q stamp ts p reply_is are) alike settled first same
@@ -250,7 +250,7 @@ stands_taken a station s stamp later b q ts read text are alike settled (Same f 
 stands_taken a station s stamp later b q ts read text are alike settled (Fresh own none reply_is same) rest =
     let p = answer a (known a (distinct a (taken_in ts))) q stamp in
     let m = known_text a (taken_in ts) q stamp (known a (distinct a (taken_in ts))) q own reply_is text in
-    subst (λ (o : Option Pdu). AnswersStand a (sent_after s o (Get s b ∷ log_in a s ts))) (sym reply_is) (
+    subst (λ (o : Option Pdu). AnswersHaveNoCause a (sent_after s o (Get s b ∷ log_in a s ts))) (sym reply_is) (
       λ r e body. let is : p ≡ r = one_of p r (meaning a.exercise (pdu_text p)) m e in
           subst (λ (w : Pdu). send_cause a.exercise a.station (Get s b ∷ log_in a s ts) w ≡ None) is
           (stands_fresh a station s stamp b q ts read text (due_later a later q stamp ts p reply_is are) alike settled own none same
@@ -258,8 +258,8 @@ stands_taken a station s stamp later b q ts read text are alike settled (Fresh o
       rest,
     )
 
-pub stands_turns : (a : Outfit) → IsOutfitInRange a → (s : ℕ) (later : Bool) (ts : List OwnTurn) → AreMeant a later ts → AreSettled a ts
-    → AnswersStand a (log_in a s ts)
+pub stands_turns : (a : AppProfile) → IsProfileInRange a → (s : ℕ) (later : Bool) (ts : List OwnTurn) → AreMeant a later ts → AreSettled a ts
+    → AnswersHaveNoCause a (log_in a s ts)
 stands_turns a station s later [] are settled = tt
 stands_turns a station s later (Tells e y ∷ ts) are settled = stands_turns a station s later ts are settled
 stands_turns a station s later (Orders b o ∷ ts) are settled = (

@@ -21,13 +21,13 @@ use Rattle.exercise_model.specs.Change.{able, responds, key_of, responds_under, 
 use Rattle.exercise_model.specs.State.{changed, change_of, state_after}
 use Rattle.exercise_model.specs.Answered.{IsFirstAble}
 use Rattle.exercise_model.proofs.Offered.{received_keeps, told_keeps, no_change_keeps, others_keep, first_able_changes}
-use Rattle.siman_application.specs.Outfit.{Outfit}
+use Rattle.siman_application.specs.AppProfile.{AppProfile}
 use Rattle.siman_application.specs.Distinct.{Placed, is_for, is_under_key, first_under, with_request, distinct}
 use Rattle.siman_application.specs.Answer.{Knowledge, answer}
 use Rattle.siman_application.specs.KeptRequests.{AreFor, AreSpelled}
 use Rattle.siman_application.specs.Listed.{IsPossible, after}
 use Rattle.siman_application.specs.Play.{play, known, reply, state_over}
-use Rattle.siman_application.specs.Ranges.{IsOutfitInRange}
+use Rattle.siman_application.specs.Ranges.{IsProfileInRange}
 use Rattle.siman_application.specs.OwnLog.{OwnTurn, Tells, Orders, Passes, Takes, Loses, taken_in, sent_after, log_in, is_due}
 use Rattle.siman_application.proofs.Answered.{for_parts, is_answer, answer_stamped, equal_self}
 use Rattle.siman_application.proofs.Played.{key_is, request_id, outside_range, stays_by, states_go_on}
@@ -41,11 +41,11 @@ use Rattle.siman_application.proofs.Acks.{text_of, goes, responds_stamped, silen
 -- The distinct requests are spelled.
 
 -- each is for the station, and its text means it, where it speaks of entities
-pub record AreWhole (a : Outfit) (ds : List Pdu) : Type 0 where
+pub record AreWhole (a : AppProfile) (ds : List Pdu) : Type 0 where
   pub own : AreFor a ds
   pub spelled : AreSpelled a ds
 
-pub whole_taken : (a : Outfit) (q : Pdu) (stamp : ℕ) (ds : List Pdu) → IsOutfitInRange a → IsInRange q → Course a ds q stamp → AreWhole a ds
+pub whole_taken : (a : AppProfile) (q : Pdu) (stamp : ℕ) (ds : List Pdu) → IsProfileInRange a → IsInRange q → Course a ds q stamp → AreWhole a ds
     → AreWhole a (with_request a ds q)
 whole_taken a q stamp ds station range (Foreign reply_is same out) whole = subst (AreWhole a) (sym same) whole
 whole_taken a q stamp ds station range (Same f own first reply_is same) whole = subst (AreWhole a) (sym same) whole
@@ -53,7 +53,7 @@ whole_taken a q stamp ds station range (Other f own first reply_is same) whole =
 whole_taken a q stamp ds station range (Fresh own none reply_is same) whole =
     subst (AreWhole a) (sym same) (record { own = (own, whole.own); spelled = spelled_more a q ds own range station whole.spelled })
 
-pub whole_turns : (a : Outfit) → IsOutfitInRange a → (later : Bool) (ts : List OwnTurn) → AreMeant a later ts → AreWhole a (distinct a (taken_in ts))
+pub whole_turns : (a : AppProfile) → IsProfileInRange a → (later : Bool) (ts : List OwnTurn) → AreMeant a later ts → AreWhole a (distinct a (taken_in ts))
 whole_turns a station later [] are = record { own = tt; spelled = tt }
 whole_turns a station later (Tells e y ∷ ts) are = whole_turns a station later ts are
 whole_turns a station later (Orders b o ∷ ts) are = whole_turns a station later ts are.1
@@ -89,7 +89,7 @@ responds_itself n k p r e =
     ∙ same_key_self k
 
 -- an answer that comes again is no change
-pub again_no_change : (a : Outfit) (s stamp : ℕ) (b : List ℕ) (q : Pdu) (f : Placed) (ts : List OwnTurn) → AreMeant a true ts → is_for a f.request ≡ true
+pub again_no_change : (a : AppProfile) (s stamp : ℕ) (b : List ℕ) (q : Pdu) (f : Placed) (ts : List OwnTurn) → AreMeant a true ts → is_for a f.request ≡ true
     → first_under q (distinct a (taken_in ts)) ≡ Some f
     → is_change a.exercise (answer_at a f stamp) (Get s b ∷ log_in a s ts) ≡ false
 again_no_change a s stamp b q f ts are own first =
@@ -101,7 +101,7 @@ again_no_change a s stamp b q f ts are own first =
     ∙ sym (responds_stamped a f stamp able k own) ∙ responds_itself able k (answer_at a f stamp) r e)
 
 -- nothing was acknowledged under the key of an answer to a request that is the first under its key
-pub fresh_acks : (a : Outfit) (s stamp n : ℕ) (b : List ℕ) (q : Pdu) (ts : List OwnTurn) → AreMeant a true ts → is_for a q ≡ true
+pub fresh_acks : (a : AppProfile) (s stamp n : ℕ) (b : List ℕ) (q : Pdu) (ts : List OwnTurn) → AreMeant a true ts → is_for a q ≡ true
     → first_under q (distinct a (taken_in ts)) ≡ None
     → (k : AcknowledgeKey) → key_of (answer a (known a (distinct a (taken_in ts))) q stamp) ≡ Some k
     → was_acknowledged a.exercise n k (Get s b ∷ log_in a s ts) ≡ false
@@ -114,19 +114,19 @@ fresh_acks a s stamp n b q ts are own none k e =
 -- What an answer takes up.
 
 -- it takes up the same order as the request
-pub record TakenAs (a : Outfit) (p q : Pdu) (log : History) : Type 0 where
+pub record TakenAs (a : AppProfile) (p q : Pdu) (log : History) : Type 0 where
   pub request : Pdu
   pub taken : request_taken_up a.exercise a.station.address p log ≡ Some request
   pub same : IsSameOrder request q
 
-pub taken_first : (a : Outfit) (r p : Pdu) (ts : List OwnTurn) (f : Placed) (log : History) (o : Option Placed) (u : Option Pdu) → o ≡ Some f
+pub taken_first : (a : AppProfile) (r p : Pdu) (ts : List OwnTurn) (f : Placed) (log : History) (o : Option Placed) (u : Option Pdu) → o ≡ Some f
     → request_taken_up a.exercise a.station.address p log ≡ u → TakesUp a r ts o u → TakenAs a p f.request log
 taken_first a r p ts f log None u e t up = absurd cc
 taken_first a r p ts f log (Some g) None e t up = absurd up
 taken_first a r p ts f log (Some g) (Some h) e t up =
     let same : g ≡ f = cc in record { request = h; taken = t; same = subst (λ (i : Placed). IsSameOrder h i.request) same up }
 
-pub takes_up : (a : Outfit) (s stamp : ℕ) (b : List ℕ) (q r p : Pdu) (f : Placed) (ts : List OwnTurn) → IsTaken b q
+pub takes_up : (a : AppProfile) (s stamp : ℕ) (b : List ℕ) (q r p : Pdu) (f : Placed) (ts : List OwnTurn) → IsTaken b q
     → IsReplyText (reply a (taken_in ts) q stamp) → AreMeant a true ts → (is_for a q ≡ true → PassedAlike a q ts) → AreSettled a ts → GoesTo r p
     → first_under r (distinct a (q ∷ taken_in ts)) ≡ Some f → TakenAs a p f.request (Get s b ∷ log_in a s ts)
 takes_up a s stamp b q r p f ts read text are alike settled to first =
@@ -144,7 +144,7 @@ under_itself q e =
     (ap (λ (o : Option ℕ). same_id o (request_id_of q.body)) id.1 ∙ ap (same_id (Some id.0)) id.1 ∙ equal_self id.0)
 
 -- what is taken first is the first under its key from then on
-pub first_then : (a : Outfit) (q : Pdu) (ds : List Pdu) → is_for a q ≡ true → first_under q ds ≡ None → with_request a ds q ≡ q ∷ ds
+pub first_then : (a : AppProfile) (q : Pdu) (ds : List Pdu) → is_for a q ≡ true → first_under q ds ≡ None → with_request a ds q ≡ q ∷ ds
     → first_under q (with_request a ds q) ≡ Some (record { request = q; before = ds })
 first_then a q ds own none same =
     ap (first_under q) same ∙ first_more q q ds
@@ -160,7 +160,7 @@ change_same p q f same = ap (change_of p) same
 
 -- States.
 
-pub fresh_able : (a : Outfit) (s stamp : ℕ) (b : List ℕ) (q f : Pdu) (ts : List OwnTurn) → AreMeant a true ts → is_for a q ≡ true
+pub fresh_able : (a : AppProfile) (s stamp : ℕ) (b : List ℕ) (q f : Pdu) (ts : List OwnTurn) → AreMeant a true ts → is_for a q ≡ true
     → first_under q (distinct a (taken_in ts)) ≡ None
     → (p : Pdu) → p ≡ answer a (known a (distinct a (taken_in ts))) q stamp → meaning a.exercise (pdu_text p) ≡ Some p → responds able p ≡ true
     → request_taken_up a.exercise a.station.address p (Get s b ∷ log_in a s ts) ≡ Some f → IsSameOrder f q
@@ -175,7 +175,7 @@ fresh_able a s stamp b q f ts are own none p is m r taken same =
       fresh = λ k e. fresh_acks a s stamp able b q ts are own none k (ap key_of (sym is) ∙ e);
     }
 
-pub fresh_state_able : (a : Outfit) (s : ℕ) (c : List ℕ) (q f p : Pdu) (log : History) (ds : List Pdu) → IsFirstAble a.exercise a.station log c f p
+pub fresh_state_able : (a : AppProfile) (s : ℕ) (c : List ℕ) (q f p : Pdu) (log : History) (ds : List Pdu) → IsFirstAble a.exercise a.station log c f p
     → IsSameOrder f q → IsPossible (change_of p q) (λ e. state_over a ds e)
     → ((e : ℕ) → state_after a.exercise a.station log e ≡ state_over a ds e) → (e : ℕ) (b : Bool) → is_entity e ≡ b
     → state_after a.exercise a.station (Send s c ∷ log) e ≡ changed e (state_over a ds e) (change_of p q)
@@ -189,7 +189,7 @@ fresh_state_able a s c q f p log ds first same can rest e false v =
     ∙ stays_by (body_kind q.body) (scope_of (body_kind q.body) q.target.entity p.origin.entity) e (λ e. state_over a ds e) can.possible v)
 
 -- the state that the answer to a first request leaves
-pub fresh_state : (a : Outfit) (s stamp : ℕ) (b : List ℕ) (q f p : Pdu) (ts : List OwnTurn) → AreMeant a true ts → is_for a q ≡ true
+pub fresh_state : (a : AppProfile) (s stamp : ℕ) (b : List ℕ) (q f p : Pdu) (ts : List OwnTurn) → AreMeant a true ts → is_for a q ≡ true
     → first_under q (distinct a (taken_in ts)) ≡ None
     → p ≡ answer a (known a (distinct a (taken_in ts))) q stamp → meaning a.exercise (pdu_text p) ≡ Some p
     → request_taken_up a.exercise a.station.address p (Get s b ∷ log_in a s ts) ≡ Some f → IsSameOrder f q
@@ -210,12 +210,12 @@ fresh_state a s stamp b q f p ts are own none is m taken same rest e = by (respo
       got e (is_entity e) refl
   by false r = others_keep a.exercise a.station (Get s b ∷ log_in a s ts) s (pdu_text p) p m r e ∙ got e
 
-pub known_text : (a : Outfit) (qs : List Pdu) (q : Pdu) (stamp : ℕ) (k : Knowledge) (d : Pdu) → is_for a d ≡ true
+pub known_text : (a : AppProfile) (qs : List Pdu) (q : Pdu) (stamp : ℕ) (k : Knowledge) (d : Pdu) → is_for a d ≡ true
     → reply a qs q stamp ≡ Some (answer a k d stamp) → IsReplyText (reply a qs q stamp)
     → meaning a.exercise (pdu_text (answer a k d stamp)) ≡ Some (answer a k d stamp)
 known_text a qs q stamp k d own is text = answer_means a k d stamp own (text_of (reply a qs q stamp) (answer a k d stamp) is text)
 
-pub states_taken : (a : Outfit) → IsOutfitInRange a → (s stamp : ℕ) (b : List ℕ) (q : Pdu) (ts : List OwnTurn) → IsTaken b q
+pub states_taken : (a : AppProfile) → IsProfileInRange a → (s stamp : ℕ) (b : List ℕ) (q : Pdu) (ts : List OwnTurn) → IsTaken b q
     → IsReplyText (reply a (taken_in ts) q stamp) → AreMeant a true ts → (is_for a q ≡ true → PassedAlike a q ts) → AreSettled a ts
     → Course a (distinct a (taken_in ts)) q stamp
     → ((e : ℕ) → state_after a.exercise a.station (log_in a s ts) e ≡ state_over a (distinct a (taken_in ts)) e)
@@ -248,12 +248,12 @@ states_taken a station s stamp b q ts read text are alike settled (Fresh own non
     ∙ sym (states_go_on a q ds own whole.own (spelled_more a q ds own read.ranges station whole.spelled) none e)
     ∙ sym (ap (λ (xs : List Pdu). state_over a xs e) same)
 
-pub state_start : (a : Outfit) (s e : ℕ) → state_after a.exercise a.station (log_in a s []) e ≡ state_over a [] e
+pub state_start : (a : AppProfile) (s e : ℕ) → state_after a.exercise a.station (log_in a s []) e ≡ state_over a [] e
 unfolding play
 state_start a s e = refl
 
 -- THE STATES after a log of turns
-pub states_turns : (a : Outfit) → IsOutfitInRange a → (s : ℕ) (ts : List OwnTurn) → AreMeant a true ts → AreSettled a ts → (e : ℕ)
+pub states_turns : (a : AppProfile) → IsProfileInRange a → (s : ℕ) (ts : List OwnTurn) → AreMeant a true ts → AreSettled a ts → (e : ℕ)
     → state_after a.exercise a.station (log_in a s ts) e ≡ state_over a (distinct a (taken_in ts)) e
 states_turns a station s [] are settled e = state_start a s e
 states_turns a station s (Tells n y ∷ ts) are settled e =

@@ -15,7 +15,7 @@ use Rattle.siman_pdus.specs.Spelling.{pdu_text}
 use Rattle.exercise_model.specs.History.{History, Send, Get, Tell}
 use Rattle.exercise_model.specs.Meaning.{is_outside, meant, meaning}
 use Rattle.exercise_model.specs.Exchange.{is_asked, request_brought, request_taken_up}
-use Rattle.siman_application.specs.Outfit.{Outfit}
+use Rattle.siman_application.specs.AppProfile.{AppProfile}
 use Rattle.siman_application.specs.Distinct.{Placed, is_for, is_under_key, first_under, with_request, distinct}
 use Rattle.siman_application.specs.Answer.{answer}
 use Rattle.siman_application.specs.Play.{known, reply, reply_after, answer_under}
@@ -101,7 +101,7 @@ pub record GoesTo (r p : Pdu) : Type 0 where
   pub id : request_id_of p.body ≡ request_id_of r.body
 
 -- the answer to a request among the distinct ones
-abbrev pub answer_at : Outfit → Placed → ℕ → Pdu
+abbrev pub answer_at : AppProfile → Placed → ℕ → Pdu
 answer_at a f stamp = answer a (known a f.before) f.request stamp
 
 -- Meanings.
@@ -119,7 +119,7 @@ meant_for x b q e = by (reading b) e where
   by (Some p) f = here p (p.exercise == x) (not (is_outside (role_of p.body))) refl f
 
 -- what is asked of the station and meant is for it
-asked_parts : (a : Outfit) (p q : Pdu) → is_asked a.station.address p q ≡ true
+asked_parts : (a : AppProfile) (p q : Pdu) → is_asked a.station.address p q ≡ true
     → (is_request_body q.body ≡ true) × (is_addressed q.target a.station.address ≡ true) × (same_id (request_id_of p.body) (request_id_of q.body) ≡ true) ×
     (same_pair q.origin p.target ≡ true)
 asked_parts a p q e =
@@ -129,13 +129,13 @@ asked_parts a p q e =
     let e3 = and_parts (same_id (request_id_of p.body) (request_id_of q.body)) (same_pair q.origin p.target) e2.1 in
     (e1.0, e2.0, e3.0, e3.1)
 
-pub asked_for : (a : Outfit) (b : List ℕ) (p q : Pdu) → meaning a.exercise b ≡ Some q → is_asked a.station.address p q ≡ true → is_for a q ≡ true
+pub asked_for : (a : AppProfile) (b : List ℕ) (p q : Pdu) → meaning a.exercise b ≡ Some q → is_asked a.station.address p q ≡ true → is_for a q ≡ true
 asked_for a b p q m e =
     let parts = asked_parts a p q e in
     and_from (q.exercise == a.exercise) (is_request_body q.body && is_addressed q.target a.station.address) (meant_for a.exercise b q m)
     (and_from (is_request_body q.body) (is_addressed q.target a.station.address) parts.0 parts.1)
 
-pub asked_under : (a : Outfit) (r p q : Pdu) → GoesTo r p → is_asked a.station.address p q ≡ true → is_under_key r q ≡ true
+pub asked_under : (a : AppProfile) (r p q : Pdu) → GoesTo r p → is_asked a.station.address p q ≡ true → is_under_key r q ≡ true
 asked_under a r p q goes e =
     let parts = asked_parts a p q e in
     and_from (same_pair r.origin q.origin) (same_id (request_id_of r.body) (request_id_of q.body))
@@ -143,7 +143,7 @@ asked_under a r p q goes e =
     (ap (λ (o : Option ℕ). same_id o (request_id_of q.body)) (sym goes.id) ∙ parts.2)
 
 -- a request under the key is asked for
-pub under_asked : (a : Outfit) (r p q : Pdu) → GoesTo r p → is_for a q ≡ true → is_under_key r q ≡ true → is_asked a.station.address p q ≡ true
+pub under_asked : (a : AppProfile) (r p q : Pdu) → GoesTo r p → is_for a q ≡ true → is_under_key r q ≡ true → is_asked a.station.address p q ≡ true
 under_asked a r p q goes own e =
     let parts = for_parts a q own in
     let u = and_parts (same_pair r.origin q.origin) (same_id (request_id_of r.body) (request_id_of q.body)) e in
@@ -156,23 +156,23 @@ under_asked a r p q goes own e =
 
 -- What a reply can be.
 
-pub reply_own : (a : Outfit) (ds : List Pdu) (q : Pdu) (stamp : ℕ) (b : Bool) → is_for a q ≡ b
+pub reply_own : (a : AppProfile) (ds : List Pdu) (q : Pdu) (stamp : ℕ) (b : Bool) → is_for a q ≡ b
     → reply_after a ds q stamp ≡ (if b then answer_under a ds q stamp (first_under q ds) else None)
 reply_own a ds q stamp b e = ap (λ (v : Bool). if v then answer_under a ds q stamp (first_under q ds) else None) e
 
-pub joins_own : (a : Outfit) (ds : List Pdu) (q : Pdu) (b : Bool) → is_for a q ≡ b → (o : Option Placed) → first_under q ds ≡ o
+pub joins_own : (a : AppProfile) (ds : List Pdu) (q : Pdu) (b : Bool) → is_for a q ≡ b → (o : Option Placed) → first_under q ds ≡ o
     → with_request a ds q ≡ (if b && is_none o then q ∷ ds else ds)
 joins_own a ds q b e o f =
     ap (λ (v : Bool). if v && is_none (first_under q ds) then q ∷ ds else ds) e ∙ ap (λ (p : Option Placed). if b && is_none p then q ∷ ds else ds) f
 
 -- How a turn in which a PDU is taken goes: it is not for the station, or it is and is the first under its key, or its key is known.
-pub data Course (a : Outfit) (ds : List Pdu) (q : Pdu) (stamp : ℕ) : Type 0 where
+pub data Course (a : AppProfile) (ds : List Pdu) (q : Pdu) (stamp : ℕ) : Type 0 where
   Foreign : reply_after a ds q stamp ≡ None → with_request a ds q ≡ ds → is_for a q ≡ false → Course a ds q stamp
   Fresh : is_for a q ≡ true → first_under q ds ≡ None → reply_after a ds q stamp ≡ Some (answer a (known a ds) q stamp) → with_request a ds q ≡ q ∷ ds → Course a ds q stamp
   Same : (f : Placed) → is_for a q ≡ true → first_under q ds ≡ Some f → reply_after a ds q stamp ≡ Some (answer_at a f stamp) → with_request a ds q ≡ ds → Course a ds q stamp
   Other : (f : Placed) → is_for a q ≡ true → first_under q ds ≡ Some f → reply_after a ds q stamp ≡ None → with_request a ds q ≡ ds → Course a ds q stamp
 
-course_known : (a : Outfit) (ds : List Pdu) (q : Pdu) (stamp : ℕ) (f : Placed) → is_for a q ≡ true → first_under q ds ≡ Some f → (b : Bool)
+course_known : (a : AppProfile) (ds : List Pdu) (q : Pdu) (stamp : ℕ) (f : Placed) → is_for a q ≡ true → first_under q ds ≡ Some f → (b : Bool)
     → is_same_order q f.request ≡ b → Course a ds q stamp
 course_known a ds q stamp f own e true s =
     Same f own e (reply_own a ds q stamp true own ∙ ap (answer_under a ds q stamp) e ∙ ap (λ (v : Bool). if v then Some (answer_at a f stamp) else None) s)
@@ -181,20 +181,20 @@ course_known a ds q stamp f own e false s =
     Other f own e (reply_own a ds q stamp true own ∙ ap (answer_under a ds q stamp) e ∙ ap (λ (v : Bool). if v then Some (answer_at a f stamp) else None) s)
     (joins_own a ds q true own (Some f) e)
 
-course_by : (a : Outfit) (ds : List Pdu) (q : Pdu) (stamp : ℕ) (b : Bool) → is_for a q ≡ b → (o : Option Placed) → first_under q ds ≡ o
+course_by : (a : AppProfile) (ds : List Pdu) (q : Pdu) (stamp : ℕ) (b : Bool) → is_for a q ≡ b → (o : Option Placed) → first_under q ds ≡ o
     → Course a ds q stamp
 course_by a ds q stamp false own o e = Foreign (reply_own a ds q stamp false own) (joins_own a ds q false own (first_under q ds) refl) own
 course_by a ds q stamp true own None e =
     Fresh own e (reply_own a ds q stamp true own ∙ ap (answer_under a ds q stamp) e) (joins_own a ds q true own None e)
 course_by a ds q stamp true own (Some f) e = course_known a ds q stamp f own e (is_same_order q f.request) refl
 
-pub course : (a : Outfit) (ds : List Pdu) (q : Pdu) (stamp : ℕ) → Course a ds q stamp
+pub course : (a : AppProfile) (ds : List Pdu) (q : Pdu) (stamp : ℕ) → Course a ds q stamp
 course a ds q stamp = course_by a ds q stamp (is_for a q) refl (first_under q ds) refl
 
 -- The request that is taken up.
 
 -- each datagram that was passed and means a request for the station under the key of q is the same order
-abbrev pub PassedAlike : Outfit → Pdu → List OwnTurn → Type 0
+abbrev pub PassedAlike : AppProfile → Pdu → List OwnTurn → Type 0
 PassedAlike a q [] = Unit {0}
 PassedAlike a q (Tells e y ∷ ts) = PassedAlike a q ts
 PassedAlike a q (Orders b o ∷ ts) = PassedAlike a q ts
@@ -204,7 +204,7 @@ PassedAlike a q (Takes b p stamp ∷ ts) = PassedAlike a q ts
 PassedAlike a q (Loses b p stamp ∷ ts) = PassedAlike a q ts
 
 -- what is taken is the same order as what was passed before under its key
-abbrev pub AreSettled : Outfit → List OwnTurn → Type 0
+abbrev pub AreSettled : AppProfile → List OwnTurn → Type 0
 AreSettled a [] = Unit {0}
 AreSettled a (Tells e y ∷ ts) = AreSettled a ts
 AreSettled a (Orders b o ∷ ts) = AreSettled a ts
@@ -213,14 +213,14 @@ AreSettled a (Takes b q stamp ∷ ts) = (is_for a q ≡ true → PassedAlike a q
 AreSettled a (Loses b q stamp ∷ ts) = (is_for a q ≡ true → PassedAlike a q ts) × AreSettled a ts
 
 -- what is taken up by an answer to r, where the first of the distinct requests under its key is this: the same order as that; without one, at most what was passed
-abbrev pub TakesUp : Outfit → Pdu → List OwnTurn → Option Placed → Option Pdu → Type 0
+abbrev pub TakesUp : AppProfile → Pdu → List OwnTurn → Option Placed → Option Pdu → Type 0
 TakesUp a r ts None None = Unit {0}
 TakesUp a r ts None (Some f) = (is_under_key r f ≡ true) × ((q : Pdu) → PassedAlike a q ts → is_under_key q f ≡ true → IsSameOrder f q)
 TakesUp a r ts (Some g) None = ⊥
 TakesUp a r ts (Some g) (Some f) = IsSameOrder f g.request
 
 -- a get goes on with what was taken up before, or else with what it brings
-pub up_get : (a : Outfit) (p : Pdu) (s : ℕ) (b : List ℕ) (log : History)
+pub up_get : (a : AppProfile) (p : Pdu) (s : ℕ) (b : List ℕ) (log : History)
     → request_taken_up a.exercise a.station.address p (Get s b ∷ log) ≡ option_or (request_taken_up a.exercise a.station.address p log)
     (request_brought a.exercise a.station.address p (Get s b))
 unfolding request_taken_up
@@ -230,27 +230,27 @@ or_none : {X : Type 0} (o : Option X) → option_or o None ≡ o
 or_none None = refl
 or_none (Some x) = refl
 
-pub up_send : (a : Outfit) (p : Pdu) (s : ℕ) (b : List ℕ) (log : History)
+pub up_send : (a : AppProfile) (p : Pdu) (s : ℕ) (b : List ℕ) (log : History)
     → request_taken_up a.exercise a.station.address p (Send s b ∷ log) ≡ request_taken_up a.exercise a.station.address p log
 unfolding request_taken_up
 up_send a p s b log = or_none (request_taken_up a.exercise a.station.address p log)
 
-up_tell : (a : Outfit) (p : Pdu) (s e : ℕ) (y : EntityState) (log : History)
+up_tell : (a : AppProfile) (p : Pdu) (s e : ℕ) (y : EntityState) (log : History)
     → request_taken_up a.exercise a.station.address p (Tell s e y ∷ log) ≡ request_taken_up a.exercise a.station.address p log
 unfolding request_taken_up
 up_tell a p s e y log = or_none (request_taken_up a.exercise a.station.address p log)
 
-pub up_sent : (a : Outfit) (p : Pdu) (s : ℕ) (o : Option Pdu) (log : History)
+pub up_sent : (a : AppProfile) (p : Pdu) (s : ℕ) (o : Option Pdu) (log : History)
     → request_taken_up a.exercise a.station.address p (sent_after s o log) ≡ request_taken_up a.exercise a.station.address p log
 up_sent a p s None log = refl
 up_sent a p s (Some r) log = up_send a p s (pdu_text r) log
 
 -- what a datagram brings: nothing, or a request for the station under the key
-data Brought (a : Outfit) (r p : Pdu) (b : List ℕ) (o : Option Pdu) : Type 0 where
+data Brought (a : AppProfile) (r p : Pdu) (b : List ℕ) (o : Option Pdu) : Type 0 where
   Nothing : o ≡ None → Brought a r p b o
   Request : (f : Pdu) → o ≡ Some f → meaning a.exercise b ≡ Some f → is_for a f ≡ true → is_under_key r f ≡ true → Brought a r p b o
 
-brought_by : (a : Outfit) (r p : Pdu) (s : ℕ) (b : List ℕ) → GoesTo r p → Brought a r p b (request_brought a.exercise a.station.address p (Get s b))
+brought_by : (a : AppProfile) (r p : Pdu) (s : ℕ) (b : List ℕ) → GoesTo r p → Brought a r p b (request_brought a.exercise a.station.address p (Get s b))
 brought_by a r p s b goes = by (meaning a.exercise b) refl where
   asked : (f : Pdu) → meaning a.exercise b ≡ Some f → (v : Bool) → is_asked a.station.address p f ≡ v → Brought a r p b (if v then Some f else None)
   asked f m true e = Request f refl m (asked_for a b p f m e) (asked_under a r p f goes e)
@@ -265,7 +265,7 @@ pub same_itself : (q : Pdu) → IsSameOrder q q
 same_itself q = refl
 
 -- a passed datagram
-up_passed : (a : Outfit) (r p : Pdu) (b : List ℕ) (ts : List OwnTurn) (o : Option Placed) (u c : Option Pdu) → Brought a r p b c → TakesUp a r ts o u
+up_passed : (a : AppProfile) (r p : Pdu) (b : List ℕ) (ts : List OwnTurn) (o : Option Placed) (u c : Option Pdu) → Brought a r p b c → TakesUp a r ts o u
     → TakesUp a r (Passes b ∷ ts) o (option_or u c)
 up_passed a r p b ts None None c (Nothing e) up = subst (TakesUp a r (Passes b ∷ ts) None) (sym e) tt
 up_passed a r p b ts None None c (Request f e m own under) up =
@@ -284,20 +284,20 @@ read_meant x b q f e m = here ((q.exercise == x) && not (is_outside (role_of q.b
   here false h = absurd cc
 
 -- a datagram that is read as q brings nothing, where q is not for the station or under another key
-brings_none : (a : Outfit) (r p q : Pdu) (b : List ℕ) (c : Option Pdu) → reading b ≡ Some q → Brought a r p b c
+brings_none : (a : AppProfile) (r p q : Pdu) (b : List ℕ) (c : Option Pdu) → reading b ≡ Some q → Brought a r p b c
     → (is_for a q ≡ true → is_under_key r q ≡ true → ⊥) → c ≡ None
 brings_none a r p q b c e (Nothing n) other = n
 brings_none a r p q b c e (Request f is m own under) other =
     let same = read_meant a.exercise b q f e m in absurd (other (ap (is_for a) same ∙ own) (ap (is_under_key r) same ∙ under))
 
-brings_it : (a : Outfit) (r p q : Pdu) (s : ℕ) (b : List ℕ) → GoesTo r p → reading b ≡ Some q → is_for a q ≡ true → is_under_key r q ≡ true
+brings_it : (a : AppProfile) (r p q : Pdu) (s : ℕ) (b : List ℕ) → GoesTo r p → reading b ≡ Some q → is_for a q ≡ true → is_under_key r q ≡ true
     → request_brought a.exercise a.station.address p (Get s b) ≡ Some q
 brings_it a r p q s b goes e own under =
     ap (λ (o : Option Pdu). option_and_then (λ q. if is_asked a.station.address p q then Some q else None) o) (taken_means a b q e own)
     ∙ ap (λ (v : Bool). if v then Some q else None) (under_asked a r p q goes own under)
 
 -- the same, after more turns that pass nothing
-up_later : (a : Outfit) (r : Pdu) (ts us : List OwnTurn) → ((q : Pdu) → PassedAlike a q us → PassedAlike a q ts) → (o : Option Placed) (u : Option Pdu)
+up_later : (a : AppProfile) (r : Pdu) (ts us : List OwnTurn) → ((q : Pdu) → PassedAlike a q us → PassedAlike a q ts) → (o : Option Placed) (u : Option Pdu)
     → TakesUp a r ts o u → TakesUp a r us o u
 up_later a r ts us less None None up = tt
 up_later a r ts us less None (Some f) up = (up.0, λ q alike u. up.1 q (less q alike) u)
@@ -305,19 +305,19 @@ up_later a r ts us less (Some g) None up = absurd up
 up_later a r ts us less (Some g) (Some f) up = up
 
 -- nothing new is taken up
-up_kept : (a : Outfit) (r : Pdu) (ts : List OwnTurn) (o : Option Placed) (u c : Option Pdu) → (o ≡ None → c ≡ None) → TakesUp a r ts o u
+up_kept : (a : AppProfile) (r : Pdu) (ts : List OwnTurn) (o : Option Placed) (u c : Option Pdu) → (o ≡ None → c ≡ None) → TakesUp a r ts o u
     → TakesUp a r ts o (option_or u c)
 up_kept a r ts None None c none up = subst (TakesUp a r ts None) (sym (none refl)) tt
 up_kept a r ts None (Some f) c none up = up
 up_kept a r ts (Some g) None c none up = absurd up
 up_kept a r ts (Some g) (Some f) c none up = up
 
-up_joined : (a : Outfit) (r q : Pdu) (ds : List Pdu) (ts : List OwnTurn) (u c : Option Pdu) → PassedAlike a q ts → c ≡ Some q → is_under_key r q ≡ true
+up_joined : (a : AppProfile) (r q : Pdu) (ds : List Pdu) (ts : List OwnTurn) (u c : Option Pdu) → PassedAlike a q ts → c ≡ Some q → is_under_key r q ≡ true
     → TakesUp a r ts None u → TakesUp a r ts (Some (record { request = q; before = ds })) (option_or u c)
 up_joined a r q ds ts None c alike is under up = subst (TakesUp a r ts (Some (record { request = q; before = ds }))) (sym is) (same_itself q)
 up_joined a r q ds ts (Some f) c alike is under up = up.1 q alike (sym (under_same r q f (same_key_of r q under)) ∙ up.0)
 
-up_fresh : (a : Outfit) (r q : Pdu) (ds : List Pdu) (ts : List OwnTurn) (o : Option Placed) (u c : Option Pdu) → PassedAlike a q ts → TakesUp a r ts o u
+up_fresh : (a : AppProfile) (r q : Pdu) (ds : List Pdu) (ts : List OwnTurn) (o : Option Placed) (u c : Option Pdu) → PassedAlike a q ts → TakesUp a r ts o u
     → (b : Bool) → is_under_key r q ≡ b
     → (b ≡ true → c ≡ Some q) → (b ≡ false → c ≡ None)
     → TakesUp a r ts (option_or o (if b then Some (record { request = q; before = ds }) else None)) (option_or u c)
@@ -327,10 +327,10 @@ up_fresh a r q ds ts (Some g) None c alike up b under is none = absurd up
 up_fresh a r q ds ts (Some g) (Some f) c alike up b under is none = up
 
 -- a known key
-known_key : (a : Outfit) (r q : Pdu) (ds : List Pdu) (f : Placed) → first_under q ds ≡ Some f → first_under r ds ≡ None → is_under_key r q ≡ true → ⊥
+known_key : (a : AppProfile) (r q : Pdu) (ds : List Pdu) (f : Placed) → first_under q ds ≡ Some f → first_under r ds ≡ None → is_under_key r q ≡ true → ⊥
 known_key a r q ds f first none under = let clash : None ≡ Some f = sym none ∙ first_same r q (same_key_of r q under) ds ∙ first in absurd cc
 
-up_taken : (a : Outfit) (r p q : Pdu) (s stamp : ℕ) (b : List ℕ) (ds : List Pdu) (ts : List OwnTurn) (u : Option Pdu) → GoesTo r p → reading b ≡ Some q
+up_taken : (a : AppProfile) (r p q : Pdu) (s stamp : ℕ) (b : List ℕ) (ds : List Pdu) (ts : List OwnTurn) (u : Option Pdu) → GoesTo r p → reading b ≡ Some q
     → (is_for a q ≡ true → PassedAlike a q ts) → Course a ds q stamp
     → TakesUp a r ts (first_under r ds) u
     → TakesUp a r ts (first_under r (with_request a ds q)) (option_or u (request_brought a.exercise a.station.address p (Get s b)))
@@ -357,12 +357,12 @@ up_taken a r p q s stamp b ds ts u goes e alike (Fresh own none reply same) up =
     (λ under. brings_none a r p q b (request_brought a.exercise a.station.address p (Get s b)) e (brought_by a r p s b goes)
     (λ own yes. let clash : true ≡ false = sym yes ∙ under in absurd cc))))
 
-up_start : (a : Outfit) (r p : Pdu) (s : ℕ) → TakesUp a r [] (first_under r []) (request_taken_up a.exercise a.station.address p (log_in a s []))
+up_start : (a : AppProfile) (r p : Pdu) (s : ℕ) → TakesUp a r [] (first_under r []) (request_taken_up a.exercise a.station.address p (log_in a s []))
 unfolding first_under request_taken_up
 up_start a r p s = tt
 
 -- THE REQUEST THAT IS TAKEN UP in a log of turns
-pub up_turns : (a : Outfit) (s : ℕ) (later : Bool) (ts : List OwnTurn) → AreMeant a later ts → AreSettled a ts → (r p : Pdu) → GoesTo r p
+pub up_turns : (a : AppProfile) (s : ℕ) (later : Bool) (ts : List OwnTurn) → AreMeant a later ts → AreSettled a ts → (r p : Pdu) → GoesTo r p
     → TakesUp a r ts (first_under r (distinct a (taken_in ts))) (request_taken_up a.exercise a.station.address p (log_in a s ts))
 up_turns a s later [] are settled r p goes = up_start a r p s
 up_turns a s later (Tells e y ∷ ts) are settled r p goes =

@@ -18,7 +18,7 @@ use Rattle.siman_pdus.specs.Spelling.{body_kind, pdu_size}
 use Rattle.exercise_model.specs.Station.{is_entity, is_absent}
 use Rattle.exercise_model.specs.Change.{able, unable}
 use Rattle.exercise_model.specs.Place.{first_below}
-use Rattle.siman_application.specs.Outfit.{Outfit}
+use Rattle.siman_application.specs.AppProfile.{AppProfile}
 use Rattle.siman_application.specs.Records.{fixed_id, variable_id, last_under, stored, found}
 
 -- what an application knows: the state of each entity, and the record that it holds under each datum identifier
@@ -60,7 +60,7 @@ own_number kind n = if is_open kind n then 0 else n
 -- Answers.
 
 -- the answer to q from entity number m: in the request's version, of the exercise, status 0, to the request's originator
-abbrev pub answer_pdu : Outfit → Pdu → ℕ → ℕ → Body → Pdu
+abbrev pub answer_pdu : AppProfile → Pdu → ℕ → ℕ → Body → Pdu
 answer_pdu a q stamp m body = record {
   version = q.version;
   exercise = a.exercise;
@@ -72,23 +72,23 @@ answer_pdu a q stamp m body = record {
 }
 
 -- the answer from the number of the request
-abbrev pub plain_answer : Outfit → Pdu → ℕ → Body → Pdu
+abbrev pub plain_answer : AppProfile → Pdu → ℕ → Body → Pdu
 plain_answer a q stamp body = answer_pdu a q stamp (own_number (body_kind q.body) q.target.entity) body
 
 -- the Acknowledge of a Create Entity, with flag 1: able, from the number that is created, or unable
-abbrev pub created : Outfit → Pdu → ℕ → ℕ → Option ℕ → Pdu
+abbrev pub created : AppProfile → Pdu → ℕ → ℕ → Option ℕ → Pdu
 created a q stamp request None = plain_answer a q stamp (Acknowledge 1 unable request)
 created a q stamp request (Some m) = answer_pdu a q stamp m (Acknowledge 1 able request)
 
 -- the Acknowledge of a Remove Entity (flag 2), Start/Resume (3) or Stop/Freeze (4): able if it is for all entities
 -- or for a present one
-abbrev pub obeyed : Outfit → (ℕ → EntityState) → Pdu → ℕ → ℕ → ℕ → Pdu
+abbrev pub obeyed : AppProfile → (ℕ → EntityState) → Pdu → ℕ → ℕ → ℕ → Pdu
 obeyed a y q stamp flag request =
     plain_answer a q stamp (Acknowledge flag (if is_meant (body_kind q.body) y q.target.entity then able else unable) request)
 
 -- the request status of an Action Response: 4 (complete) if the action is known, for all entities or for a present
 -- one; else 5 (rejected)
-abbrev pub action_status : Outfit → (ℕ → EntityState) → Pdu → ℕ → ℕ
+abbrev pub action_status : AppProfile → (ℕ → EntityState) → Pdu → ℕ → ℕ
 action_status a y q action =
     if list_any (λ known. known == action) a.actions && is_meant (body_kind q.body) y q.target.entity then 4 else 5
 
@@ -110,11 +110,11 @@ abbrev pub record_count : DatumLists → ℕ
 record_count d = length d.fixed + length d.variable
 
 -- the Data that answers q with these records
-abbrev pub data_pdu : Outfit → Pdu → ℕ → ℕ → DatumLists → Pdu
+abbrev pub data_pdu : AppProfile → Pdu → ℕ → ℕ → DatumLists → Pdu
 data_pdu a q stamp request d = plain_answer a q stamp (DataPdu request d)
 
 -- a Data with the longest prefix of the records with which it has at most 8192 bytes
-abbrev pub data_answer : Outfit → Pdu → ℕ → ℕ → DatumLists → Pdu
+abbrev pub data_answer : AppProfile → Pdu → ℕ → ℕ → DatumLists → Pdu
 data_answer a q stamp request d =
     data_pdu a q stamp request (first_records (largest (λ k. nat_le (pdu_size (data_pdu a q stamp request (first_records k d))) LARGEST_DATAGRAM) (record_count d)) d)
 
@@ -138,8 +138,8 @@ brought (EventReport event datums) = no_datums
 brought (Comment datums) = no_datums
 
 -- what is known after these records are stored: under each identifier that is held, the last of them
-abbrev pub told_of : DatumLists → Knowledge → Knowledge
-told_of d k = record {
+abbrev pub result_of : DatumLists → Knowledge → Knowledge
+result_of d k = record {
   states = k.states;
   fixed = λ id. stored (last_under fixed_id id d.fixed) (k.fixed id);
   variable = λ id. stored (last_under variable_id id d.variable) (k.variable id);
@@ -151,7 +151,7 @@ ids_of d = record { fixed = map fixed_id d.fixed; variable = map variable_id d.v
 
 -- THE ANSWER TO A NEW REQUEST q, with this timestamp; a body that is no request has none, and the result is the PDU
 -- itself
-abbrev pub answer_by : Outfit → Knowledge → Pdu → ℕ → Body → Pdu
+abbrev pub answer_by : AppProfile → Knowledge → Pdu → ℕ → Body → Pdu
 answer_by a k q stamp (CreateEntity request) = created a q stamp request (chosen k.states q.target.entity)
 answer_by a k q stamp (RemoveEntity request) = obeyed a k.states q stamp 2 request
 answer_by a k q stamp (StartResume real sim request) = obeyed a k.states q stamp 3 request
@@ -163,12 +163,12 @@ answer_by a k q stamp (ActionResponse request status datums) = q
 -- the interval is ignored
 answer_by a k q stamp (DataQuery request interval ids) = data_answer a q stamp request (held_records k ids)
 -- the values are those after all storing
-answer_by a k q stamp (SetData request datums) = data_answer a q stamp request (held_records (told_of datums k) (ids_of datums))
+answer_by a k q stamp (SetData request datums) = data_answer a q stamp request (held_records (result_of datums k) (ids_of datums))
 answer_by a k q stamp (DataPdu request datums) = q
 answer_by a k q stamp (EventReport event datums) = q
 answer_by a k q stamp (Comment datums) = q
 
-abbrev pub answer : Outfit → Knowledge → Pdu → ℕ → Pdu
+abbrev pub answer : AppProfile → Knowledge → Pdu → ℕ → Pdu
 answer a k q stamp = answer_by a k q stamp q.body
 
 abbrev pub with_stamp : ℕ → Pdu → Pdu

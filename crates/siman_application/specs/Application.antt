@@ -2,14 +2,14 @@
 use Rattle.std.specs.Prelude.{◌≡◌, List, Bool, ◌&&◌, is_none, Result, Ok, Err}
 use Rattle.siman_pdus.specs.declared.pdu.Pdu.{Pdu}
 use Rattle.siman_application.specs.declared.fault.AppFault.{AppFault}
-use Rattle.siman_application.specs.declared.kept.KeptRequest.{KeptRequest}
-use Rattle.siman_application.specs.Outfit.{Outfit}
+use Rattle.siman_application.specs.declared.kept.AnsweredRequest.{AnsweredRequest}
+use Rattle.siman_application.specs.AppProfile.{AppProfile}
 use Rattle.siman_application.specs.Distinct.{is_for, first_under, with_request}
 use Rattle.siman_application.specs.KeptRequests.{requests}
 
 pub record ApplicationData : Type 0 where
-  pub outfit : Outfit
-  pub kept : List KeptRequest
+  pub outfit : AppProfile
+  pub kept : List AnsweredRequest
 
 -- the distinct requests that were received, the last first
 abbrev pub came : ApplicationData → List Pdu

@@ -5,10 +5,10 @@ use Rattle.dis_records.specs.Entity.{is_addressed}
 use Rattle.siman_pdus.specs.declared.pdu.Pdu.{Pdu}
 use Rattle.siman_pdus.specs.Answers.{same_id, same_pair}
 use Rattle.siman_pdus.specs.Role.{is_request_body, request_id_of}
-use Rattle.siman_application.specs.Outfit.{Outfit}
+use Rattle.siman_application.specs.AppProfile.{AppProfile}
 
 -- the PDU is of the exercise, is a request, and addresses the station
-abbrev pub is_for : Outfit → Pdu → Bool
+abbrev pub is_for : AppProfile → Pdu → Bool
 is_for a q = (q.exercise == a.exercise) && (is_request_body q.body && is_addressed q.target a.station.address)
 
 -- the two requests have one KEY: originating site and application, and request identifier
@@ -26,10 +26,10 @@ first_under q [] = None
 first_under q (d ∷ ds) = option_or (first_under q ds) (if is_under_key q d then Some (record { request = d; before = ds }) else None)
 
 -- the distinct requests after one more PDU: it joins them if it is for the station and the first under its key
-abbrev pub with_request : Outfit → List Pdu → Pdu → List Pdu
+abbrev pub with_request : AppProfile → List Pdu → Pdu → List Pdu
 with_request a ds q = if is_for a q && is_none (first_under q ds) then q ∷ ds else ds
 
 -- THE DISTINCT REQUESTS among the received PDUs
-abbrev pub distinct : Outfit → List Pdu → List Pdu
+abbrev pub distinct : AppProfile → List Pdu → List Pdu
 distinct a [] = []
 distinct a (q ∷ qs) = with_request a (distinct a qs) q

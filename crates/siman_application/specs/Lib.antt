@@ -1,4 +1,4 @@
-pub mod Outfit
+pub mod AppProfile
 pub mod Distinct
 pub mod Records
 pub mod Holding

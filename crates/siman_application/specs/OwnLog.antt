@@ -10,10 +10,10 @@ use Rattle.exercise_model.specs.History.{History, Send, Get, Tell}
 use Rattle.exercise_model.specs.Meaning.{meaning}
 use Rattle.exercise_model.specs.Exchange.{is_answer_body}
 use Rattle.exercise_model.specs.Cause.{send_cause}
-use Rattle.siman_application.specs.Outfit.{Outfit}
+use Rattle.siman_application.specs.AppProfile.{AppProfile}
 use Rattle.siman_application.specs.Distinct.{is_under_key}
 use Rattle.siman_application.specs.Play.{reply}
-use Rattle.siman_application.specs.Ranges.{IsOutfitInRange}
+use Rattle.siman_application.specs.Ranges.{IsProfileInRange}
 
 -- one turn of a station
 pub data OwnTurn : Type 0 where
@@ -44,7 +44,7 @@ sent_after s None log = log
 sent_after s (Some p) log = Send s (pdu_text p) ∷ log
 
 -- THE LOG OF THESE TURNS at station s
-abbrev pub log_in : Outfit → ℕ → List OwnTurn → History
+abbrev pub log_in : AppProfile → ℕ → List OwnTurn → History
 log_in a s [] = []
 log_in a s (Tells e y ∷ ts) = Tell s e y ∷ log_in a s ts
 log_in a s (Orders b p ∷ ts) = Send s b ∷ log_in a s ts
@@ -58,18 +58,18 @@ pub record IsRead (b : List ℕ) (q : Pdu) : Type 0 where
   pub read : reading b ≡ Some q
 
 -- an order of the station: a datagram that is decoded as a request of the exercise, in any of its spellings
-pub record IsOrder (a : Outfit) (b : List ℕ) (p : Pdu) : Type 0 where
+pub record IsOrder (a : AppProfile) (b : List ℕ) (p : Pdu) : Type 0 where
   pub exercise : p.exercise ≡ a.exercise
   pub request : is_request_body p.body ≡ true
   pub read : IsRead b p
 
 -- a reply is due to a PDU that is taken after these turns
-abbrev pub is_due : Outfit → List OwnTurn → Pdu → ℕ → Bool
+abbrev pub is_due : AppProfile → List OwnTurn → Pdu → ℕ → Bool
 is_due a ts q stamp = is_some (reply a (taken_in ts) q stamp)
 
 -- THE TURNS OF A STATION, where `later` says that a reply is due later on: each of its orders is an order, each PDU
 -- that it takes is decoded from its datagram, and no reply is missing but the last that is due
-abbrev pub AreTurns : Outfit → Bool → List OwnTurn → Type 0
+abbrev pub AreTurns : AppProfile → Bool → List OwnTurn → Type 0
 AreTurns a later [] = Unit {0}
 AreTurns a later (Tells e y ∷ ts) = AreTurns a later ts
 AreTurns a later (Orders b p ∷ ts) = IsOrder a b p × AreTurns a later ts
@@ -78,8 +78,8 @@ AreTurns a later (Takes b q stamp ∷ ts) = IsRead b q × (stamp < 2 ^ 32) × Ar
 AreTurns a later (Loses b q stamp ∷ ts) = IsRead b q × (stamp < 2 ^ 32) × (is_due a ts q stamp ≡ true) × (later ≡ false) × AreTurns a true ts
 
 -- A LOG THAT SUCH A STATION WRITES in these turns, and the PDUs that its application took
-pub record IsOwnLog (a : Outfit) (s : ℕ) (ts : List OwnTurn) (h : History) (qs : List Pdu) : Type 0 where
-  pub outfit : IsOutfitInRange a
+pub record IsOwnLog (a : AppProfile) (s : ℕ) (ts : List OwnTurn) (h : History) (qs : List Pdu) : Type 0 where
+  pub outfit : IsProfileInRange a
   pub turns : AreTurns a false ts
   pub log_is : log_in a s ts ≡ h
   pub taken_is : taken_in ts ≡ qs
@@ -110,19 +110,19 @@ HasGet (Get s c ∷ log) b = (c ≡ b) ⊎ HasGet log b
 HasGet (Tell s e y ∷ log) b = HasGet log b
 
 -- no site and application used one request identifier for two orders, as far as a log received them
-abbrev pub AreOneOrder : Outfit → History → Type 0
+abbrev pub AreOneOrder : AppProfile → History → Type 0
 AreOneOrder a h =
     (b c : List ℕ) (p q : Pdu) → HasGet h b → HasGet h c → meaning a.exercise b ≡ Some p → meaning a.exercise c ≡ Some q
     → is_request_body p.body ≡ true → is_request_body q.body ≡ true → is_under_key q p ≡ true → IsSameOrder p q
 
 -- one of the two: so the first request under a key that a log receives is the order that the application answers
-abbrev pub IsClear : Outfit → List OwnTurn → History → Type 0
+abbrev pub IsClear : AppProfile → List OwnTurn → History → Type 0
 IsClear a ts h = TakesAll ts ⊎ AreOneOrder a h
 
 -- no answer that the log sends has a cause against it, after the events before it
-abbrev pub AnswersStand : Outfit → History → Type 0
-AnswersStand a [] = Unit {0}
-AnswersStand a (Send s c ∷ log) =
-    ((p : Pdu) → meaning a.exercise c ≡ Some p → is_answer_body p.body ≡ true → send_cause a.exercise a.station log p ≡ None) × AnswersStand a log
-AnswersStand a (Get s b ∷ log) = AnswersStand a log
-AnswersStand a (Tell s e y ∷ log) = AnswersStand a log
+abbrev pub AnswersHaveNoCause : AppProfile → History → Type 0
+AnswersHaveNoCause a [] = Unit {0}
+AnswersHaveNoCause a (Send s c ∷ log) =
+    ((p : Pdu) → meaning a.exercise c ≡ Some p → is_answer_body p.body ≡ true → send_cause a.exercise a.station log p ≡ None) × AnswersHaveNoCause a log
+AnswersHaveNoCause a (Get s b ∷ log) = AnswersHaveNoCause a log
+AnswersHaveNoCause a (Tell s e y ∷ log) = AnswersHaveNoCause a log

@@ -11,7 +11,7 @@ use Rattle.siman_pdus.specs.Same.{is_same_order}
 use Rattle.siman_pdus.specs.Spelling.{body_kind, pdu_text}
 use Rattle.exercise_model.specs.History.{History, Send, Get}
 use Rattle.exercise_model.specs.State.{state_after}
-use Rattle.siman_application.specs.Outfit.{Outfit}
+use Rattle.siman_application.specs.AppProfile.{AppProfile}
 use Rattle.siman_application.specs.Distinct.{Placed, is_for, first_under, distinct}
 use Rattle.siman_application.specs.Records.{fixed_id, variable_id, last_under, stored}
 use Rattle.siman_application.specs.Answer.{Knowledge, brought, answer}
@@ -33,16 +33,16 @@ is_for_entities kinds.Comment = false
 
 -- the record under an identifier after these distinct requests: that of the last Set Data that stores one, else the
 -- first one
-abbrev pub fixed_after : Outfit → List Pdu → ℕ → Option FixedDatum
+abbrev pub fixed_after : AppProfile → List Pdu → ℕ → Option FixedDatum
 fixed_after a [] id = last_under fixed_id id a.datums.fixed
 fixed_after a (d ∷ ds) id = stored (last_under fixed_id id (brought d.body).fixed) (fixed_after a ds id)
 
-abbrev pub variable_after : Outfit → List Pdu → ℕ → Option Datum
+abbrev pub variable_after : AppProfile → List Pdu → ℕ → Option Datum
 variable_after a [] id = last_under variable_id id a.datums.variable
 variable_after a (d ∷ ds) id = stored (last_under variable_id id (brought d.body).variable) (variable_after a ds id)
 
 -- what is known after these distinct requests, whose play is this log
-abbrev pub known_by : Outfit → History → List Pdu → Knowledge
+abbrev pub known_by : AppProfile → History → List Pdu → Knowledge
 known_by a log ds = record {
   states = λ e. state_after a.exercise a.station log e;
   fixed = λ id. fixed_after a ds id;
@@ -55,29 +55,29 @@ abbrev pub play_on : Pdu → Pdu → History → History
 play_on d p log = if is_for_entities (body_kind d.body) then Send 0 (pdu_text p) ∷ Get 0 (pdu_text d) ∷ log else log
 
 -- THE PLAY of an application: each distinct request for entities is received and answered
-unfoldable pub play : Outfit → List Pdu → History
+unfoldable pub play : AppProfile → List Pdu → History
 play a [] = []
 play a (d ∷ ds) = let log = play a ds in play_on d (answer a (known_by a log ds) d 0) log
 
 -- what is known after these distinct requests
-abbrev pub known : Outfit → List Pdu → Knowledge
+abbrev pub known : AppProfile → List Pdu → Knowledge
 known a ds = known_by a (play a ds) ds
 
 -- THE STATE of an entity after these distinct requests
-abbrev pub state_over : Outfit → List Pdu → ℕ → EntityState
+abbrev pub state_over : AppProfile → List Pdu → ℕ → EntityState
 state_over a ds e = state_after a.exercise a.station (play a ds) e
 
 -- the answer to a request that has the first request under its key before it: the same order gets the answer to
 -- that first request, another order none
-abbrev pub answer_under : Outfit → List Pdu → Pdu → ℕ → Option Placed → Option Pdu
+abbrev pub answer_under : AppProfile → List Pdu → Pdu → ℕ → Option Placed → Option Pdu
 answer_under a ds q stamp None = Some (answer a (known a ds) q stamp)
 answer_under a ds q stamp (Some first) =
     if is_same_order q first.request then Some (answer a (known a first.before) first.request stamp) else None
 
 -- the reply to a PDU after these distinct requests: none to one that is not for the station
-abbrev pub reply_after : Outfit → List Pdu → Pdu → ℕ → Option Pdu
+abbrev pub reply_after : AppProfile → List Pdu → Pdu → ℕ → Option Pdu
 reply_after a ds q stamp = if is_for a q then answer_under a ds q stamp (first_under q ds) else None
 
 -- THE REPLY to a PDU q, with this timestamp, after the received PDUs qs
-abbrev pub reply : Outfit → List Pdu → Pdu → ℕ → Option Pdu
+abbrev pub reply : AppProfile → List Pdu → Pdu → ℕ → Option Pdu
 reply a qs q stamp = reply_after a (distinct a qs) q stamp

@@ -4,14 +4,14 @@ ghost use Rattle.std.specs.Prelude.{◌≡◌, [], IfOk, IsTrue};
 ghost use Rattle.std.specs.Option.{unwrap_or};
 ghost use Rattle.dis_records.specs.Entity.{is_open};
 ghost use Rattle.siman_pdus.specs.Role.{is_request_body};
-ghost use Rattle.siman_application.specs.Answer.{plain_answer, chosen, created, obeyed, is_meant, action_status, no_datums, data_answer, held_records, ids_of, brought, told_of, answer};
+ghost use Rattle.siman_application.specs.Answer.{plain_answer, chosen, created, obeyed, is_meant, action_status, no_datums, data_answer, held_records, ids_of, brought, result_of, answer};
 ghost use Rattle.siman_application.specs.Holding.{held_in, stored_in};
 ghost use Rattle.siman_application.specs.Knows.{knows};
 ghost use Rattle.siman_application.specs.Listed.{states_in};
 
 use crate::entities::Entities;
 use crate::held::Held;
-use crate::outfit::Outfit;
+use crate::outfit::AppProfile;
 use crate::records::ids_of;
 use dis_records::{Kind, is_open};
 use siman_pdus::{ABLE, Body, DatumIds, Datums, Pdu, UNABLE, kind_of};
@@ -34,13 +34,13 @@ const STOP: u16 = 4;
 
 /// Result of a request: its answer, and the datums that it stores, if any.
 #[derive(Drop)]
-pub(crate) struct Outcome {
+pub(crate) struct RequestResult {
     pub answer: Pdu,
     pub brought: Option<Datums>,
 }
 
 /// Answer from the entity number of the request, or from 0 if that names no single entity.
-fn plain_answer(outfit: &Outfit, request: &Pdu, stamp: u32, body: Body) -> Pdu
+fn plain_answer(outfit: &AppProfile, request: &Pdu, stamp: u32, body: Body) -> Pdu
     ensures { result ≡ plain_answer outfit.now request.now stamp body }
 {
     let asked = request.target.entity;
@@ -53,7 +53,13 @@ fn plain_answer(outfit: &Outfit, request: &Pdu, stamp: u32, body: Body) -> Pdu
 }
 
 /// Answer to a Create Entity: able, from the created number, or unable.
-fn answer_creation(outfit: &Outfit, entities: &Entities, request: &Pdu, stamp: u32, id: u32) -> Pdu
+fn answer_creation(
+    outfit: &AppProfile,
+    entities: &Entities,
+    request: &Pdu,
+    stamp: u32,
+    id: u32,
+) -> Pdu
     ensures { result ≡ created outfit.now request.now stamp id (chosen (states_in entities.now) request.now.target.entity) }
 {
     match entities.choose(request.target.entity) {
@@ -79,7 +85,7 @@ fn answer_creation(outfit: &Outfit, entities: &Entities, request: &Pdu, stamp: u
 /// Answer to a Remove Entity, Start/Resume or Stop/Freeze: able if it is for all entities or for a
 /// present one.
 fn answer_order(
-    outfit: &Outfit,
+    outfit: &AppProfile,
     entities: &Entities,
     request: &Pdu,
     stamp: u32,
@@ -100,7 +106,7 @@ fn answer_order(
 
 /// Request status of an action: complete if the action is known, for all entities or for a present
 /// one.
-fn action_status(outfit: &Outfit, entities: &Entities, request: &Pdu, action: u32) -> u32
+fn action_status(outfit: &AppProfile, entities: &Entities, request: &Pdu, action: u32) -> u32
     ensures { result ≡ action_status outfit.now (states_in entities.now) request.now action }
 {
     if outfit.knows(action) && entities.is_meant(kind_of(&request.body), request.target.entity) {
@@ -112,7 +118,7 @@ fn action_status(outfit: &Outfit, entities: &Entities, request: &Pdu, action: u3
 
 fn answer_action(
     alloc: Global,
-    outfit: &Outfit,
+    outfit: &AppProfile,
     entities: &Entities,
     request: &Pdu,
     stamp: u32,
@@ -141,7 +147,7 @@ fn answer_action(
 /// Data with the records held under these identifiers after `came` is stored, as many as fit.
 fn answer_data(
     alloc: Global,
-    outfit: &Outfit,
+    outfit: &AppProfile,
     held: &Held,
     came: &Held,
     request: &Pdu,
@@ -165,7 +171,7 @@ fn answer_data(
 
 fn answer_query(
     alloc: Global,
-    outfit: &Outfit,
+    outfit: &AppProfile,
     held: &Held,
     request: &Pdu,
     stamp: u32,
@@ -179,16 +185,16 @@ fn answer_query(
 }
 
 /// Data with the records held under the identifiers of `came`, after these datums are stored.
-fn answer_came(
+fn set_data_answer(
     alloc: Global,
-    outfit: &Outfit,
+    outfit: &AppProfile,
     held: &Held,
     request: &Pdu,
     stamp: u32,
     id: u32,
     came: &Datums,
 ) -> Result<Pdu, AllocError>
-    ensures { IfOk result (λ pdu. pdu ≡ data_answer outfit.now request.now stamp id (held_records (told_of came.now (knows [] (held_in held.now))) (ids_of came.now))) }
+    ensures { IfOk result (λ pdu. pdu ≡ data_answer outfit.now request.now stamp id (held_records (result_of came.now (knows [] (held_in held.now))) (ids_of came.now))) }
 {
     let ids = ids_of(alloc, came)?;
     let others = Held::of(alloc, came)?;
@@ -198,19 +204,19 @@ fn answer_came(
 /// Answer to a Set Data, and the datums that it stores.
 fn answer_setting(
     alloc: Global,
-    outfit: &Outfit,
+    outfit: &AppProfile,
     held: &Held,
     request: &Pdu,
     stamp: u32,
     id: u32,
     came: &Datums,
-) -> Result<Outcome, AllocError>
-    ensures answer { IfOk result (λ outcome. outcome.answer ≡ data_answer outfit.now request.now stamp id (held_records (told_of came.now (knows [] (held_in held.now))) (ids_of came.now))) }
+) -> Result<RequestResult, AllocError>
+    ensures answer { IfOk result (λ outcome. outcome.answer ≡ data_answer outfit.now request.now stamp id (held_records (result_of came.now (knows [] (held_in held.now))) (ids_of came.now))) }
     ensures brought { IfOk result (λ outcome. unwrap_or outcome.brought no_datums ≡ came.now) }
 {
     let brought = came.copy(alloc)?;
-    let answer = answer_came(alloc, outfit, held, request, stamp, id, came)?;
-    Ok(Outcome {
+    let answer = set_data_answer(alloc, outfit, held, request, stamp, id, came)?;
+    Ok(RequestResult {
         answer,
         brought: Some(brought),
     })
@@ -219,12 +225,12 @@ fn answer_setting(
 /// Answer to a new request, and the datums that it stores.
 pub(crate) fn answer(
     alloc: Global,
-    outfit: &Outfit,
+    outfit: &AppProfile,
     entities: &Entities,
     held: &Held,
     request: &Pdu,
     stamp: u32,
-) -> Result<Outcome, AllocError>
+) -> Result<RequestResult, AllocError>
     requires { IsTrue (is_request_body request.now.body) }
     ensures answer { IfOk result (λ outcome. outcome.answer ≡ answer outfit.now (knows entities.now (held_in held.now)) request.now stamp) }
     ensures brought { IfOk result (λ outcome. unwrap_or outcome.brought no_datums ≡ brought request.now.body) }
@@ -264,7 +270,7 @@ pub(crate) fn answer(
         | Body::EventReport { .. }
         | Body::Comment { .. } => unreachable!(),
     };
-    Ok(Outcome {
+    Ok(RequestResult {
         answer,
         brought: None,
     })

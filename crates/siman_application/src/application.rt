@@ -10,15 +10,15 @@ ghost use Rattle.siman_pdus.specs.Ranges.{IsInRange};
 ghost use Rattle.siman_pdus.specs.Spelling.{HasCarriedStatus, pdu_size};
 ghost use Rattle.siman_application.specs.Lending.{EndsTaken};
 ghost use Rattle.siman_application.specs.Play.{state_over, fixed_after, variable_after, reply_after};
-ghost use Rattle.siman_application.specs.Ranges.{IsOutfitInRange};
+ghost use Rattle.siman_application.specs.Ranges.{IsProfileInRange};
 ghost use Rattle.siman_application.specs.Application.{ApplicationData, Leaves, came, is_new};
 
 use crate::entities::Entities;
 use crate::entity_list::MOST_ENTITIES;
 use crate::fault::AppFault;
 use crate::held::Held;
-use crate::kept::KeptTable;
-use crate::outfit::Outfit;
+use crate::kept::RequestTable;
+use crate::outfit::AppProfile;
 use crate::taking::take;
 use dis_records::{EntityState, FixedDatum, VariableDatum};
 use exercise_model::Station;
@@ -33,10 +33,10 @@ use std::marker::Model;
 /// take memory.
 pub struct Application {
     alloc: Global,
-    outfit: Outfit,
+    outfit: AppProfile,
     entities: Entities,
     held: Held,
-    kept: KeptTable,
+    kept: RequestTable,
 }
 
 // Not derived: a caller that drops it makes one call, and does not drop each table.
@@ -90,7 +90,7 @@ impl Application {
     ) -> Result<Application, AppFault>
         ensures too_many { (result ≡ Err AppFault.TooMany) ↔ (MOST_ENTITIES < length station.now.opening) }
         ensures outfit { IfOk result (λ app. app.outfit ≡ record { exercise = exercise; station = station.now; datums = record { fixed = fixed.now; variable = variable.items }; actions = actions.now }) }
-        ensures ranges { IfOk result (λ app. IsOutfitInRange app.outfit) }
+        ensures ranges { IfOk result (λ app. IsProfileInRange app.outfit) }
         ensures kept { IfOk result (λ app. app.kept ≡ []) }
     {
         if station.opening().len() > MOST_ENTITIES {
@@ -107,7 +107,7 @@ impl Application {
         let actions = Vec::from_slice(alloc, actions)?;
         Ok(Application {
             alloc,
-            outfit: Outfit {
+            outfit: AppProfile {
                 exercise,
                 station,
                 datums,
@@ -115,7 +115,7 @@ impl Application {
             },
             entities,
             held,
-            kept: KeptTable::new(alloc),
+            kept: RequestTable::new(alloc),
         })
     }
 

@@ -4,11 +4,11 @@ ghost use Rattle.std.specs.Prelude.{◌≡◌, ◌++◌, ◌∷◌, ◌&&◌, �
 ghost use Rattle.siman_pdus.specs.declared.pdu.Pdu.{Pdu};
 ghost use Rattle.exercise_model.specs.History.{History};
 ghost use Rattle.exercise_model.specs.State.{state_after};
-ghost use Rattle.siman_application.specs.Outfit.{Outfit};
+ghost use Rattle.siman_application.specs.AppProfile.{AppProfile};
 ghost use Rattle.siman_application.specs.Distinct.{is_for, first_under, distinct};
 ghost use Rattle.siman_application.specs.Play.{state_over, reply, reply_after};
 ghost use Rattle.siman_application.specs.Application.{ApplicationData, Takes, came};
-ghost use Rattle.siman_application.specs.OwnLog.{OwnTurn, IsOwnLog, MissNone, IsClear, AnswersStand};
+ghost use Rattle.siman_application.specs.OwnLog.{OwnTurn, IsOwnLog, MissNone, IsClear, AnswersHaveNoCause};
 
 /// Over every list of PDUs the steps that the contracts of an [`Application`](crate::Application)
 /// cite lead to the distinct requests among them, and to the reply that these alone determine.
@@ -19,10 +19,10 @@ pub fn requests_are_told_once()
     ensures reply { (s : ApplicationData) (qs : List Pdu) (q : Pdu) (stamp : ℕ) → came s ≡ distinct s.outfit qs → reply_after s.outfit (came s) q stamp ≡ reply s.outfit qs q stamp }
     // A PDU that is not for the station, or has a known key, makes no difference to what a list
     // leaves,
-    ensures repeated { (a : Outfit) (q : Pdu) (newer older : List Pdu) → (is_for a q && is_none (first_under q (distinct a older))) ≡ false
+    ensures repeated { (a : AppProfile) (q : Pdu) (newer older : List Pdu) → (is_for a q && is_none (first_under q (distinct a older))) ≡ false
         → distinct a (newer ++ q ∷ older) ≡ distinct a (newer ++ older) }
     // and the distinct requests alone leave that too.
-    ensures once { (a : Outfit) (qs : List Pdu) → distinct a (distinct a qs) ≡ distinct a qs }
+    ensures once { (a : AppProfile) (qs : List Pdu) → distinct a (distinct a qs) ≡ distinct a qs }
 {}
 
 /// In every log that a station with an application writes, no answer has a cause against it after
@@ -32,7 +32,7 @@ pub fn requests_are_told_once()
 /// last may be missing. The station's own orders may be sent in any spelling. The types of the
 /// numbers imply what the law requires of them ([`Application::begin`](crate::Application::begin)).
 pub fn own_logs_stand()
-    ensures answers { (a : Outfit) (s : ℕ) (ts : List OwnTurn) (h : History) (qs : List Pdu) → IsOwnLog a s ts h qs → IsClear a ts h → AnswersStand a h }
-    ensures states { (a : Outfit) (s : ℕ) (ts : List OwnTurn) (h : History) (qs : List Pdu) → IsOwnLog a s ts h qs → IsClear a ts h → MissNone ts
+    ensures answers { (a : AppProfile) (s : ℕ) (ts : List OwnTurn) (h : History) (qs : List Pdu) → IsOwnLog a s ts h qs → IsClear a ts h → AnswersHaveNoCause a h }
+    ensures states { (a : AppProfile) (s : ℕ) (ts : List OwnTurn) (h : History) (qs : List Pdu) → IsOwnLog a s ts h qs → IsClear a ts h → MissNone ts
         → (e : ℕ) → state_after a.exercise a.station h e ≡ state_over a (distinct a qs) e }
 {}

@@ -13,22 +13,22 @@ use std::marker::Model;
 /// Configuration of an application, which never changes: the exercise, its station with the
 /// entities that it opens with, the datums that it holds at first, and the actions that it knows.
 #[derive(Drop)]
-pub(crate) struct Outfit {
+pub(crate) struct AppProfile {
     pub exercise: u8,
     pub station: Station,
     pub datums: Datums,
     pub actions: Vec<u32>,
 }
 
-impl Model for Outfit {
-    ghost use Rattle.siman_application.specs.Outfit.{Outfit};
+impl Model for AppProfile {
+    ghost use Rattle.siman_application.specs.AppProfile.{AppProfile};
 
-    ghost Value = { Outfit };
+    ghost Value = { AppProfile };
 
     ghost view = { λ a. record { exercise = a.exercise; station = a.station; datums = a.datums; actions = a.actions.items } };
 }
 
-impl Outfit {
+impl AppProfile {
     /// Whether a PDU is of the exercise, is a request, and addresses the station.
     pub(crate) fn is_for(&self, pdu: &Pdu) -> bool
         ensures { result ≡ is_for self.now pdu.now }

@@ -12,12 +12,12 @@ ghost use Rattle.siman_application.specs.Listed.{after, states_in};
 ghost use Rattle.siman_application.specs.KeptRequests.{AreRight, IsKey, requests, stamped_at};
 ghost use Rattle.siman_application.specs.Play.{known, reply_after};
 
-use crate::answering::{Outcome, answer};
+use crate::answering::{RequestResult, answer};
 use crate::entities::Entities;
 use crate::fault::AppFault;
 use crate::held::Held;
-use crate::kept::{KeptTable, RequestKey, keep, key_of, place_of, stamp_again};
-use crate::outfit::Outfit;
+use crate::kept::{RequestKey, RequestTable, keep, key_of, place_of, stamp_again};
+use crate::outfit::AppProfile;
 use siman_pdus::{Datums, Pdu, numbers_are_in_range, same_order};
 use std::alloc::{AllocError, Global};
 
@@ -34,12 +34,12 @@ fn store(held: &mut Held, brought: Option<Datums>)
 /// them unchanged.
 fn answer_and_obey(
     alloc: Global,
-    outfit: &Outfit,
+    outfit: &AppProfile,
     entities: &mut Entities,
     held: &Held,
     pdu: &Pdu,
     stamp: u32,
-) -> Result<Outcome, AllocError>
+) -> Result<RequestResult, AllocError>
     requires { is_for outfit.now pdu.now ≡ true }
     ensures answer { IfOk result (λ outcome. outcome.answer ≡ answer outfit.now (knows entities.old (held_in held.now)) pdu.now stamp) }
     ensures brought { IfOk result (λ outcome. unwrap_or outcome.brought no_datums ≡ brought pdu.now.body) }
@@ -55,8 +55,8 @@ fn answer_and_obey(
 /// leaves everything unchanged: whatever may fail is done before the first change.
 fn take_first(
     alloc: Global,
-    outfit: &Outfit,
-    kept: &mut KeptTable,
+    outfit: &AppProfile,
+    kept: &mut RequestTable,
     entities: &mut Entities,
     held: &mut Held,
     key: RequestKey,
@@ -85,7 +85,7 @@ fn take_first(
 
 /// Index of the stored answer to a request with a known key, after its timestamp is changed. `None`
 /// for another order.
-fn take_again(kept: &mut KeptTable, place: usize, pdu: &Pdu, stamp: u32) -> Option<usize>
+fn take_again(kept: &mut RequestTable, place: usize, pdu: &Pdu, stamp: u32) -> Option<usize>
     requires { place < index_map_len kept.old }
     ensures result { result ≡ option_and_then (λ k. if is_same_order pdu.now k.request then Some place else None) (slice_get (values kept.old) place) }
     ensures kept { MatchOption result (kept.new.entries ≡ kept.old.entries) (λ place. kept.new.entries ≡ stamped_at place stamp kept.old.entries) }
@@ -101,8 +101,8 @@ fn take_again(kept: &mut KeptTable, place: usize, pdu: &Pdu, stamp: u32) -> Opti
 /// new answer.
 pub(crate) fn take(
     alloc: Global,
-    outfit: &Outfit,
-    kept: &mut KeptTable,
+    outfit: &AppProfile,
+    kept: &mut RequestTable,
     entities: &mut Entities,
     held: &mut Held,
     pdu: &Pdu,

@@ -2,7 +2,7 @@
 
 ghost use Rattle.std.specs.Prelude.{◌≡◌};
 ghost use Rattle.siman_cases.specs.Done.{letters_of, endpoints_of, found_of, found_as};
-ghost use Rattle.siman_outside.specs.Outside.{counted_by, had_by};
+ghost use Rattle.siman_outside.specs.Outside.{count_result, call_result};
 
 use http_server::Log;
 use siman_console::Endpoint;
@@ -72,7 +72,7 @@ pub(crate) fn failure<T>(answer: &io::Result<T>) -> Option<ErrorKind>
 
 /// The number of items of an answer, or its error.
 pub(crate) fn number<T>(answer: &io::Result<Vec<T>>) -> Result<usize, ErrorKind>
-    ensures { result ≡ counted_by answer.now }
+    ensures { result ≡ count_result answer.now }
 {
     match answer {
         Ok(items) => Ok(items.len()),
@@ -82,7 +82,7 @@ pub(crate) fn number<T>(answer: &io::Result<Vec<T>>) -> Result<usize, ErrorKind>
 
 /// Success or the error of an answer.
 pub(crate) fn had<T>(answer: &io::Result<T>) -> Result<(), ErrorKind>
-    ensures { result ≡ had_by answer.now }
+    ensures { result ≡ call_result answer.now }
 {
     match answer {
         Ok(_) => Ok(()),

@@ -10,7 +10,7 @@ use std::io::{ErrorKind, Write};
 /// Whether the run is right if this byte, from 0, is the first that is not written: the fault is
 /// printed, the file has the bytes before it, and the datagrams on the link are those of its whole
 /// entries.
-fn stands_before(alloc: Global, case: &Case, byte: usize) -> io::Result<bool> {
+fn is_right_before(alloc: Global, case: &Case, byte: usize) -> io::Result<bool> {
     let calls = Calls {
         most: 1,
         fails_at: (byte as u64).saturating_add(1),
@@ -31,7 +31,7 @@ fn stands_before(alloc: Global, case: &Case, byte: usize) -> io::Result<bool> {
 
 /// Whether the run is right if the call of the link with this number, from 1, fails: the fault is
 /// printed, the recording has its end, and each datagram on the link is in a sent entry of its own.
-fn stands_without(alloc: Global, case: &Case, call: u64) -> io::Result<bool> {
+fn is_right_without(alloc: Global, case: &Case, call: u64) -> io::Result<bool> {
     let left = run_case(alloc, case, case.left.calls, Some(call));
     let sent = left.shelf.sent(alloc)?;
     let Some(written) = &left.shelf.left else {
@@ -57,7 +57,7 @@ fn fail_each_byte<W: Write>(alloc: Global, case: &Case, out: &mut W) -> io::Resu
         return Ok(good);
     }
     for byte in 0..case.left.bytes.len() {
-        if !stands_before(alloc, case, byte)? {
+        if !is_right_before(alloc, case, byte)? {
             writeln!(out, "{}: otherwise where byte {byte} fails", case.name)?;
             good = false;
         }
@@ -70,7 +70,7 @@ fn fail_each_byte<W: Write>(alloc: Global, case: &Case, out: &mut W) -> io::Resu
 fn fail_each_call<W: Write>(alloc: Global, case: &Case, out: &mut W) -> io::Result<bool> {
     let mut good = true;
     for call in 1..=case.each_call {
-        if !stands_without(alloc, case, call)? {
+        if !is_right_without(alloc, case, call)? {
             writeln!(out, "{}: otherwise where call {call} fails", case.name)?;
             good = false;
         }

@@ -45,7 +45,7 @@ fn words(alloc: Global, case: &Case) -> io::Result<Vec<String>> {
 
 /// Results of a run.
 #[derive(Drop)]
-pub(crate) struct Outcome<'a> {
+pub(crate) struct RunResults<'a> {
     pub(crate) ended: Ended,
     pub(crate) shelf: Shelf<'a>,
     out: Written,
@@ -61,7 +61,7 @@ pub(crate) fn run_case(
     case: &Case,
     makes: Calls,
     line_fails: Option<u64>,
-) -> Outcome<'_>
+) -> RunResults<'_>
     ensures { (told : Telling WireLine) × (words : Result (List (List ℕ)) ErrorKind) × (fault : Option Fault) × (begun : Option (List ℕ)) × EndsProgram told words (deeds_of result.shelf.done) None (record { ended = result.ended; fault = fault; begun = begun; out = untold; errors = untold }) }
 {
     let mut shelf = filled(alloc, case, makes, line_fails);
@@ -79,7 +79,7 @@ pub(crate) fn run_case(
         &mut errors,
         &mut reasons,
     );
-    Outcome {
+    RunResults {
         ended,
         shelf,
         out,
@@ -115,7 +115,7 @@ fn is_second_line(bytes: &[u8], behind: &[u8]) -> bool {
 /// Compares the text behind the first line of a fault with the case, and prints it if it differs.
 /// If the case does not give that text, a fault may have one line that begins with two blanks, with
 /// the text `behind` of the case following it; any other answer may have a warning.
-fn compare_reason<W: Write>(case: &Case, left: &Outcome<'_>, out: &mut W) -> io::Result<bool> {
+fn compare_reason<W: Write>(case: &Case, left: &RunResults<'_>, out: &mut W) -> io::Result<bool> {
     let (name, told, behind) = (&case.name, &left.reasons.bytes, &case.behind.bytes);
     if case.is_reason {
         return compare(name, "reason", told, &case.reason.bytes, out);
@@ -172,7 +172,7 @@ fn compare_sent<W: Write>(
 fn compare_all<W: Write>(
     alloc: Global,
     case: &Case,
-    left: &Outcome<'_>,
+    left: &RunResults<'_>,
     out: &mut W,
 ) -> io::Result<bool> {
     let (name, status, half) = (&case.name, left.ended.status, left.ended.written.is_err());
@@ -201,7 +201,7 @@ fn try_case<W: Write>(
     }
     let left = run_case(alloc, case, case.left.calls, case.fails_at);
     let good = compare_all(alloc, case, &left, out)? && try_failing(alloc, case, out)?;
-    let Outcome { shelf, .. } = left;
+    let RunResults { shelf, .. } = left;
     let Shelf { left, .. } = shelf;
     Ok((good, left))
 }

@@ -4,7 +4,7 @@ ghost use Rattle.std.specs.Prelude.{◌≡◌, ◌≤◌, length, map, option_ma
 ghost use Rattle.siman_command_line.specs.Words.{asked_by, is_option, takes_of, takes_named, bare_asked, one_asked, two_asked, taken, last_apart, has_option, is_form_word, form_named, form_apart, are_names, fewest_pieces, pieces_asked, join_asked, anyone_apart, station_named, station_asked, view_asked, why_asked, chart_asked};
 
 use crate::commands::{JoinForm, NoWord, OneWord, StationWords, Takes, Task, TwoWords, ViewWord};
-use crate::rows::Row;
+use crate::rows::CommandRow;
 use crate::table::rows;
 use siman_print::Spelling;
 use std::convert::AsStr;
@@ -18,7 +18,7 @@ pub(crate) fn is_option(word: &str) -> bool
 }
 
 /// What the named command takes, by the rows of a table.
-fn takes_of(mut table: &[Row], name: &str) -> Option<Takes>
+fn takes_of(mut table: &[CommandRow], name: &str) -> Option<Takes>
     ensures { result ≡ takes_of (map (λ row. (row.name.now, row.takes)) table.entry.now) name.now }
 {
     while let [row, rest @ ..] = table {

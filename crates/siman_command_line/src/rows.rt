@@ -14,7 +14,7 @@ pub(crate) enum Often {
 /// A word that a command takes: its name in the usage, how many times it may occur, and its
 /// description.
 #[derive(Clone, Copy)]
-pub(crate) struct Word {
+pub(crate) struct CommandWord {
     pub name: &'static str,
     pub often: Often,
     pub about: &'static str,
@@ -22,11 +22,11 @@ pub(crate) struct Word {
 
 /// A command of the table.
 #[derive(Clone, Copy)]
-pub(crate) struct Row {
+pub(crate) struct CommandRow {
     pub name: &'static str,
     pub takes: Takes,
     /// Its description.
     pub about: &'static str,
     pub example: &'static str,
-    pub words: &'static [Word],
+    pub words: &'static [CommandWord],
 }

@@ -1,7 +1,7 @@
 //! The usage of the program and its help, as `clap` formats them.
 
 use crate::commands::{Takes, TwoWords, ViewWord};
-use crate::rows::{Often, Row, Word};
+use crate::rows::{CommandRow, CommandWord, Often};
 use crate::table::rows;
 use clap::error::ErrorKind;
 use clap::{Arg, ArgAction, Command, Error};
@@ -13,12 +13,12 @@ const VERSION: &str = "0.1.0";
 
 /// What the program does, for its help.
 const ABOUT: &str =
-    "Shows Simulation Management PDUs of DIS (IEEE 1278.1-2012), and runs, shows, searches and checks recorded exercises. With no command, a script is read from standard input, run, searched for an order and checked";
+    "Shows Simulation Management PDUs of DIS (IEEE 1278.1-2012), and runs, shows, searches and checks recorded exercises. With no command, a script is read from standard input, run, searched for a sequence and checked";
 
 /// What `--json` does, for the help.
-const JSON: &str = "Tells the lines in JSON, one object a line";
+const JSON: &str = "Prints the rows in JSON, one object a line";
 
-const FORCE: &str = "Replaces the file that stands under the name of the one that is made";
+const FORCE: &str = "Replaces a file that has the name of the one that is made";
 
 /// The exit statuses, for the end of the help, and the example of a call without words.
 const STATUSES: &str = "Exit status:
@@ -31,7 +31,7 @@ Examples:
   siman < exercise.script";
 
 /// A positional argument of a command.
-fn argument<'a>(alloc: Global, word: &'static Word) -> Arg<'a> {
+fn argument<'a>(alloc: Global, word: &'static CommandWord) -> Arg<'a> {
     let required = matches!(word.often, Often::Once | Often::OnceOrMore);
     let argument = Arg::new(alloc, word.name)
         .help(word.about)
@@ -51,7 +51,7 @@ fn option<'a>(alloc: Global, name: &'static str, about: &'static str) -> Arg<'a>
         .help(about)
 }
 
-fn arguments<'a>(alloc: Global, row: &'static Row) -> Result<Vec<Arg<'a>>, AllocError> {
+fn arguments<'a>(alloc: Global, row: &'static CommandRow) -> Result<Vec<Arg<'a>>, AllocError> {
     let mut arguments = Vec::new(alloc);
     for word in row.words {
         arguments.push(argument(alloc, word))?;
@@ -66,7 +66,7 @@ fn arguments<'a>(alloc: Global, row: &'static Row) -> Result<Vec<Arg<'a>>, Alloc
 }
 
 /// The usage of a command, unless `clap` derives it correctly from its words.
-fn usage_told(takes: Takes) -> Option<&'static str> {
+fn usage_override(takes: Takes) -> Option<&'static str> {
     match takes {
         Takes::Two(TwoWords::Audit) => Some("siman audit <REC> <CERT> [--force]"),
         Takes::Two(TwoWords::World) => Some("siman world <SCRIPT> <REC> [--force]"),
@@ -86,12 +86,12 @@ fn usage_told(takes: Takes) -> Option<&'static str> {
 
 /// A command of the table. Its arguments are made first, so that nothing half built is alive where
 /// memory may run out.
-fn command<'a>(alloc: Global, row: &'static Row) -> Result<Command<'a>, AllocError> {
+fn command<'a>(alloc: Global, row: &'static CommandRow) -> Result<Command<'a>, AllocError> {
     let arguments = arguments(alloc, row)?;
     let command = Command::new(alloc, row.name)
         .about(row.about)
         .after_help(row.example);
-    let command = match usage_told(row.takes) {
+    let command = match usage_override(row.takes) {
         Some(usage) => command.override_usage(usage),
         None => command,
     };

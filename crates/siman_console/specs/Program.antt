@@ -3,7 +3,7 @@ use Rattle.std.specs.Prelude.{◌≡◌, ◌⊎◌, ℕ, List, [], Option, Some,
 use Rattle.std.specs.declared.alloc.Global.{Global}
 use Rattle.std.specs.Io.KnownBytes.{Keeps}
 use Rattle.std.specs.declared.io.ErrorKind.{ErrorKind}
-use Rattle.siman_scripts.specs.Text.{lines_of}
+use Rattle.byte_files.specs.Text.{lines_of}
 use Rattle.siman_print.specs.declared.spelling.Spelling.{Spelling}
 use Rattle.siman_command_line.specs.declared.commands.NoWord.{NoWord}
 use Rattle.siman_command_line.specs.declared.commands.OneWord.{OneWord}
@@ -22,7 +22,7 @@ use Rattle.siman_analysis_commands.specs.Audit.{SearchesFile, MakesFinding}
 use Rattle.siman_file_commands.specs.Chart.{ChartsNamed}
 use Rattle.siman_file_commands.specs.Check.{ChecksFiles}
 use Rattle.siman_file_commands.specs.Convert.{CarriesFile, MakesConverted}
-use Rattle.siman_outside.specs.Ending.{Ends, fault_in, IsToldAs}
+use Rattle.siman_outside.specs.Ending.{Ends, fault_in, IsFaultOf}
 use Rattle.siman_outside.specs.Outside.{Has, Stream, Outcome, Deed}
 use Rattle.siman_file_commands.specs.Join.{word_of, JoinsPieces}
 use Rattle.siman_exercise_commands.specs.Live.{EndsLive}
@@ -111,7 +111,7 @@ EndsWords told words deeds input o = EndsAsked told (asked words) (asks_help wor
 abbrev pub EndsProgram : {L : Type 0} → Telling L → Result (List (List ℕ)) ErrorKind → List Deed → Option (List ℕ) → Outcome → Type 0
 EndsProgram told (Ok words) deeds input o = EndsWords told words deeds input o
 EndsProgram told (Err kind) deeds input o =
-    (deeds ≡ []) × (Keeps o.out.old o.out.new × ((fault : Fault) × IsToldAs kind Words fault × EndsIn (Err fault) o))
+    (deeds ≡ []) × (Keeps o.out.old o.out.new × ((fault : Fault) × IsFaultOf kind Words fault × EndsIn (Err fault) o))
 
 -- HOW IT ENDS WITH A REASON: after that ending, the second line of a fault is written behind its first line, and the line that mends the recording that the command began; or else a warning
 abbrev pub EndsExplained : (Outcome → Type 0) → Ended → (out errors reasons : Stream) → Type 0

@@ -15,15 +15,15 @@ use Rattle.siman_outside.specs.declared.fault.Fault.TheVariants.{Script, World, 
 use Rattle.siman_outside.specs.declared.move_place.MovePlace.{MovePlace}
 use Rattle.siman_outside.specs.declared.notes.Warning.{Warning}
 use Rattle.siman_outside.specs.declared.notes.Warning.TheVariants as warnings
-use Rattle.siman_console.specs.declared.pieces.Piece.{Piece}
-use Rattle.siman_console.specs.declared.pieces.Piece.TheVariants as kinds
-use Rattle.siman_console.specs.declared.pieces.Pieces.{Pieces}
+use Rattle.siman_console.specs.declared.pieces.TextPiece.{TextPiece}
+use Rattle.siman_console.specs.declared.pieces.TextPiece.TheVariants as kinds
+use Rattle.siman_console.specs.declared.pieces.TextPieces.{TextPieces}
 use Rattle.siman_console.specs.declared.reason.Reason.{Reason}
 use Rattle.siman_console.specs.declared.reason.Reason.TheVariants as reasons
 
 -- Pieces of a text.
 
-abbrev pub piece_text : Piece → List ℕ
+abbrev pub piece_text : TextPiece → List ℕ
 piece_text (kinds.Name name) = name.now
 piece_text (kinds.Words words) = words.now
 piece_text (kinds.Number n) = decimal n
@@ -33,10 +33,10 @@ piece_text kinds.Nothing = []
 abbrev pub five : List ℕ → List ℕ → List ℕ → List ℕ → List ℕ → List ℕ
 five a b c d e = a ++ (b ++ (c ++ (d ++ e)))
 
-abbrev pub pieces_text : Pieces → List ℕ
+abbrev pub pieces_text : TextPieces → List ℕ
 pieces_text p = five (piece_text p.first) (piece_text p.second) (piece_text p.third) (piece_text p.fourth) (piece_text p.fifth)
 
-abbrev pub pieces : Piece → Piece → Piece → Piece → Piece → Pieces
+abbrev pub pieces : TextPiece → TextPiece → TextPiece → TextPiece → TextPiece → TextPieces
 pieces a b c d e = record { first = a; second = b; third = c; fourth = d; fifth = e }
 
 -- Of a move that cannot be made.

@@ -1,6 +1,6 @@
 //! Reasons for words that are no filter of a view, or select no steps of a picture.
 
-use crate::pieces::{Pieces, words};
+use crate::pieces::{TextPieces, words};
 use siman_command_line::ViewWord;
 
 /// The values of a key that both views have, if the word begins with one.
@@ -37,7 +37,7 @@ fn log_words(word: &str) -> &'static str {
 }
 
 /// The reason for a word that is no filter of a view, or selects no steps of a picture.
-pub(crate) fn filter_pieces(word: &str, view: Option<ViewWord>) -> Pieces<'static> {
+pub(crate) fn filter_pieces(word: &str, view: Option<ViewWord>) -> TextPieces<'static> {
     let own = match view {
         Some(ViewWord::Review) => review_words(word),
         Some(ViewWord::Log) => log_words(word),

@@ -10,7 +10,7 @@ use std::io::Write;
 
 /// A piece of a text.
 #[derive(Clone, Copy)]
-pub(crate) enum Piece<'a> {
+pub(crate) enum TextPiece<'a> {
     /// A name or a word of the command line.
     Name(&'a str),
     /// Constant words.
@@ -23,35 +23,35 @@ pub(crate) enum Piece<'a> {
 
 /// A text of five pieces.
 #[derive(Clone, Copy)]
-pub(crate) struct Pieces<'a> {
-    pub(crate) first: Piece<'a>,
-    pub(crate) second: Piece<'a>,
-    pub(crate) third: Piece<'a>,
-    pub(crate) fourth: Piece<'a>,
-    pub(crate) fifth: Piece<'a>,
+pub(crate) struct TextPieces<'a> {
+    pub(crate) first: TextPiece<'a>,
+    pub(crate) second: TextPiece<'a>,
+    pub(crate) third: TextPiece<'a>,
+    pub(crate) fourth: TextPiece<'a>,
+    pub(crate) fifth: TextPiece<'a>,
 }
 
 /// The text of `words` alone.
-pub(crate) fn words(words: &'static str) -> Pieces<'static>
+pub(crate) fn words(words: &'static str) -> TextPieces<'static>
     ensures { pieces_text result ≡ texts words.now [] [] [] [] }
 {
     five(
-        Piece::Words(words),
-        Piece::Nothing,
-        Piece::Nothing,
-        Piece::Nothing,
-        Piece::Nothing,
+        TextPiece::Words(words),
+        TextPiece::Nothing,
+        TextPiece::Nothing,
+        TextPiece::Nothing,
+        TextPiece::Nothing,
     )
 }
 
 /// The text of a name and the words behind it.
-pub(crate) fn named<'a>(name: &'a str, words: &'static str) -> Pieces<'a> {
+pub(crate) fn named<'a>(name: &'a str, words: &'static str) -> TextPieces<'a> {
     five(
-        Piece::Name(name),
-        Piece::Words(words),
-        Piece::Nothing,
-        Piece::Nothing,
-        Piece::Nothing,
+        TextPiece::Name(name),
+        TextPiece::Words(words),
+        TextPiece::Nothing,
+        TextPiece::Nothing,
+        TextPiece::Nothing,
     )
 }
 
@@ -60,40 +60,44 @@ pub(crate) fn named_twice<'a>(
     name: &'a str,
     first: &'static str,
     second: &'static str,
-) -> Pieces<'a>
+) -> TextPieces<'a>
     ensures { pieces_text result ≡ texts name.entry.now first.now second.now [] [] }
 {
     five(
-        Piece::Name(name),
-        Piece::Words(first),
-        Piece::Words(second),
-        Piece::Nothing,
-        Piece::Nothing,
+        TextPiece::Name(name),
+        TextPiece::Words(first),
+        TextPiece::Words(second),
+        TextPiece::Nothing,
+        TextPiece::Nothing,
     )
 }
 
 /// The text of a name, words, and another name.
-pub(crate) fn two_named<'a>(first: &'a str, words: &'static str, second: &'a str) -> Pieces<'a> {
+pub(crate) fn two_named<'a>(
+    first: &'a str,
+    words: &'static str,
+    second: &'a str,
+) -> TextPieces<'a> {
     five(
-        Piece::Name(first),
-        Piece::Words(words),
-        Piece::Name(second),
-        Piece::Nothing,
-        Piece::Nothing,
+        TextPiece::Name(first),
+        TextPiece::Words(words),
+        TextPiece::Name(second),
+        TextPiece::Nothing,
+        TextPiece::Nothing,
     )
 }
 
 /// A text of five pieces.
 pub(crate) fn five<'a>(
-    first: Piece<'a>,
-    second: Piece<'a>,
-    third: Piece<'a>,
-    fourth: Piece<'a>,
-    fifth: Piece<'a>,
-) -> Pieces<'a>
+    first: TextPiece<'a>,
+    second: TextPiece<'a>,
+    third: TextPiece<'a>,
+    fourth: TextPiece<'a>,
+    fifth: TextPiece<'a>,
+) -> TextPieces<'a>
     ensures { result ≡ pieces first.entry second.entry third.entry fourth.entry fifth.entry }
 {
-    Pieces {
+    TextPieces {
         first,
         second,
         third,
@@ -125,20 +129,24 @@ fn put_address<W: Write>(writer: &mut W, site: u16, application: u16) -> Result<
     put_behind(writer, application)
 }
 
-fn put_piece<W: Write>(writer: &mut W, piece: Piece<'_>) -> Result<(), WriteFailed>
+fn put_piece<W: Write>(writer: &mut W, piece: TextPiece<'_>) -> Result<(), WriteFailed>
     ensures { Writes result (W.contents writer.old) (W.contents writer.new) (piece_text piece.entry) }
 {
     match piece {
-        Piece::Name(name) => put(writer, name.as_bytes()),
-        Piece::Words(words) => put(writer, words.as_bytes()),
-        Piece::Number(number) => put_number(writer, number),
-        Piece::Address(site, application) => put_address(writer, site, application),
-        Piece::Nothing => put(writer, b""),
+        TextPiece::Name(name) => put(writer, name.as_bytes()),
+        TextPiece::Words(words) => put(writer, words.as_bytes()),
+        TextPiece::Number(number) => put_number(writer, number),
+        TextPiece::Address(site, application) => put_address(writer, site, application),
+        TextPiece::Nothing => put(writer, b""),
     }
 }
 
 /// Writes two pieces.
-fn put_two<W: Write>(writer: &mut W, first: Piece<'_>, second: Piece<'_>) -> Result<(), WriteFailed>
+fn put_two<W: Write>(
+    writer: &mut W,
+    first: TextPiece<'_>,
+    second: TextPiece<'_>,
+) -> Result<(), WriteFailed>
     ensures { Writes result (W.contents writer.old) (W.contents writer.new) (piece_text first.entry ++ piece_text second.entry) }
 {
     put_piece(writer, first)?;
@@ -148,9 +156,9 @@ fn put_two<W: Write>(writer: &mut W, first: Piece<'_>, second: Piece<'_>) -> Res
 /// Writes three pieces.
 fn put_three<W: Write>(
     writer: &mut W,
-    first: Piece<'_>,
-    second: Piece<'_>,
-    third: Piece<'_>,
+    first: TextPiece<'_>,
+    second: TextPiece<'_>,
+    third: TextPiece<'_>,
 ) -> Result<(), WriteFailed>
     ensures { Writes result (W.contents writer.old) (W.contents writer.new) (piece_text first.entry ++ (piece_text second.entry ++ piece_text third.entry)) }
 {
@@ -161,10 +169,10 @@ fn put_three<W: Write>(
 /// Writes four pieces.
 fn put_four<W: Write>(
     writer: &mut W,
-    first: Piece<'_>,
-    second: Piece<'_>,
-    third: Piece<'_>,
-    fourth: Piece<'_>,
+    first: TextPiece<'_>,
+    second: TextPiece<'_>,
+    third: TextPiece<'_>,
+    fourth: TextPiece<'_>,
 ) -> Result<(), WriteFailed>
     ensures { Writes result (W.contents writer.old) (W.contents writer.new) (piece_text first.entry ++ (piece_text second.entry ++ (piece_text third.entry ++ piece_text fourth.entry))) }
 {
@@ -173,7 +181,10 @@ fn put_four<W: Write>(
 }
 
 /// Writes a text in pieces.
-pub(crate) fn put_pieces<W: Write>(writer: &mut W, pieces: Pieces<'_>) -> Result<(), WriteFailed>
+pub(crate) fn put_pieces<W: Write>(
+    writer: &mut W,
+    pieces: TextPieces<'_>,
+) -> Result<(), WriteFailed>
     ensures { Writes result (W.contents writer.old) (W.contents writer.new) (pieces_text pieces.entry) }
 {
     put_piece(writer, pieces.first)?;

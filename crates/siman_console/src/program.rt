@@ -17,7 +17,7 @@ use siman_command_line::{
 };
 use siman_exercise_commands::{TrialCommand, WorldFile, end_live, end_station};
 use siman_file_commands::{
-    Carried, CheckCommand, MendedFile, ShowCommand, chart_named, end_lines, join_pieces, tell_word,
+    Carried, CheckCommand, MendedFile, ShowCommand, chart_named, end_lines, join_pieces, show_word,
     word_of,
 };
 use siman_outside::{
@@ -42,7 +42,7 @@ fn do_one<'a, O: Outside, W: Write>(
         (deeds : List Deed) × Adds (O.deeds outside.old) (O.deeds outside.new) deeds × All (WasHeld (O.holds outside.old)) deeds × DoesOne command word.now deeds result out }
 {
     match command {
-        OneWord::Pdu => tell_word(alloc, word, out),
+        OneWord::Pdu => show_word(alloc, word, out),
         OneWord::Show => say_of_file(alloc, &ShowCommand, word, outside, out, notes),
     }
 }

@@ -8,7 +8,7 @@ use crate::file_reason::{
 };
 use crate::filter_reason::filter_pieces;
 use crate::named::Named;
-use crate::pieces::{Piece, Pieces, five, named, named_twice, two_named, words};
+use crate::pieces::{TextPiece, TextPieces, five, named, named_twice, two_named, words};
 use siman_lines::{LineTrouble, system_words};
 use siman_manager::OrderFault;
 use siman_outside::{
@@ -25,40 +25,40 @@ pub(crate) enum Reason<'a> {
     /// A failed call of a station's link, as the link reported it.
     Line(LineTrouble),
     /// A text in pieces.
-    Text(Pieces<'a>),
+    Text(TextPieces<'a>),
 }
 
 /// The number of a script's line, and words behind it.
-fn line_pieces(line: usize, told: &'static str) -> Pieces<'static>
+fn line_pieces(line: usize, told: &'static str) -> TextPieces<'static>
     ensures { pieces_text result ≡ line_text line told.now }
 {
     five(
-        Piece::Words("line "),
-        Piece::Number(line as u64),
-        Piece::Words(told),
-        Piece::Nothing,
-        Piece::Nothing,
+        TextPiece::Words("line "),
+        TextPiece::Number(line as u64),
+        TextPiece::Words(told),
+        TextPiece::Nothing,
+        TextPiece::Nothing,
     )
 }
 
 /// The datagrams that a delivery may name, after `sends` datagrams were sent.
-fn known_pieces(line: usize, sends: usize) -> Pieces<'static>
+fn known_pieces(line: usize, sends: usize) -> TextPieces<'static>
     ensures { pieces_text result ≡ known_text line sends }
 {
     if sends == 0 {
         return line_pieces(line, ": no datagram was sent before it");
     }
     five(
-        Piece::Words("line "),
-        Piece::Number(line as u64),
-        Piece::Words(": only the datagrams 0 to "),
-        Piece::Number(sends as u64 - 1),
-        Piece::Words(" were sent before it"),
+        TextPiece::Words("line "),
+        TextPiece::Number(line as u64),
+        TextPiece::Words(": only the datagrams 0 to "),
+        TextPiece::Number(sends as u64 - 1),
+        TextPiece::Words(" were sent before it"),
     )
 }
 
 /// The datagrams that a delivery may name, if it is known how many were sent before it.
-fn sent_pieces(line: usize, sends: Option<usize>) -> Pieces<'static>
+fn sent_pieces(line: usize, sends: Option<usize>) -> TextPieces<'static>
     ensures { pieces_text result ≡ sent_text line sends }
 {
     match sends {
@@ -88,7 +88,7 @@ fn move_words(fault: MoveFault) -> &'static str
 }
 
 /// The line of a move in its script, and why the move cannot be made, or which would do.
-fn move_pieces(place: MovePlace, fault: MoveFault) -> Pieces<'static>
+fn move_pieces(place: MovePlace, fault: MoveFault) -> TextPieces<'static>
     ensures { pieces_text result ≡ move_text place fault }
 {
     if let MoveFault::NoSuchSend = fault {
@@ -98,44 +98,44 @@ fn move_pieces(place: MovePlace, fault: MoveFault) -> Pieces<'static>
 }
 
 /// The number of steps, and the last step.
-fn step_pieces(steps: usize) -> Pieces<'static>
+fn step_pieces(steps: usize) -> TextPieces<'static>
     ensures { pieces_text result ≡ step_text steps }
 {
     if steps == 0 {
         return words("there are no steps");
     }
     five(
-        Piece::Words("the number of steps is "),
-        Piece::Number(steps as u64),
-        Piece::Words(": the last is "),
-        Piece::Number(steps as u64 - 1),
-        Piece::Nothing,
+        TextPiece::Words("the number of steps is "),
+        TextPiece::Number(steps as u64),
+        TextPiece::Words(": the last is "),
+        TextPiece::Number(steps as u64 - 1),
+        TextPiece::Nothing,
     )
 }
 
 /// The limit that pieces pass together.
-fn limit_pieces(limit: JoinLimit) -> Pieces<'static> {
+fn limit_pieces(limit: JoinLimit) -> TextPieces<'static> {
     match limit {
         JoinLimit::Stations => words("a recording has at most 256 stations"),
         JoinLimit::Records => words("a recording has at most 1048576 entries"),
         JoinLimit::Size => five(
-            Piece::Words("a recording has at most "),
-            Piece::Number(LARGEST_RECORDING),
-            Piece::Words(" bytes"),
-            Piece::Nothing,
-            Piece::Nothing,
+            TextPiece::Words("a recording has at most "),
+            TextPiece::Number(LARGEST_RECORDING),
+            TextPiece::Words(" bytes"),
+            TextPiece::Nothing,
+            TextPiece::Nothing,
         ),
     }
 }
 
 /// The reason for a station that an earlier piece has too.
-fn twice_pieces(site: u16, application: u16) -> Pieces<'static> {
+fn twice_pieces(site: u16, application: u16) -> TextPieces<'static> {
     five(
-        Piece::Words("an earlier piece has station "),
-        Piece::Address(site, application),
-        Piece::Words(" too: leave one of the two out"),
-        Piece::Nothing,
-        Piece::Nothing,
+        TextPiece::Words("an earlier piece has station "),
+        TextPiece::Address(site, application),
+        TextPiece::Words(" too: leave one of the two out"),
+        TextPiece::Nothing,
+        TextPiece::Nothing,
     )
 }
 
@@ -161,18 +161,18 @@ fn socket_words(known: Known) -> &'static str {
 }
 
 /// The reason for a socket that was not bound.
-fn socket_pieces<'a>(names: Named<'a>, known: Known) -> Pieces<'a> {
+fn socket_pieces<'a>(names: Named<'a>, known: Known) -> TextPieces<'a> {
     five(
-        Piece::Words("binding "),
-        Piece::Name(socket_name(names, known)),
-        Piece::Words(": "),
-        Piece::Words(socket_words(known)),
-        Piece::Nothing,
+        TextPiece::Words("binding "),
+        TextPiece::Name(socket_name(names, known)),
+        TextPiece::Words(": "),
+        TextPiece::Words(socket_words(known)),
+        TextPiece::Nothing,
     )
 }
 
 /// The reason for an existing file under the name of the one to be made.
-fn standing_pieces(names: Named<'_>) -> Pieces<'_> {
+fn standing_pieces(names: Named<'_>) -> TextPieces<'_> {
     if names.may_force {
         return named(
             names.made,
@@ -183,7 +183,7 @@ fn standing_pieces(names: Named<'_>) -> Pieces<'_> {
 }
 
 /// The reason for a world that does not run.
-fn world_pieces(fault: WorldFault) -> Pieces<'static> {
+fn world_pieces(fault: WorldFault) -> TextPieces<'static> {
     match fault {
         WorldFault::Stations => words("a station opens with at most 4096 entities"),
         WorldFault::Move(..) => words("the move cannot be made"),
@@ -192,7 +192,7 @@ fn world_pieces(fault: WorldFault) -> Pieces<'static> {
 }
 
 /// The reason for a fault, a text that no contract specifies; it may depend on the system's errors.
-fn other_pieces<'a>(fault: Fault<'a>, names: Named<'a>, known: Known) -> Pieces<'a> {
+fn other_pieces<'a>(fault: Fault<'a>, names: Named<'a>, known: Known) -> TextPieces<'a> {
     match fault {
         Fault::NotBytePairs | Fault::HexLine(_) => {
             words("pairs of hex digits are expected, of at most 65536 bytes")

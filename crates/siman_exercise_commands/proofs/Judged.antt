@@ -8,8 +8,8 @@ use Rattle.exercise_model.specs.declared.recording.TheConstants.{MOST_ENTRIES}
 use Rattle.siman_scripts.specs.declared.act.Act.{Act}
 use Rattle.siman_stations.specs.declared.turn.Node.{Node}
 use Rattle.siman_stations.specs.declared.world_fault.MoveFault.{MoveFault}
-use Rattle.siman_exercise_commands.specs.declared.live.moves.Halt.{Halt}
-use Rattle.siman_exercise_commands.specs.declared.live.moves.Halt.TheVariants as halts
+use Rattle.siman_exercise_commands.specs.declared.live.moves.LiveMoveFault.{LiveMoveFault}
+use Rattle.siman_exercise_commands.specs.declared.live.moves.LiveMoveFault.TheVariants as halts
 use Rattle.siman_exercise_commands.specs.Live.Moves.{live_fault, judged, Gives}
 
 -- what stands at a place
@@ -24,7 +24,7 @@ pub judged_there : {X : Type 0} (node : X → Node) (x : X) (entries : ℕ) (the
     → there ≡ Some x → judged entries (option_map node there) now act ≡ live_fault (node x) now act
 judged_there node x entries there now act room is = rw is (rw (room_is entries room) refl)
 
-pub passes_on : {X : Type 0} (result : Result X Halt) (halt : Halt) (reason other : Option MoveFault) → reason ≡ other
+pub passes_on : {X : Type 0} (result : Result X LiveMoveFault) (halt : LiveMoveFault) (reason other : Option MoveFault) → reason ≡ other
     → IsErrAnd result (λ e. e ≡ halt) → Gives other halt → IfErr result (Gives reason)
 passes_on (Ok x) halt reason other same passed gives = tt
 passes_on (Err e) halt reason other same passed gives = rw passed (rw same gives)
@@ -34,7 +34,7 @@ on_any (Ok x) p = p
 on_any (Err e) p = tt
 
 -- What came of serving stations is no reason against a move.
-pub served_any : {X : Type 0} (result : Result X Halt) (reason : Option MoveFault) → IfErr result (Gives None) → IfErr result (Gives reason)
+pub served_any : {X : Type 0} (result : Result X LiveMoveFault) (reason : Option MoveFault) → IfErr result (Gives None) → IfErr result (Gives reason)
 served_any (Ok x) reason h = tt
 served_any (Err (halts.Move fault)) reason h = absurd cc
 served_any (Err halts.Line) reason h = tt

@@ -22,13 +22,13 @@ use Rattle.siman_lines.specs.AtLines.{Telling, AreFresh, AreRun, HasRecorded}
 use Rattle.siman_lines.specs.KeptAtLine.{IsTail, IsWritten}
 use Rattle.siman_lines.proofs.Offered.{beginning, recorded_at_lines}
 use Rattle.siman_outside.specs.declared.fault.Fault.{Fault}
-use Rattle.siman_outside.specs.Opening.{OpensApart}
+use Rattle.siman_outside.specs.Opening.{OpensInput}
 use Rattle.siman_outside.specs.Outside.{Deed}
 use Rattle.siman_exercise_commands.specs.Live.{is_created}
 use Rattle.siman_exercise_commands.specs.Live.Lived.{EndsRecording, Performs, IsRecorded}
 
-pub none_created : (name made : List ℕ) (deeds : List Deed) (fault : Fault) → OpensApart name made deeds (Err fault) → is_created deeds ≡ false
-none_created name made deeds fault (inl (kind, is, unopened)) = ap is_created is
+pub none_created : (name made : List ℕ) (deeds : List Deed) (fault : Fault) → OpensInput name made deeds (Err fault) → is_created deeds ≡ false
+none_created name made deeds fault (inl (kind, is, open_fault)) = ap is_created is
 none_created name made deeds fault (inr (bytes, is, same)) = ap is_created is
 
 -- Of a file.

@@ -15,7 +15,7 @@ use Rattle.siman_lines.specs.AtLines.{Telling, AtLines, One}
 use Rattle.siman_lines.specs.Steps.{Each}
 use Rattle.siman_lines.proofs.Offered.{each_as, each_more}
 use Rattle.siman_outside.specs.declared.fault.Fault.{Fault}
-use Rattle.siman_exercise_commands.specs.declared.live.moves.Halt.{Halt}
+use Rattle.siman_exercise_commands.specs.declared.live.moves.LiveMoveFault.{LiveMoveFault}
 use Rattle.siman_exercise_commands.specs.Live.Moves.{of_line, of_done, at_move, ActsAt, ActEnds, ServesFour, JudgedEnds, MoveEnds, Gives, reason_against, MakesAt, MovesEnd}
 
 err_inside : {X E : Type 0} (r : Result X E) (a b : E) → r ≡ Err a → r ≡ Err b → a ≡ b
@@ -31,7 +31,7 @@ one_at Does k s ps w v p q same there does = record { before = p; after = q; the
 -- Of one move.
 
 -- its station was hindered
-pub hindered : {L : Type 0} (told : Telling L) (step : Move) (k : ℕ) (halt : Halt) (ps : List (StationAtLine L)) (w v : WriterState) (p q : StationAtLine L)
+pub hindered : {L : Type 0} (told : Telling L) (step : Move) (k : ℕ) (halt : LiveMoveFault) (ps : List (StationAtLine L)) (w v : WriterState) (p q : StationAtLine L)
     → k ≡ step.station → slice_get ps step.station ≡ Some p → ActEnds told step.now step.act (Err halt) p w q v
     → JudgedEnds told step (record { stations = ps; recorder = w }) (record { stations = set ps k q; recorder = v }) (Err halt)
 hindered told step k halt ps w v p q same there (Ok x, named, acts) = absurd cc
@@ -44,7 +44,7 @@ hindered told step k halt ps w v p q same there (Err fault, named, acts) =
 
 -- its station did its act, and then all were served, or one was not
 served_from : {L : Type 0} (told : Telling L) (step : Move) (k : ℕ) (ps : List (StationAtLine L)) (w v : WriterState) (p q : StationAtLine L) (new : AtLines L)
-    (result : Result (Unit {0}) Halt) (rounds : Result (Unit {0}) AtLineFault)
+    (result : Result (Unit {0}) LiveMoveFault) (rounds : Result (Unit {0}) AtLineFault)
     → One (ActsAt told step.now step.act (Ok tt)) step.station (record { stations = ps; recorder = w }) (record { stations = set ps k q; recorder = v })
     → ServesFour told step.now (record { stations = set ps k q; recorder = v }) new rounds → result ≡ of_done rounds
     → JudgedEnds told step (record { stations = ps; recorder = w }) new result
@@ -56,7 +56,7 @@ served_from told step k ps w v p q new result (Err fault) acts serves is =
     (inr (inr (record { fault = fault; named = refl; mid = record { stations = set ps k q; recorder = v }; acts = acts; serves = serves })))
 
 pub served : {L : Type 0} (told : Telling L) (step : Move) (k : ℕ) (ps : List (StationAtLine L)) (w v : WriterState) (p q : StationAtLine L) (new : AtLines L)
-    (result : Result (Unit {0}) Halt) (rounds : Result (Unit {0}) AtLineFault)
+    (result : Result (Unit {0}) LiveMoveFault) (rounds : Result (Unit {0}) AtLineFault)
     → k ≡ step.station → slice_get ps step.station ≡ Some p → ActEnds told step.now step.act (Ok tt) p w q v
     → ServesFour told step.now (record { stations = set ps k q; recorder = v }) new rounds → result ≡ of_done rounds
     → JudgedEnds told step (record { stations = ps; recorder = w }) new result
@@ -66,7 +66,7 @@ served told step k ps w v p q new result rounds same there (Ok x, named, acts) s
 served told step k ps w v p q new result rounds same there (Err fault, named, acts) serves is = absurd cc
 
 -- a move that is no delivery
-pub no_delivery : {L : Type 0} (told : Telling L) (now station : ℕ) (act : Act) (old new : AtLines L) (result : Result (Unit {0}) Halt)
+pub no_delivery : {L : Type 0} (told : Telling L) (now station : ℕ) (act : Act) (old new : AtLines L) (result : Result (Unit {0}) LiveMoveFault)
     → ((k : ℕ) → act ≡ Deliver k → ⊥) → JudgedEnds told (record { now = now; station = station; act = act }) old new result
     → MoveEnds told (record { now = now; station = station; act = act }) old new result
 no_delivery told now station (Command order) old new (Ok x) not ends = ends
@@ -106,10 +106,10 @@ move_made told moves ps p old mid new next made reason ends =
     (each_more (MakesAt told moves) (length ps) old mid new made (record { step = p.1; there = next.there; reason = reason; made = ends }))
 
 -- a move was not made
-pub move_halted : {L : Type 0} (told : Telling L) (moves : List Move) (ps : List (ℕ × Move)) (p : ℕ × Move) (old mid new : AtLines L) (halt : Halt) (fault : Fault)
+pub move_halted : {L : Type 0} (told : Telling L) (moves : List Move) (ps : List (ℕ × Move)) (p : ℕ × Move) (old mid new : AtLines L) (halt : LiveMoveFault) (fault : Fault)
     → IsNext moves ps p → Each (MakesAt told moves) (length ps) old mid → Gives (reason_against mid p.1) halt → MoveEnds told p.1 mid new (Err halt)
     → fault ≡ at_move p.0 halt → MovesEnd told moves old new (Err fault)
-move_halted told moves ps p old mid new halt fault next made reason ends told_as = record {
+move_halted told moves ps p old mid new halt fault next made reason ends reported_as = record {
   number = length ps;
   within = next.within;
   mid = mid;
@@ -118,7 +118,7 @@ move_halted told moves ps p old mid new halt fault next made reason ends told_as
     step = p.1;
     there = next.there;
     halt = halt;
-    told_as = told_as ∙ ap (λ (n : ℕ). at_move n halt) next.number;
+    reported_as = reported_as ∙ ap (λ (n : ℕ). at_move n halt) next.number;
     reason = reason;
     halted = ends;
   };

@@ -49,7 +49,7 @@ new_fresh script k n s handed there new unused = record {
     address = ap (λ o. o.address) new.settings ∙ ap (λ (o : StationData). o.address) (sym (station_there script k s there));
   };
   ranges = new.ranges;
-  nothing_came = new.kept_is;
+  nothing_received = new.kept_is;
   no_order = new.orders;
   unused = unused;
 }

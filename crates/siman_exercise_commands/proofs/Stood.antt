@@ -8,19 +8,19 @@ use Rattle.siman_scripts.specs.Script.{ScriptData}
 use Rattle.siman_scripts.specs.Stations.{WorldStationData}
 use Rattle.siman_stations.specs.declared.turn.Node.{Node}
 use Rattle.siman_lines.specs.Calls.{IsFresh}
-use Rattle.siman_operator.specs.Noting.{sent_through}
+use Rattle.siman_operator.specs.Noting.{datagrams_sent}
 use Rattle.siman_operator.specs.Posts.{IsBegun}
-use Rattle.siman_operator.specs.declared.recorded.Ready.{Ready}
+use Rattle.siman_operator.specs.declared.recorded.ReadyStation.{ReadyStation}
 use Rattle.siman_operator.specs.declared.scripted.SetUp.{SetUp}
 use Rattle.siman_operator.specs.declared.scripted.SetUpFault.{SetUpFault}
 use Rattle.siman_operator.specs.declared.scripted.SetUpFault.TheVariants as set_ups
 use Rattle.siman_operator.specs.Recorded.{open_setting, IsReady}
 use Rattle.siman_operator.specs.Scripted.{station_at, addresses_of, SetsUpFound, SetsUp}
-use Rattle.siman_exercise_commands.specs.Explained.{TextRead, TellsWhy}
+use Rattle.siman_exercise_commands.specs.Explained.{TextRead, GivesWhy}
 use Rattle.siman_exercise_commands.specs.Station.{of_set_up, SetsUpNone, SetsUpFile, IsOfScript}
 
 -- it is as it was begun
-pub stood_ready : {L : Type 0} (set_up : SetUp) (address : Pair) (ready : Ready L) → IsOfScript set_up → ready.head ≡ set_up.head
+pub stood_ready : {L : Type 0} (set_up : SetUp) (address : Pair) (ready : ReadyStation L) → IsOfScript set_up → ready.head ≡ set_up.head
     → IsBegun set_up.head.setting.exercise address set_up.node ready.post → IsReady ready
 stood_ready set_up address ready (x, addresses, s, is) head begun =
     let same = head ∙ is.head in
@@ -30,8 +30,8 @@ stood_ready set_up address ready (x, addresses, s, is) head begun =
       index = begun.index;
       fault = begun.fault;
       fresh =
-          subst (λ (n : Node). IsFresh 0 n (open_setting ready.head) (Some (sent_through ready.post.station.line))) (sym begun.node_is)
-          (subst (λ (r : PlainRecording). IsFresh 0 set_up.node (open_setting r) (Some (sent_through ready.post.station.line))) (sym same)
+          subst (λ (n : Node). IsFresh 0 n (open_setting ready.head) (Some (datagrams_sent ready.post.station.line))) (sym begun.node_is)
+          (subst (λ (r : PlainRecording). IsFresh 0 set_up.node (open_setting r) (Some (datagrams_sent ready.post.station.line))) (sym same)
           (record {
             station = record {
               within = omega arith;
@@ -41,7 +41,7 @@ stood_ready set_up address ready (x, addresses, s, is) head begun =
               address = ap (λ o. o.address) new.settings;
             };
             ranges = new.ranges;
-            nothing_came = new.kept_is;
+            nothing_received = new.kept_is;
             no_order = new.orders;
             unused = begun.sent;
           }));
@@ -53,7 +53,7 @@ none_set_up s address set_ups.Stations is = (s, refl, is)
 none_set_up s address set_ups.Memory is = tt
 
 -- no line of a script is refused where a station is not set up
-pub no_why : (t : TextRead) (fault : SetUpFault) → TellsWhy t (of_set_up fault)
+pub no_why : (t : TextRead) (fault : SetUpFault) → GivesWhy t (of_set_up fault)
 no_why t set_ups.NotInSetup = tt
 no_why t set_ups.Stations = tt
 no_why t set_ups.Memory = tt

@@ -44,7 +44,7 @@ sends_before s number =
     let w : WorldData = record { exercise = s.exercise; stations = s.stations } in length (sent_in (entries_of w (take number s.moves)))
 
 -- the place of a move in its script, given its number, from 0
-pub record StandsAt (t : TextRead) (number : ℕ) (place : MovePlace) : Type 0 where
+pub record IsPlacedAt (t : TextRead) (number : ℕ) (place : MovePlace) : Type 0 where
   pub line : line_of_move t.lines number ≡ Some place.line
   pub script : ScriptData
   pub read : t.scripted ≡ Ok script
@@ -54,15 +54,15 @@ pub record StandsAt (t : TextRead) (number : ℕ) (place : MovePlace) : Type 0 w
 abbrev pub Stopped : TextRead → WorldFault → Fault → Type 0
 Stopped t worlds.Stations told = told ≡ World worlds.Stations None
 Stopped t (worlds.Move number fault) told =
-    (told ≡ Memory) ⊎ ((place : MovePlace) × StandsAt t number place × (told ≡ World (worlds.Move number fault) (Some place)))
+    (told ≡ Memory) ⊎ ((place : MovePlace) × IsPlacedAt t number place × (told ≡ World (worlds.Move number fault) (Some place)))
 Stopped t worlds.Memory told = told ≡ Memory
 
 -- the reason or place that a fault has
-abbrev pub TellsWhy : TextRead → Fault → Type 0
-TellsWhy t (Script fault why) = why ≡ t.reason
-TellsWhy t (World (worlds.Move number fault) there) = (place : MovePlace) × (there ≡ Some place) × StandsAt t number place
-TellsWhy t other = ⊤
+abbrev pub GivesWhy : TextRead → Fault → Type 0
+GivesWhy t (Script fault why) = why ≡ t.reason
+GivesWhy t (World (worlds.Move number fault) there) = (place : MovePlace) × (there ≡ Some place) × IsPlacedAt t number place
+GivesWhy t other = ⊤
 
-abbrev pub TellsWhyNot : {A : Type 0} → TextRead → Result A Fault → Type 0
-TellsWhyNot t (Ok a) = ⊤
-TellsWhyNot t (Err fault) = TellsWhy t fault
+abbrev pub GivesReason : {A : Type 0} → TextRead → Result A Fault → Type 0
+GivesReason t (Ok a) = ⊤
+GivesReason t (Err fault) = GivesWhy t fault

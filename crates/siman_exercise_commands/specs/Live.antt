@@ -19,12 +19,12 @@ use Rattle.siman_scripts.specs.MoveLine.{line_of_move}
 use Rattle.std.specs.declared.io.ErrorKind.{ErrorKind}
 use Rattle.std.specs.declared.io.ErrorKind.TheVariants.{AlreadyExists, OutOfMemory}
 use Rattle.siman_outside.specs.Outside.{Has, Stream, Outcome, Deed, LooksFor, Lines, Creates, Leaves}
-use Rattle.siman_outside.specs.Ending.{Ends, fault_in, IsToldAs}
+use Rattle.siman_outside.specs.Ending.{Ends, fault_in, IsFaultOf}
 use Rattle.siman_outside.specs.Making.{Answered}
 use Rattle.siman_outside.specs.Opening.{WorksOn}
 use Rattle.siman_print.specs.Records.{line_end}
 use Rattle.siman_outside.specs.declared.fault.Ended.{Ended}
-use Rattle.siman_exercise_commands.specs.Explained.{Scripted, TextRead, text_read, TellsWhy}
+use Rattle.siman_exercise_commands.specs.Explained.{Scripted, TextRead, text_read, GivesWhy}
 use Rattle.siman_exercise_commands.specs.Live.Lived.{setting_of, Lives}
 use Rattle.siman_lines.specs.declared.station_at_line.StationAtLine.{StationAtLine}
 use Rattle.siman_lines.specs.AtLines.{Telling, Misfits, posts_of}
@@ -57,22 +57,22 @@ Begins scripted (Err fault) = BeginsNone scripted fault
 -- the stations and moves of what was read of a text, together with the text; or the reason why there are none
 abbrev pub BeginsText : TextRead → Result BegunText Fault → Type 0
 BeginsText t (Ok kept) = IsBegun t.scripted kept.begun × (kept.text.items ≡ t.lines)
-BeginsText t (Err fault) = BeginsNone t.scripted fault × TellsWhy t fault
+BeginsText t (Err fault) = BeginsNone t.scripted fault × GivesWhy t fault
 
 -- WHAT `live` BEGINS WITH, of a file with these bytes, if they are known
 abbrev pub BeginsFile : (known : Option (List ℕ)) → Result BegunText Fault → Type 0
 BeginsFile known begun = (text : List ℕ) × Has known text × BeginsText (text_read text) begun
 
 -- the fault of a file that was not created: memory ran out, a file of that name exists, or else a failed write
-abbrev pub IsUncreated : ErrorKind → Fault → Type 0
-IsUncreated kind fault =
+abbrev pub IsCreationFault : ErrorKind → Fault → Type 0
+IsCreationFault kind fault =
     ((kind ≡ OutOfMemory) × (fault ≡ Memory)) ⊎ ((kind ≡ AlreadyExists) × (fault ≡ Exists))
     ⊎ ((kind ≢ OutOfMemory) × (kind ≢ AlreadyExists) × (fault ≡ Output))
 
 -- A FILE IS CREATED, in which the stations record what they do, and is closed
 abbrev pub CreatesLived : {L : Type 0} → Telling L → SettingData → List Move → List (StationAtLine L) → (name : List ℕ) → List Deed → Answered → Stream → Type 0
 CreatesLived told w moves posts name (Creates made (Err kind) ∷ []) answered out =
-    (made ≡ name) × Keeps out.old out.new × ((fault : Fault) × IsUncreated kind fault × (answered ≡ Err fault))
+    (made ≡ name) × Keeps out.old out.new × ((fault : Fault) × IsCreationFault kind fault × (answered ≡ Err fault))
 CreatesLived told w moves posts name (Creates made (Ok fresh) ∷ Leaves left ∷ []) answered out =
     (made ≡ name) × (let file : Stream = record { old = fresh; new = left } in Lives told w moves posts file answered out)
 CreatesLived told w moves posts name deeds answered out = ⊥
@@ -83,8 +83,8 @@ CreatesNone fault deeds answered out = (deeds ≡ []) × (answered ≡ Err fault
 
 -- STATIONS ARE ATTACHED TO THEIR LINKS, post i with node i, link i and station i; none is, if there are not as many
 -- links as stations, or if memory runs out
-abbrev pub StandsAtLines : {L : Type 0} → Telling L → Begun → List L → (name : List ℕ) → List Deed → Answered → Stream → Type 0
-StandsAtLines told begun lines name deeds answered out =
+abbrev pub AttachesStations : {L : Type 0} → Telling L → Begun → List L → (name : List ℕ) → List Deed → Answered → Stream → Type 0
+AttachesStations told begun lines name deeds answered out =
     (Misfits begun.nodes.items lines × CreatesNone LineFailed deeds answered out)
     ⊎ CreatesNone Memory deeds answered out
     ⊎ ((length lines ≡ length begun.nodes.items)
@@ -93,9 +93,9 @@ StandsAtLines told begun lines name deeds answered out =
 -- AS MANY LINKS AS STATIONS are requested; if there are none, the fault is `live: line`, or that memory ran out
 abbrev pub LivesAtLines : {L : Type 0} → Telling L → Begun → (name : List ℕ) → List Deed → Answered → Stream → Type 0
 LivesAtLines told begun name (Lines stations (Err kind) ∷ deeds) answered out =
-    (stations ≡ length begun.nodes.items) × ((fault : Fault) × IsToldAs kind LineFailed fault × CreatesNone fault deeds answered out)
+    (stations ≡ length begun.nodes.items) × ((fault : Fault) × IsFaultOf kind LineFailed fault × CreatesNone fault deeds answered out)
 LivesAtLines {L} told begun name (Lines stations (Ok count) ∷ deeds) answered out =
-    (stations ≡ length begun.nodes.items) × ((lines : List L) × (length lines ≡ count) × StandsAtLines told begun lines name deeds answered out)
+    (stations ≡ length begun.nodes.items) × ((lines : List L) × (length lines ≡ count) × AttachesStations told begun lines name deeds answered out)
 LivesAtLines told begun name deeds answered out = ⊥
 
 -- A FILE OF THAT NAME EXISTS: nothing is done, and no link is requested
@@ -124,12 +124,12 @@ is_created (Creates name (Ok fresh) ∷ deeds) = true
 is_created (deed ∷ deeds) = is_created deeds
 
 -- the incomplete recording that a fault leaves: the file that was created before
-abbrev pub begun_in : (created : Bool) → (name : List ℕ) → Answered → Option (List ℕ)
-begun_in true name (Err fault) = Some name
-begun_in true name (Ok status) = None
-begun_in false name answered = None
+abbrev pub incomplete_recording : (created : Bool) → (name : List ℕ) → Answered → Option (List ℕ)
+incomplete_recording true name (Err fault) = Some name
+incomplete_recording true name (Ok status) = None
+incomplete_recording false name answered = None
 
 abbrev pub EndsLive : {L : Type 0} → Telling L → (script recording : List ℕ) → List Deed → Outcome → Type 0
 EndsLive told script recording deeds o =
     (answered : Answered) × WorksOn BeginsFile (LivesText told) script recording deeds answered o.out
-    × Ends answered o.ended o.errors.old o.errors.new × (o.fault ≡ fault_in answered) × (o.begun ≡ begun_in (is_created deeds) recording answered)
+    × Ends answered o.ended o.errors.old o.errors.new × (o.fault ≡ fault_in answered) × (o.begun ≡ incomplete_recording (is_created deeds) recording answered)

@@ -73,23 +73,23 @@ Tries scripted (Err Memory) old new = Keeps old new
 
 -- THE FAULT OF A TRIAL of a text that was not made: why it is no script, or the place of the move that cannot be
 -- made
-abbrev pub Untried : TextRead → TrialFault → Fault → Type 0
-Untried t (Read failed) told = told ≡ of_trial (Read failed)
-Untried t (Script fault) told = Refuses t fault told
-Untried t (World fault) told = Stopped t fault told
-Untried t Write told = told ≡ of_trial Write
-Untried t Memory told = told ≡ of_trial Memory
+abbrev pub IsNoTrialFault : TextRead → TrialFault → Fault → Type 0
+IsNoTrialFault t (Read failed) told = told ≡ of_trial (Read failed)
+IsNoTrialFault t (Script fault) told = Refuses t fault told
+IsNoTrialFault t (World fault) told = Stopped t fault told
+IsNoTrialFault t Write told = told ≡ of_trial Write
+IsNoTrialFault t Memory told = told ≡ of_trial Memory
 
 -- the status of a trial: 0 for yes
 abbrev pub Answers : TextRead → Result Bool TrialFault → Result ℕ Fault → Type 0
 Answers t (Ok true) answered = answered ≡ Ok 0
 Answers t (Ok false) answered = answered ≡ Ok 1
-Answers t (Err fault) answered = (told : Fault) × Untried t fault told × (answered ≡ Err told)
+Answers t (Err fault) answered = (told : Fault) × IsNoTrialFault t fault told × (answered ≡ Err told)
 
 -- the effect of a trial: its text is written, with status 0, or there is a fault
-abbrev pub TellsTrial : TextRead → (answered : Result ℕ Fault) → (old new : Option (List ℕ)) → Type 0
-TellsTrial t answered old new = (tried : Result Bool TrialFault) × Tries t.scripted tried old new × Answers t tried answered
+abbrev pub GivesTrial : TextRead → (answered : Result ℕ Fault) → (old new : Option (List ℕ)) → Type 0
+GivesTrial t answered old new = (tried : Result Bool TrialFault) × Tries t.scripted tried old new × Answers t tried answered
 
 -- THE TRIAL OF A SCRIPT of standard input, whose bytes are these if they are known
 abbrev pub TriesInput : (known : Option (List ℕ)) → Result ℕ Fault → (out : Stream) → Type 0
-TriesInput known answered out = (text : List ℕ) × Has known text × TellsTrial (text_read text) answered out.old out.new
+TriesInput known answered out = (text : List ℕ) × Has known text × GivesTrial (text_read text) answered out.old out.new

@@ -10,11 +10,11 @@ use Rattle.siman_scripts.specs.Stations.{WorldStationData}
 use Rattle.siman_stations.specs.declared.world_fault.WorldFault.TheVariants as worlds
 use Rattle.siman_operator.specs.Posts.{IsBegun}
 use Rattle.siman_operator.specs.declared.reading.TheConstants.{LONGEST_LINE}
-use Rattle.siman_operator.specs.declared.recorded.Ready.{Ready}
+use Rattle.siman_operator.specs.declared.recorded.ReadyStation.{ReadyStation}
 use Rattle.siman_operator.specs.declared.scripted.SetUp.{SetUp}
 use Rattle.siman_operator.specs.declared.scripted.SetUpFault.{SetUpFault}
 use Rattle.siman_operator.specs.declared.scripted.SetUpFault.TheVariants as set_ups
-use Rattle.siman_operator.specs.declared.told.Told.{Told}
+use Rattle.siman_operator.specs.declared.session_report.SessionReport.{SessionReport}
 use Rattle.siman_operator.specs.Recorded.{open_setting, Records, IsLeft}
 use Rattle.siman_operator.specs.Scripted.{IsSetUp, SetsUp}
 use Rattle.siman_command_line.specs.Words.{StationAsked}
@@ -23,12 +23,12 @@ use Rattle.siman_outside.specs.declared.fault.Ended.{Ended}
 use Rattle.siman_outside.specs.declared.fault.Fault.{Fault}
 use Rattle.siman_outside.specs.declared.fault.Fault.TheVariants.{Script, ScriptRead, World, LineFailed, NotInSetup, Exists, Memory}
 use Rattle.siman_exercise_commands.specs.declared.station.Placed.{Placed}
-use Rattle.siman_outside.specs.Ending.{Ends, IsToldAs, fault_text}
+use Rattle.siman_outside.specs.Ending.{Ends, IsFaultOf, fault_text}
 use Rattle.siman_outside.specs.Endpoints.{endpoint_of}
-use Rattle.siman_outside.specs.Opening.{IsUnopened}
+use Rattle.siman_outside.specs.Opening.{IsOpenFault}
 use Rattle.siman_outside.specs.Outside.{Has, Stream, Outcome, Deed, Opens, Reads, LooksFor, Binds, Creates, Leaves}
-use Rattle.siman_exercise_commands.specs.Live.{IsUncreated}
-use Rattle.siman_exercise_commands.specs.Explained.{Scripted, TextRead, text_read, TellsWhyNot}
+use Rattle.siman_exercise_commands.specs.Live.{IsCreationFault}
+use Rattle.siman_exercise_commands.specs.Explained.{Scripted, TextRead, text_read, GivesReason}
 use Rattle.std.specs.Result.{result_err}
 
 -- Words.
@@ -43,20 +43,20 @@ abbrev pub bad_word : StationAsked → Option (List ℕ)
 bad_word asked = if is_some (address_of asked.address) then bad_endpoint (asked.bind ∷ asked.peers) else Some asked.address
 
 -- its fault: `station: address WORD` with the word as it was typed
-abbrev pub TellsWord : List ℕ → Fault → Type 0
-TellsWord word fault = fault_text fault ≡ codes "station: address " ++ word
+abbrev pub IsAddressFault : List ℕ → Fault → Type 0
+IsAddressFault word fault = fault_text fault ≡ codes "station: address " ++ word
 
 abbrev pub FindsAddress : List ℕ → Result Pair Fault → Type 0
 FindsAddress word (Ok address) = address_of word ≡ Some address
-FindsAddress word (Err fault) = (address_of word ≡ None) × TellsWord word fault
+FindsAddress word (Err fault) = (address_of word ≡ None) × IsAddressFault word fault
 
 abbrev pub FindsEndpoint : List ℕ → Result Endpoint Fault → Type 0
 FindsEndpoint word (Ok endpoint) = endpoint_of word ≡ Some endpoint
-FindsEndpoint word (Err fault) = (endpoint_of word ≡ None) × TellsWord word fault
+FindsEndpoint word (Err fault) = (endpoint_of word ≡ None) × IsAddressFault word fault
 
 abbrev pub FindsEndpoints : List (List ℕ) → Result (Vec Endpoint Global) Fault → Type 0
 FindsEndpoints words (Ok endpoints) = map endpoint_of words ≡ map Some endpoints.items
-FindsEndpoints words (Err fault) = (fault ≡ Memory) ⊎ ((word : List ℕ) × (bad_endpoint words ≡ Some word) × TellsWord word fault)
+FindsEndpoints words (Err fault) = (fault ≡ Memory) ⊎ ((word : List ℕ) × (bad_endpoint words ≡ Some word) × IsAddressFault word fault)
 
 -- THE WORDS NAME the address and the endpoints of the station and its peers, and there is a buffer for a line of
 -- text
@@ -71,7 +71,7 @@ pub record IsPlaced (asked : StationAsked) (placed : Placed) : Type 0 where
 -- any time
 abbrev pub Places : StationAsked → Result Placed Fault → Type 0
 Places asked (Ok placed) = IsPlaced asked placed
-Places asked (Err fault) = (fault ≡ Memory) ⊎ ((word : List ℕ) × (bad_word asked ≡ Some word) × TellsWord word fault)
+Places asked (Err fault) = (fault ≡ Memory) ⊎ ((word : List ℕ) × (bad_word asked ≡ Some word) × IsAddressFault word fault)
 
 -- The script.
 
@@ -98,7 +98,7 @@ SetsUpText scripted address (Err fault) = SetsUpNone scripted address fault
 
 -- a station is set up from what was read of a text; or the reason why there is none
 abbrev pub SetsUpRead : TextRead → (address : Pair) → Result SetUp Fault → Type 0
-SetsUpRead t address set_up = SetsUpText t.scripted address set_up × TellsWhyNot t set_up
+SetsUpRead t address set_up = SetsUpText t.scripted address set_up × GivesReason t set_up
 
 -- a station is set up from a file with these bytes, if they are known
 abbrev pub SetsUpFile : (known : Option (List ℕ)) → (address : Pair) → Result SetUp Fault → Type 0
@@ -117,28 +117,28 @@ pub record Streams : Type 0 where
 
 -- the result of a session, or the fault that prevented it
 abbrev pub Played : Type 0
-Played = Result Told Fault
+Played = Result SessionReport Fault
 
 -- nothing more is done, printed or reported
 abbrev pub PlaysNone : Fault → List Deed → Played → Streams → Type 0
 PlaysNone fault deeds played s = (deeds ≡ []) × (played ≡ Err fault) × Keeps s.out.old s.out.new × Keeps s.errors.old s.errors.new
 
 -- A FILE IS CREATED, in which the station records what it does with the lines of standard input, and is closed
-abbrev pub CreatesPlayed : {L : Type 0} → (strangers : L → ℕ) → Ready L → (name : List ℕ) → (input : Option (List ℕ)) → List Deed → Played → Streams → Type 0
+abbrev pub CreatesPlayed : {L : Type 0} → (strangers : L → ℕ) → ReadyStation L → (name : List ℕ) → (input : Option (List ℕ)) → List Deed → Played → Streams → Type 0
 CreatesPlayed strangers ready name input (Creates made (Err kind) ∷ []) played s =
-    (made ≡ name) × ((fault : Fault) × IsUncreated kind fault × PlaysNone fault [] played s)
+    (made ≡ name) × ((fault : Fault) × IsCreationFault kind fault × PlaysNone fault [] played s)
 CreatesPlayed strangers ready name input (Creates made (Ok fresh) ∷ Leaves left ∷ []) played s =
     (made ≡ name)
-    × ((told : Told) × (played ≡ Ok told) × Records strangers input ready fresh left s.out.old s.out.new s.errors.old s.errors.new told
+    × ((told : SessionReport) × (played ≡ Ok told) × Records strangers input ready fresh left s.out.old s.out.new s.errors.old s.errors.new told
     × IsLeft (open_setting ready.head) ready.post.station.node.application.outfit told.status fresh left)
 CreatesPlayed strangers ready name input deeds played s = ⊥
 
 -- THE STATION IS ATTACHED TO ITS LINK as it was set up, among the stations of its script; it is not if memory runs
 -- out
-abbrev pub Stands : {L : Type 0} → (strangers : L → ℕ) → SetUp → (address : Pair) → (name : List ℕ) → (input : Option (List ℕ)) → List Deed → Played → Streams → Type 0
-Stands {L} strangers set_up address name input deeds played s =
+abbrev pub IsAttached : {L : Type 0} → (strangers : L → ℕ) → SetUp → (address : Pair) → (name : List ℕ) → (input : Option (List ℕ)) → List Deed → Played → Streams → Type 0
+IsAttached {L} strangers set_up address name input deeds played s =
     PlaysNone Memory deeds played s
-    ⊎ ((ready : Ready L) × (ready.head ≡ set_up.head) × IsBegun set_up.head.setting.exercise address set_up.node ready.post
+    ⊎ ((ready : ReadyStation L) × (ready.head ≡ set_up.head) × IsBegun set_up.head.setting.exercise address set_up.node ready.post
     × (ready.stations ≡ set_up.stations) × CreatesPlayed strangers ready name input deeds played s)
 
 -- ITS LINK is requested, with the endpoints that the words name; if there is none, the fault is `live: line`, or
@@ -146,9 +146,9 @@ Stands {L} strangers set_up address name input deeds played s =
 abbrev pub HasLine : {L : Type 0} → (strangers : L → ℕ) → SetUp → Placed → (name : List ℕ) → (input : Option (List ℕ)) → List Deed → Played → Streams → Type 0
 HasLine strangers set_up placed name input (Binds bind peers anyone (Err kind) ∷ deeds) played s =
     (bind ≡ placed.bind) × (peers ≡ placed.peers.items) × (anyone ≡ placed.anyone)
-    × ((fault : Fault) × IsToldAs kind LineFailed fault × PlaysNone fault deeds played s)
+    × ((fault : Fault) × IsFaultOf kind LineFailed fault × PlaysNone fault deeds played s)
 HasLine strangers set_up placed name input (Binds bind peers anyone (Ok x) ∷ deeds) played s =
-    (bind ≡ placed.bind) × (peers ≡ placed.peers.items) × (anyone ≡ placed.anyone) × Stands strangers set_up placed.address name input deeds played s
+    (bind ≡ placed.bind) × (peers ≡ placed.peers.items) × (anyone ≡ placed.anyone) × IsAttached strangers set_up placed.address name input deeds played s
 HasLine strangers set_up placed name input deeds played s = ⊥
 
 -- A FILE OF THE RECORDING'S NAME EXISTS: nothing is done, and no link is requested
@@ -161,7 +161,7 @@ PlaysSetUp strangers set_up placed name input deeds played s = ⊥
 -- THE SCRIPT IS OPENED and read, and its station set up
 abbrev pub PlaysFile : {L : Type 0} → (strangers : L → ℕ) → StationAsked → Placed → (input : Option (List ℕ)) → List Deed → Played → Streams → Type 0
 PlaysFile strangers asked placed input (Opens opened (Err kind) ∷ deeds) played s =
-    (opened ≡ asked.setup) × ((fault : Fault) × IsUnopened asked.setup kind fault × PlaysNone fault deeds played s)
+    (opened ≡ asked.setup) × ((fault : Fault) × IsOpenFault asked.setup kind fault × PlaysNone fault deeds played s)
 PlaysFile strangers asked placed input (Opens opened (Ok known) ∷ Reads read ∷ deeds) played s =
     (opened ≡ asked.setup) × (read ≡ known)
     × (((fault : Fault) × SetsUpFile known placed.address (Err fault) × PlaysNone fault deeds played s)

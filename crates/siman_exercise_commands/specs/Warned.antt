@@ -18,17 +18,17 @@ is_got stations site application = list_any (λ s. gets site application s.stati
 
 -- THE RECEIVER OF AN ORDER THAT NOBODY RECEIVES: its site and application, if none of these stations is there;
 -- something sent to every site is always received
-abbrev pub nobody_of : List WorldStationData → Act → Option (ℕ × ℕ)
-nobody_of stations (Command order) =
+abbrev pub absent_receiver : List WorldStationData → Act → Option (ℕ × ℕ)
+absent_receiver stations (Command order) =
     if (order.target.site == EVERY) || is_got stations order.target.site order.target.application then None
     else Some (order.target.site, order.target.application)
-nobody_of stations (Deliver k) = None
-nobody_of stations Tick = None
-nobody_of stations (Tell e) = None
+absent_receiver stations (Deliver k) = None
+absent_receiver stations Tick = None
+absent_receiver stations (Tell e) = None
 
 -- nobody receives the order of a move
 abbrev pub is_lost : List WorldStationData → Move → Bool
-is_lost stations m = is_some (nobody_of stations m.act)
+is_lost stations m = is_some (absent_receiver stations m.act)
 
 -- A WARNING IS TRUE of a script, given its text: the order of that line is for this station, and nobody receives it
 pub record WarnsOf (text : List ℕ) (s : ScriptData) (warning : Warning) : Type 0 where
@@ -36,7 +36,7 @@ pub record WarnsOf (text : List ℕ) (s : ScriptData) (warning : Warning) : Type
   pub move : Move
   pub there : slice_get s.moves number ≡ Some move
   pub nobody : ℕ × ℕ
-  pub receiver : nobody_of s.stations move.act ≡ Some nobody
+  pub receiver : absent_receiver s.stations move.act ≡ Some nobody
   pub line : ℕ
   pub line_is : line_of_move text number ≡ Some line
   pub warning_is : warning ≡ NoSuchStation line nobody.0 nobody.1

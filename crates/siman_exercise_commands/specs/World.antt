@@ -18,7 +18,7 @@ use Rattle.siman_outside.specs.declared.fault.Fault.TheVariants.{Script, ScriptR
 use Rattle.siman_outside.specs.Ending.{EndsWith}
 use Rattle.siman_outside.specs.Outside.{Has, Stream, Deed}
 use Rattle.siman_outside.specs.Making.{WritesShort, MakesFile}
-use Rattle.siman_exercise_commands.specs.Explained.{Scripted, TextRead, text_read, TellsWhyNot}
+use Rattle.siman_exercise_commands.specs.Explained.{Scripted, TextRead, text_read, GivesReason}
 use Rattle.siman_print.specs.Line.{Number, Keyed, named_line}
 use Rattle.siman_print.specs.Spelled.{line_text}
 
@@ -62,7 +62,7 @@ Runs scripted (Err fault) = YieldsNone scripted fault
 
 -- the recording that was made of what was read of a text; or the reason why there is none
 abbrev pub RunsText : TextRead → Result PlainRecording Fault → Type 0
-RunsText t made = Runs t.scripted made × TellsWhyNot t made
+RunsText t made = Runs t.scripted made × GivesReason t made
 
 -- the text of the entry of an index
 abbrev pub entry_written : PlainRecording → ℕ → List ℕ
@@ -89,8 +89,8 @@ PutsWorld r (Err Memory) file out = WritesPart file.old file.new (recording_text
 PutsWorld r (Err other) file out = ⊥
 
 -- the effect of `world`: the script yields no recording, and nothing is written; or it yields one, which is written
-abbrev pub TellsWorld : Scripted → (answered : Result ℕ Fault) → (file out : Stream) → Type 0
-TellsWorld scripted answered file out =
+abbrev pub GivesWorld : Scripted → (answered : Result ℕ Fault) → (file out : Stream) → Type 0
+GivesWorld scripted answered file out =
     ((fault : Fault) × YieldsNone scripted fault × (answered ≡ Err fault) × Keeps file.old file.new × Keeps out.old out.new)
     ⊎ ((r : PlainRecording) × Yields scripted r × PutsWorld r answered file out)
 
@@ -98,7 +98,7 @@ TellsWorld scripted answered file out =
 -- that
 abbrev pub EndsWorld : Scripted → (status : ℕ) → (file out errors : Stream) → Type 0
 EndsWorld scripted status file out errors =
-    (answered : Result ℕ Fault) × TellsWorld scripted answered file out × EndsWith answered status errors.old errors.new
+    (answered : Result ℕ Fault) × GivesWorld scripted answered file out × EndsWith answered status errors.old errors.new
 
 -- THE RECORDING that `world` makes of a file with these bytes, if they are known; and the file of that recording
 abbrev pub RunsFile : (known : Option (List ℕ)) → Result PlainRecording Fault → Type 0

@@ -3,7 +3,7 @@
 ghost use Rattle.std.specs.Prelude.{◌≡◌, Ok, Some, IfSome};
 ghost use Rattle.siman_scripts.specs.MoveLine.{line_of_move};
 ghost use Rattle.siman_scripts.specs.Script.{ScriptData, script_at};
-ghost use Rattle.siman_exercise_commands.specs.Explained.{text_read, sends_before, StandsAt, Refuses, Stopped};
+ghost use Rattle.siman_exercise_commands.specs.Explained.{text_read, sends_before, IsPlacedAt, Refuses, Stopped};
 
 use crate::world::sent_count;
 use siman_outside::{Fault, MovePlace};
@@ -41,7 +41,7 @@ fn sends_before(alloc: Global, text: &[u8], number: usize) -> Option<usize>
 
 /// Place of a move in its script, given its number, from 0. `None` if memory runs out.
 fn place_of(alloc: Global, text: &[u8], number: usize) -> Option<MovePlace>
-    ensures { IfSome result (StandsAt (text_read text.now) number) }
+    ensures { IfSome result (IsPlacedAt (text_read text.now) number) }
 {
     let line = line_of_move(alloc, text, number).ok()??;
     let sends = sends_before(alloc, text, number)?;

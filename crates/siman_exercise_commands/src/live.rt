@@ -7,8 +7,8 @@ ghost use Rattle.std.specs.List.{All};
 ghost use Rattle.exercise_model.specs.Setting.{IsSetting};
 ghost use Rattle.siman_lines.specs.AtLines.{Telling, AreFresh};
 ghost use Rattle.siman_outside.specs.Opening.{WorksOn};
-ghost use Rattle.siman_exercise_commands.specs.Explained.{text_read, TellsWhyNot};
-ghost use Rattle.siman_exercise_commands.specs.Live.{Begins, BeginsText, BeginsFile, IsUncreated, CreatesLived, LivesAtLines, LivesBegun, IsPlaced, LivesText, is_created, begun_in, EndsLive};
+ghost use Rattle.siman_exercise_commands.specs.Explained.{text_read, GivesReason};
+ghost use Rattle.siman_exercise_commands.specs.Live.{Begins, BeginsText, BeginsFile, IsCreationFault, CreatesLived, LivesAtLines, LivesBegun, IsPlaced, LivesText, is_created, incomplete_recording, EndsLive};
 ghost use Rattle.siman_exercise_commands.specs.Live.Lived.{AreNew};
 ghost use Rattle.siman_outside.specs.Outside.{Stream, outcome_of, Deed, Found, Adds, WasHeld, Has};
 
@@ -16,16 +16,16 @@ mod moves;
 mod recorded;
 
 use crate::explained::{refused, stopped};
-use crate::live::moves::{stand_at_lines, trouble_of};
-use crate::live::recorded::{Recorded, record_moves, tell_entries};
+use crate::live::moves::{attach_stations, trouble_of};
+use crate::live::recorded::{LiveRecording, put_live_row, record_moves};
 use crate::warned::no_such_station;
 use exercise_model::Recording;
 use siman_lines::{LineTrouble, StationAtLine, left_out};
 use siman_outside::{
-    Ending, Fault, MovePlace, Notes, Outside, conclude, of_error, open_apart, read_text,
+    Ending, Fault, MovePlace, Notes, Outside, conclude, of_error, open_input, read_text,
 };
 use siman_scripts::{LARGEST_SCRIPT, Move, Script, line_of_move, read_script};
-use siman_stations::{Beginning, Node, WorldFault, begin_world};
+use siman_stations::{InitialWorld, Node, WorldFault, begin_world};
 use std::alloc::Global;
 use std::io;
 use std::io::{ErrorKind, Read, Write};
@@ -67,7 +67,7 @@ fn begin_script<R: Read + Drop>(
 /// station that it lacks.
 fn begin_text(alloc: Global, text: &[u8], notes: &mut Notes) -> Result<Begun, Fault<'static>>
     ensures begins { Begins (script_at text.now) result }
-    ensures why { TellsWhyNot (text_read text.now) result }
+    ensures why { GivesReason (text_read text.now) result }
 {
     match read_script(alloc, text) {
         Ok(script) => {
@@ -82,7 +82,7 @@ fn begin_text(alloc: Global, text: &[u8], notes: &mut Notes) -> Result<Begun, Fa
 fn begin_read(alloc: Global, text: &[u8], script: Script) -> Result<Begun, Fault<'static>>
     requires { script_at text.now ≡ Ok script }
     ensures begins { Begins (script_at text.now) result }
-    ensures why { TellsWhyNot (text_read text.now) result }
+    ensures why { GivesReason (text_read text.now) result }
 {
     let Script {
         exercise,
@@ -90,7 +90,7 @@ fn begin_read(alloc: Global, text: &[u8], script: Script) -> Result<Begun, Fault
         moves,
     } = script;
     match begin_world(alloc, exercise, stations) {
-        Ok(Beginning { recording, nodes }) => Ok(Begun {
+        Ok(InitialWorld { recording, nodes }) => Ok(Begun {
             recording,
             nodes,
             moves,
@@ -103,8 +103,8 @@ fn begin_read(alloc: Global, text: &[u8], script: Script) -> Result<Begun, Fault
 }
 
 /// Fault of a file that could not be created.
-pub(crate) fn uncreated(error: &io::Error) -> Fault<'static>
-    ensures { IsUncreated (error_kind error.now) result }
+pub(crate) fn creation_fault(error: &io::Error) -> Fault<'static>
+    ensures { IsCreationFault (error_kind error.now) result }
 {
     match error.kind() {
         ErrorKind::OutOfMemory => Fault::Memory,
@@ -123,7 +123,7 @@ struct Lived<'a> {
 }
 
 /// Result of a fault before a file was created.
-fn unlived(fault: Fault<'_>) -> Lived<'_>
+fn fault_before_file(fault: Fault<'_>) -> Lived<'_>
     ensures answered { result.answered ≡ Err fault.entry }
     ensures created { result.created ≡ false }
 {
@@ -155,8 +155,8 @@ fn create_live<O: Outside, W: Write>(
         Ok(file) => {
             let mut stations = stations;
             let recorded = record_moves(alloc, head, &mut stations, moves, file);
-            let Recorded { entries, file } = recorded;
-            let answered = tell_entries(alloc, entries, left_out(&stations), out);
+            let LiveRecording { entries, file } = recorded;
+            let answered = put_live_row(alloc, entries, left_out(&stations), out);
             outside.close(file);
             Lived {
                 answered,
@@ -164,7 +164,7 @@ fn create_live<O: Outside, W: Write>(
                 trouble: trouble_of(&stations),
             }
         }
-        Err(error) => unlived(uncreated(&error)),
+        Err(error) => fault_before_file(creation_fault(&error)),
     }
 }
 
@@ -189,12 +189,12 @@ fn live_at_lines<O: Outside, W: Write>(
     let lines = match outside.lines(alloc, nodes.len()) {
         Ok(lines) => lines,
         Err(error) => {
-            return unlived(of_error(&error, Fault::LineFailed));
+            return fault_before_file(of_error(&error, Fault::LineFailed));
         }
     };
-    match stand_at_lines(alloc, nodes, lines) {
+    match attach_stations(alloc, nodes, lines) {
         Ok(stations) => create_live(alloc, &recording, stations, moves, name, outside, out),
-        Err(fault) => unlived(fault),
+        Err(fault) => fault_before_file(fault),
     }
 }
 
@@ -212,7 +212,7 @@ fn live_begun<O: Outside, W: Write>(
         (deeds : List Deed) × Adds (O.deeds outside.old) (O.deeds outside.new) deeds × ((holds : List ℕ → Option Found) → All (WasHeld holds) deeds) × LivesBegun told begun name.now deeds result.answered out × (result.created ≡ is_created deeds) }
 {
     if outside.is_taken(name) {
-        return unlived(Fault::Exists);
+        return fault_before_file(Fault::Exists);
     }
     live_at_lines(alloc, begun, name, outside, out)
 }
@@ -270,18 +270,18 @@ fn live_of_file<'a, O: Outside, W: Write>(
         let out : Stream = record { old = W.contents out.old; new = W.contents out.new } in
         (deeds : List Deed) × Adds (O.deeds outside.old) (O.deeds outside.new) deeds × All (WasHeld (O.holds outside.old)) deeds × WorksOn BeginsFile (LivesText told) names.entry.0.now names.entry.1.now deeds result.answered out × (result.created ≡ is_created deeds) }
 {
-    match open_apart(names, outside) {
+    match open_input(names, outside) {
         Ok(opened) => match begin_script(alloc, outside.read(opened), notes) {
             Ok(script) => live_text(alloc, script, names.1, outside, out),
-            Err(fault) => unlived(fault),
+            Err(fault) => fault_before_file(fault),
         },
-        Err(fault) => unlived(fault),
+        Err(fault) => fault_before_file(fault),
     }
 }
 
 /// Name of the incomplete recording that a fault leaves, if its file was created.
-fn begun_in<'a>(lived: Lived<'_>, name: &'a str) -> Option<&'a str>
-    ensures { option_map (λ name. name.now) result ≡ begun_in lived.entry.created name.now lived.entry.answered }
+fn incomplete_recording<'a>(lived: Lived<'_>, name: &'a str) -> Option<&'a str>
+    ensures { option_map (λ name. name.now) result ≡ incomplete_recording lived.entry.created name.now lived.entry.answered }
 {
     if !lived.created {
         return None;
@@ -308,7 +308,7 @@ pub fn end_live<'a, O: Outside, W: Write, E: Write>(
     let mut notes = Notes::nothing();
     let lived = live_of_file(alloc, words, outside, out, &mut notes);
     Ending {
-        begun: begun_in(lived, words.1),
+        begun: incomplete_recording(lived, words.1),
         trouble: lived.trouble,
         warning: notes.warning,
         ..conclude(lived.answered, errors)

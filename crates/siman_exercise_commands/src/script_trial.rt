@@ -4,13 +4,13 @@
 ghost use Rattle.std.specs.Prelude.{◌≡◌, ℕ, List, Ok, IfOk, OnOk, string_bytes};
 ghost use Rattle.exercise_model.specs.History.{past};
 ghost use Rattle.exercise_model.specs.Run.{IsRun};
-ghost use Rattle.exercise_findings.specs.Account.{TellsAccount};
+ghost use Rattle.exercise_findings.specs.Account.{IsAccount};
 ghost use Rattle.exercise_check.specs.declared.certificate.Step.{Step};
 ghost use Rattle.exercise_check.specs.Goodness.{IsGood};
 ghost use Rattle.siman_scripts.specs.Script.{script_at};
 ghost use Rattle.siman_outside.specs.Outside.{Has};
 ghost use Rattle.siman_exercise_commands.specs.Explained.{text_read};
-ghost use Rattle.siman_exercise_commands.specs.ScriptTrial.{trial_text, Performs, Tries, Untried, TellsTrial};
+ghost use Rattle.siman_exercise_commands.specs.ScriptTrial.{trial_text, Performs, Tries, IsNoTrialFault, GivesTrial};
 
 use crate::explained::{refused, stopped};
 use crate::world::world_line;
@@ -132,7 +132,7 @@ fn explain(alloc: Global, log: &Recording) -> Result<Certificate, AllocError>
 #[tactic(auto, using(siman_outside::proofs::Offered::not_good))]
 fn accept(alloc: Global, log: &Recording, certificate: &Certificate) -> Result<Checked, AllocError>
     requires { IsGood log.now certificate.now.steps.items }
-    ensures { IfOk result (TellsAccount log.now) }
+    ensures { IfOk result (IsAccount log.now) }
 {
     match check(alloc, log, certificate) {
         Ok(checked) => Ok(checked),
@@ -143,8 +143,8 @@ fn accept(alloc: Global, log: &Recording, certificate: &Certificate) -> Result<C
 
 /// Fault of a trial that was not made: why the text is no script, or the place of the move that
 /// cannot be made.
-fn untried(alloc: Global, text: &[u8], fault: TrialFault) -> Fault<'static>
-    ensures { Untried (text_read text.now) fault result }
+fn no_trial_fault(alloc: Global, text: &[u8], fault: TrialFault) -> Fault<'static>
+    ensures { IsNoTrialFault (text_read text.now) fault result }
 {
     match fault {
         TrialFault::Script(fault) => refused(alloc, text, fault),
@@ -155,11 +155,11 @@ fn untried(alloc: Global, text: &[u8], fault: TrialFault) -> Fault<'static>
 
 /// Tries the script of a text, and returns the status.
 fn answer<W: Write>(alloc: Global, text: &[u8], out: &mut W) -> Result<u8, Fault<'static>>
-    ensures { TellsTrial (text_read text.now) result (W.contents out.old) (W.contents out.new) }
+    ensures { GivesTrial (text_read text.now) result (W.contents out.old) (W.contents out.new) }
 {
     match try_text(alloc, text, out) {
         Ok(true) => Ok(0),
         Ok(false) => Ok(1),
-        Err(fault) => Err(untried(alloc, text, fault)),
+        Err(fault) => Err(no_trial_fault(alloc, text, fault)),
     }
 }

@@ -8,20 +8,21 @@ ghost use Rattle.siman_scripts.specs.Script.{script_at};
 ghost use Rattle.siman_operator.specs.declared.reading.TheConstants.{LONGEST_LINE};
 ghost use Rattle.siman_operator.specs.Recorded.{IsReady};
 ghost use Rattle.siman_command_line.specs.Words.{named_by};
-ghost use Rattle.siman_exercise_commands.specs.Explained.{TextRead, text_read, TellsWhyNot};
-ghost use Rattle.siman_exercise_commands.specs.Station.{of_set_up, Streams, FindsAddress, FindsEndpoint, FindsEndpoints, Places, SetsUpText, SetsUpFile, IsOfScript, CreatesPlayed, Stands, HasLine, PlaysSetUp, PlaysFile, EndsPlayed, EndsStation};
+ghost use Rattle.siman_exercise_commands.specs.Explained.{TextRead, text_read, GivesReason};
+ghost use Rattle.siman_exercise_commands.specs.Station.{of_set_up, Streams, FindsAddress, FindsEndpoint, FindsEndpoints, Places, SetsUpText, SetsUpFile, IsOfScript, CreatesPlayed, IsAttached, HasLine, PlaysSetUp, PlaysFile, EndsPlayed, EndsStation};
 
 use crate::explained::refused;
-use crate::live::uncreated;
+use crate::live::creation_fault;
 use dis_records::Address;
 use siman_command_line::StationWords;
 use siman_lines::Line;
 use siman_operator::{
-    LONGEST_LINE, Ready, Recorded, SetUp, SetUpFault, Told, record_session, set_up, stand,
+    LONGEST_LINE, ReadyStation, SessionRecording, SessionReport, SetUp, SetUpFault, attach_station,
+    record_session, set_up,
 };
 use siman_outside::{
-    Ended, Ending, Endpoint, Fault, Outside, conclude, end, endpoint_of, of_error, read_text,
-    unopened,
+    Ended, Ending, Endpoint, Fault, Outside, conclude, end, endpoint_of, of_error, open_fault,
+    read_text,
 };
 use siman_scripts::{LARGEST_SCRIPT, Script, address_of, read_script};
 use siman_stations::WorldFault;
@@ -107,7 +108,7 @@ fn of_set_up(fault: SetUpFault) -> Fault<'static>
 /// Sets up the station of a script with this address.
 fn set_up_script(alloc: Global, script: Script, address: Address) -> Result<SetUp, Fault<'static>>
     ensures sets_up { SetsUpText (Ok script) address result }
-    ensures why { (t : TextRead) → TellsWhyNot t result }
+    ensures why { (t : TextRead) → GivesReason t result }
 {
     match set_up(alloc, script, address) {
         Ok(set_up) => Ok(set_up),
@@ -118,7 +119,7 @@ fn set_up_script(alloc: Global, script: Script, address: Address) -> Result<SetU
 /// Sets up the station with this address of the script that a text spells.
 fn set_up_text(alloc: Global, text: &[u8], address: Address) -> Result<SetUp, Fault<'static>>
     ensures sets_up { SetsUpText (script_at text.now) address result }
-    ensures why { TellsWhyNot (text_read text.now) result }
+    ensures why { GivesReason (text_read text.now) result }
 {
     match read_script(alloc, text) {
         Ok(script) => set_up_script(alloc, script, address),
@@ -143,14 +144,14 @@ fn set_up_file<R: Read + Drop>(
 /// recorded in that file.
 fn create_played<O: Outside, R: Read, W: Write, E: Write>(
     alloc: Global,
-    ready: Ready<O::Line>,
+    ready: ReadyStation<O::Line>,
     room: &mut [u8],
     name: &str,
     outside: &mut O,
     input: &mut R,
     out: &mut W,
     errors: &mut E,
-) -> Result<Told, Fault<'static>>
+) -> Result<SessionReport, Fault<'static>>
     requires room { length room.old ≡ LONGEST_LINE + 1 }
     requires ready { IsReady ready }
     ensures { let s : Streams = record { out = record { old = W.contents out.old; new = W.contents out.new }; errors = record { old = E.contents errors.old; new = E.contents errors.new } } in
@@ -159,13 +160,13 @@ fn create_played<O: Outside, R: Read, W: Write, E: Write>(
     match outside.create(name) {
         Ok(file) => {
             let recorded = record_session(alloc, ready, file, input, room, out, errors);
-            let Recorded { told, file } = recorded;
+            let SessionRecording { told, file } = recorded;
             outside.close(file);
             Ok(told)
         }
         Err(error) => {
             drop(ready);
-            Err(uncreated(&error))
+            Err(creation_fault(&error))
         }
     }
 }
@@ -182,20 +183,20 @@ fn play_at_line<O: Outside, R: Read, W: Write, E: Write>(
     input: &mut R,
     out: &mut W,
     errors: &mut E,
-) -> Result<Told, Fault<'static>>
+) -> Result<SessionReport, Fault<'static>>
     requires room { length room.old ≡ LONGEST_LINE + 1 }
     requires set_up { IsOfScript set_up }
     ensures { let s : Streams = record { out = record { old = W.contents out.old; new = W.contents out.new }; errors = record { old = E.contents errors.old; new = E.contents errors.new } } in
-        (deeds : List Deed) × Adds (O.deeds outside.old) (O.deeds outside.new) deeds × ((holds : List ℕ → Option Found) → All (WasHeld holds) deeds) × Stands O.Line.strangers set_up address name.now (R.remaining input.old) deeds result s }
+        (deeds : List Deed) × Adds (O.deeds outside.old) (O.deeds outside.new) deeds × ((holds : List ℕ → Option Found) → All (WasHeld holds) deeds) × IsAttached O.Line.strangers set_up address name.now (R.remaining input.old) deeds result s }
 {
-    match stand(alloc, set_up, address, line) {
+    match attach_station(alloc, set_up, address, line) {
         Ok(ready) => create_played(alloc, ready, room, name, outside, input, out, errors),
         Err(_) => Err(Fault::Memory),
     }
 }
 
 /// Requests the station's link, and plays the station there.
-fn play_placed<O: Outside, R: Read, W: Write, E: Write>(
+fn open_and_play<O: Outside, R: Read, W: Write, E: Write>(
     alloc: Global,
     set_up: SetUp,
     placed: Placed,
@@ -204,7 +205,7 @@ fn play_placed<O: Outside, R: Read, W: Write, E: Write>(
     input: &mut R,
     out: &mut W,
     errors: &mut E,
-) -> Result<Told, Fault<'static>>
+) -> Result<SessionReport, Fault<'static>>
     requires room { length placed.room.items ≡ LONGEST_LINE + 1 }
     requires set_up { IsOfScript set_up }
     ensures { let s : Streams = record { out = record { old = W.contents out.old; new = W.contents out.new }; errors = record { old = E.contents errors.old; new = E.contents errors.new } } in
@@ -239,7 +240,7 @@ fn play_set_up<O: Outside, R: Read, W: Write, E: Write>(
     input: &mut R,
     out: &mut W,
     errors: &mut E,
-) -> Result<Told, Fault<'static>>
+) -> Result<SessionReport, Fault<'static>>
     requires room { length placed.room.items ≡ LONGEST_LINE + 1 }
     requires set_up { IsOfScript set_up }
     ensures { let s : Streams = record { out = record { old = W.contents out.old; new = W.contents out.new }; errors = record { old = E.contents errors.old; new = E.contents errors.new } } in
@@ -250,7 +251,7 @@ fn play_set_up<O: Outside, R: Read, W: Write, E: Write>(
         drop(placed);
         return Err(Fault::Exists);
     }
-    play_placed(alloc, set_up, placed, name, outside, input, out, errors)
+    open_and_play(alloc, set_up, placed, name, outside, input, out, errors)
 }
 
 /// Opens the script that the words name, and plays its station.
@@ -262,14 +263,14 @@ fn play_file<'a, O: Outside, R: Read, W: Write, E: Write>(
     input: &mut R,
     out: &mut W,
     errors: &mut E,
-) -> Result<Told, Fault<'a>>
+) -> Result<SessionReport, Fault<'a>>
     requires { length placed.room.items ≡ LONGEST_LINE + 1 }
     ensures { let s : Streams = record { out = record { old = W.contents out.old; new = W.contents out.new }; errors = record { old = E.contents errors.old; new = E.contents errors.new } } in
         (deeds : List Deed) × Adds (O.deeds outside.old) (O.deeds outside.new) deeds × All (WasHeld (O.holds outside.old)) deeds × PlaysFile O.Line.strangers (named_by (λ word. word.now) words.now) placed (R.remaining input.old) deeds result s }
 {
     let opened = match outside.open(words.setup) {
         Ok(opened) => opened,
-        Err(error) => return Err(unopened(words.setup, &error)),
+        Err(error) => return Err(open_fault(words.setup, &error)),
     };
     let name = words.recording;
     match set_up_file(alloc, outside.read(opened), placed.address) {
@@ -279,7 +280,7 @@ fn play_file<'a, O: Outside, R: Read, W: Write, E: Write>(
 }
 
 /// Ends with the result of a session, or reports the fault that prevented it.
-fn end_played<E: Write>(played: Result<Told, Fault<'_>>, errors: &mut E) -> Ended
+fn end_played<E: Write>(played: Result<SessionReport, Fault<'_>>, errors: &mut E) -> Ended
     ensures { EndsPlayed played.entry result (E.contents errors.old) (E.contents errors.new) }
 {
     match played {

@@ -2,7 +2,7 @@
 
 ghost use Rattle.std.specs.Prelude.{◌≡◌, IfSome};
 ghost use Rattle.siman_operator.specs.Receiver.{gets};
-ghost use Rattle.siman_exercise_commands.specs.Warned.{is_got, nobody_of, is_lost, WarnsOf};
+ghost use Rattle.siman_exercise_commands.specs.Warned.{is_got, absent_receiver, is_lost, WarnsOf};
 
 use dis_records::Address;
 use siman_outside::Warning;
@@ -27,8 +27,8 @@ fn is_got(stations: &[WorldStation], site: u16, application: u16) -> bool
 }
 
 /// Site and application of an order, if none of these stations receives it.
-fn nobody_of(stations: &[WorldStation], act: &Act) -> Option<(u16, u16)>
-    ensures { result ≡ nobody_of stations.now act.now }
+fn absent_receiver(stations: &[WorldStation], act: &Act) -> Option<(u16, u16)>
+    ensures { result ≡ absent_receiver stations.now act.now }
 {
     match act {
         Act::Command(order) => {
@@ -46,7 +46,7 @@ fn nobody_of(stations: &[WorldStation], act: &Act) -> Option<(u16, u16)>
 fn is_lost(stations: &[WorldStation], step: &Move) -> bool
     ensures { result ≡ is_lost stations.now step.entry.now }
 {
-    nobody_of(stations, &step.act).is_some()
+    absent_receiver(stations, &step.act).is_some()
 }
 
 /// Warning of the first order of a script for a station that the script lacks, given its text.
@@ -62,7 +62,7 @@ pub(crate) fn no_such_station(alloc: Global, text: &[u8], script: &Script) -> Op
     let Some(step) = script.moves.as_slice().get(number) else {
         return None;
     };
-    let (site, application) = nobody_of(stations, &step.act)?;
+    let (site, application) = absent_receiver(stations, &step.act)?;
     let line = line_of_move(alloc, text, number).ok()??;
     Some(Warning::NoSuchStation {
         line,

@@ -7,14 +7,14 @@ ghost use Rattle.siman_scripts.specs.Script.{script_at};
 ghost use Rattle.siman_stations.specs.World.{sent_in};
 ghost use Rattle.siman_outside.specs.Outside.{Has, Stream};
 ghost use Rattle.siman_exercise_commands.specs.Explained.{text_read};
-ghost use Rattle.siman_exercise_commands.specs.World.{RunsText, is_sent, world_text, TellsWorld, EndsWorld};
+ghost use Rattle.siman_exercise_commands.specs.World.{RunsText, is_sent, world_text, GivesWorld, EndsWorld};
 
 use crate::explained::{refused, stopped};
 use crate::recording_file::put_recording;
 use crate::warned::no_such_station;
 use exercise_model::{EntryView, LogEntry, Recording};
 use siman_outside::{
-    Fault, Making, Notes, Outside, Product, end, make_file, read_text, settle_and_say,
+    Fault, Making, Notes, Outside, Product, end, flush_and_print, make_file, read_text,
 };
 use siman_print::{Field, Value, named_line};
 use siman_scripts::{LARGEST_SCRIPT, Script, read_script};
@@ -60,7 +60,7 @@ fn world<R: Read + Drop, F: Write, W: Write>(
 ) -> Result<u8, Fault<'static>>
     ensures { let file : Stream = record { old = F.contents recording.old; new = F.contents recording.new } in
         let out : Stream = record { old = W.contents out.old; new = W.contents out.new } in
-        (text : List ℕ) × Has (R.remaining script) text × TellsWorld (script_at text) result file out }
+        (text : List ℕ) × Has (R.remaining script) text × GivesWorld (script_at text) result file out }
 {
     match run_script(alloc, script, &mut Notes::nothing()) {
         Ok(made) => WorldFile { recording: made }.put(alloc, recording, out),
@@ -139,7 +139,7 @@ impl Making for WorldFile {
     ) -> Result<u8, Fault<'static>> {
         let line = world_line(alloc, &self.recording)?;
         put_recording(alloc, &self.recording, file)?;
-        match settle_and_say(file, &line, out) {
+        match flush_and_print(file, &line, out) {
             Ok(()) => Ok(0),
             Err(fault) => Err(fault),
         }

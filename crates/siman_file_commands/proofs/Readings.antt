@@ -10,7 +10,7 @@ use Rattle.siman_file_commands.specs.declared.hex_text.TheConstants.{LONGEST_HEX
 use Rattle.hex.specs.Hex.{IsBytes, encode_lower, lower_digits, decode_of}
 use Rattle.hex.proofs.HexLemmas.{decode_of-encode_lower, length-encode_with}
 use Rattle.siman_file_commands.specs.HexText.{bytes_of}
-use Rattle.siman_file_commands.specs.Pdus.{told_of_said, told_of_line}
+use Rattle.siman_file_commands.specs.Pdus.{result_of_said, result_of_line}
 
 -- a datagram that reads as a PDU is shown as that PDU
 pub said_of-read : (refusal : Option PduFault) (pdu read : Pdu) → Some read ≡ unless_refused refusal pdu → said_of_reading refusal pdu ≡ said_of_pdu read
@@ -37,12 +37,12 @@ pub said_of_hex-encode_lower : (b : List ℕ) → IsBytes b → length b ≤ 327
 said_of_hex-encode_lower b bytes short = ap said_of_bytes (bytes_of-encode_lower b bytes short)
 
 -- a line that is not empty is answered for as the word
-pub told_of_line-some : (number : ℕ) (text : List ℕ) → 0 < length text → told_of_line number text ≡ told_of_said number (said_of_hex text)
-told_of_line-some number [] some = absurd (omega arith)
-told_of_line-some number (b ∷ bs) some = refl
+pub result_of_line-some : (number : ℕ) (text : List ℕ) → 0 < length text → result_of_line number text ≡ result_of_said number (said_of_hex text)
+result_of_line-some number [] some = absurd (omega arith)
+result_of_line-some number (b ∷ bs) some = refl
 
-pub told_of_line-encode_lower : (number : ℕ) (b : List ℕ) → IsBytes b → 0 < length b → length b ≤ 32768
-    → told_of_line number (encode_lower b) ≡ told_of_said number (answer_to b)
-told_of_line-encode_lower number b bytes some short =
+pub result_of_line-encode_lower : (number : ℕ) (b : List ℕ) → IsBytes b → 0 < length b → length b ≤ 32768
+    → result_of_line number (encode_lower b) ≡ result_of_said number (answer_to b)
+result_of_line-encode_lower number b bytes some short =
     let twice = length-encode_with lower_digits b in
-    told_of_line-some number (encode_lower b) (omega arith) ∙ ap (told_of_said number) (said_of_hex-encode_lower b bytes short)
+    result_of_line-some number (encode_lower b) (omega arith) ∙ ap (result_of_said number) (said_of_hex-encode_lower b bytes short)

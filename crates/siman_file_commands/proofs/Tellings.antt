@@ -5,78 +5,78 @@ use Rattle.std.specs.List.{AllByRecursion}
 use Rattle.std.specs.Io.KnownBytes.{Appends, Keeps, IsAtEnd}
 use Rattle.std.proofs.KnownBytes.{Appends-trans, Appends-kept, Appends-nil, Keeps-refl}
 use Rattle.std.proofs.lemmas.Bool.{cases_lt}
-use Rattle.siman_file_commands.specs.declared.input.Unread.{Unread}
+use Rattle.siman_file_commands.specs.declared.input.UnreadLine.{UnreadLine}
 use Rattle.byte_files.specs.Writing.{WritesPart}
 use Rattle.dis_records.specs.Header.{header_at}
 use Rattle.siman_pdus.specs.declared.fault.PduFault.{PduFault}
 use Rattle.siman_pdus.specs.declared.pdu.Pdu.{Pdu}
 use Rattle.siman_pdus.specs.Reading.{pdu_from, refusal_of}
-use Rattle.siman_scripts.specs.Text.{lines_of}
+use Rattle.byte_files.specs.Text.{lines_of}
 use Rattle.siman_file_commands.specs.declared.hex_text.TheConstants.{LONGEST_HEX}
 use Rattle.siman_outside.specs.declared.fault.Fault.{Fault}
 use Rattle.siman_outside.specs.declared.fault.Fault.TheVariants.{NotBytePairs, Output, Memory}
-use Rattle.siman_file_commands.specs.declared.pdus.Stop.{Stop}
-use Rattle.siman_file_commands.specs.declared.pdus.Stop.TheVariants as stops
+use Rattle.siman_file_commands.specs.declared.pdus.PdusFault.{PdusFault}
+use Rattle.siman_file_commands.specs.declared.pdus.PdusFault.TheVariants as stops
 use Rattle.siman_file_commands.specs.Answer.{not_byte_pairs, said_of_reading, said_of_bytes, said_of_hex, IsSaid}
 use Rattle.siman_file_commands.specs.HexText.{bytes_of}
 use Rattle.siman_outside.specs.Outside.{Has, Stream}
-use Rattle.siman_operator.proofs.LineReadings.{line_cut}
-use Rattle.siman_file_commands.proofs.Readings.{told_of_line-some}
+use Rattle.byte_files.proofs.LineReadings.{line_cut}
+use Rattle.siman_file_commands.proofs.Readings.{result_of_line-some}
 use Rattle.siman_outside.proofs.Offered.{over}
-use Rattle.siman_file_commands.specs.Pdus.{LinesTold, untold, and_then, told_of_said, told_of_line, told_of, IsWritten, WritesTorn, StopsAfter, TellsLines, TellsBad, TellsLine}
-use Rattle.siman_operator.specs.Reading.{IsOneLine, ReadsLine, ReadsLines, HoldsLine}
+use Rattle.siman_file_commands.specs.Pdus.{LinesResult, untold, and_then, result_of_said, result_of_line, result_of, IsWritten, WritesTorn, StopsAfter, ShowsLines, PutsBadLine, ShowsLine}
+use Rattle.byte_files.specs.Lines.{IsOneLine, ReadsLine, ReadsLines, HoldsLine}
 
 -- ---- what is told
 
 same_told : (s t : ℕ) (o p e f : List ℕ) → s ≡ t → o ≡ p → e ≡ f
-    → record { status = s; out = o; errors = e } ≡ (let told : LinesTold = record { status = t; out = p; errors = f } in told)
+    → record { status = s; out = o; errors = e } ≡ (let told : LinesResult = record { status = t; out = p; errors = f } in told)
 same_told s t o p e f a b c = rw (a, b, c) refl
 
-and_then-untold : (a : LinesTold) → and_then a untold ≡ and_then untold a
+and_then-untold : (a : LinesResult) → and_then a untold ≡ and_then untold a
 and_then-untold a = same_told _ _ _ _ _ _ (omega arith) (append-nil a.out) (append-nil a.errors)
 
-and_then_assoc : (a b c : LinesTold) → and_then a (and_then b c) ≡ and_then (and_then a b) c
+and_then_assoc : (a b c : LinesResult) → and_then a (and_then b c) ≡ and_then (and_then a b) c
 and_then_assoc a b c =
     same_told _ _ _ _ _ _ (omega arith) (sym (append_assoc a.out b.out c.out)) (sym (append_assoc a.errors b.errors c.errors))
 
 -- what is told of one more line
-pub told_of-push : (n : ℕ) (lines : List (List ℕ)) (line : List ℕ)
-    → told_of n (lines ++ line ∷ []) ≡ and_then (told_of n lines) (told_of_line ((n + length lines) + 1) line)
-unfolding told_of
-told_of-push n [] line =
+pub result_of-push : (n : ℕ) (lines : List (List ℕ)) (line : List ℕ)
+    → result_of n (lines ++ line ∷ []) ≡ and_then (result_of n lines) (result_of_line ((n + length lines) + 1) line)
+unfolding result_of
+result_of-push n [] line =
     let same : (n + 0) + 1 ≡ n + 1 = omega arith in
-    and_then-untold (told_of_line (n + 1) line) ∙ ap (λ k. and_then untold (told_of_line k line)) (sym same)
-told_of-push n (first ∷ lines) line =
+    and_then-untold (result_of_line (n + 1) line) ∙ ap (λ k. and_then untold (result_of_line k line)) (sym same)
+result_of-push n (first ∷ lines) line =
     let same : ((n + 1) + length lines) + 1 ≡ (n + suc (length lines)) + 1 = omega arith in
-    let head = told_of_line (n + 1) first in
-    ap (and_then head) (told_of-push (n + 1) lines line)
-    ∙ and_then_assoc head (told_of (n + 1) lines) (told_of_line (((n + 1) + length lines) + 1) line)
-    ∙ ap (λ k. and_then (and_then head (told_of (n + 1) lines)) (told_of_line k line)) same
+    let head = result_of_line (n + 1) first in
+    ap (and_then head) (result_of-push (n + 1) lines line)
+    ∙ and_then_assoc head (result_of (n + 1) lines) (result_of_line (((n + 1) + length lines) + 1) line)
+    ∙ ap (λ k. and_then (and_then head (result_of (n + 1) lines)) (result_of_line k line)) same
 
-told_of-next : (lines : List (List ℕ)) (line : List ℕ) (n : ℕ) → n ≡ length lines + 1
-    → told_of 0 (lines ++ line ∷ []) ≡ and_then (told_of 0 lines) (told_of_line n line)
-told_of-next lines line n number =
+result_of-next : (lines : List (List ℕ)) (line : List ℕ) (n : ℕ) → n ≡ length lines + 1
+    → result_of 0 (lines ++ line ∷ []) ≡ and_then (result_of 0 lines) (result_of_line n line)
+result_of-next lines line n number =
     let same : (0 + length lines) + 1 ≡ n = omega arith in
-    told_of-push 0 lines line ∙ ap (λ k. and_then (told_of 0 lines) (told_of_line k line)) same
+    result_of-push 0 lines line ∙ ap (λ k. and_then (result_of 0 lines) (result_of_line k line)) same
 
-pub told_of-none : told_of 0 [] ≡ untold
-unfolding told_of
-told_of-none = refl
+pub result_of-none : result_of 0 [] ≡ untold
+unfolding result_of
+result_of-none = refl
 
 -- too long a line is not byte pairs
 said_of_hex-long : (line : List ℕ) → LONGEST_HEX < length line → said_of_hex line ≡ not_byte_pairs
 said_of_hex-long line h = ap said_of_bytes (over LONGEST_HEX (length line) _ _ h)
 
 -- The same is told of as much of a line as is held.
-told_of_line-cut : (number : ℕ) (line : List ℕ) → told_of_line number (take (LONGEST_HEX + 1) line) ≡ told_of_line number line
-told_of_line-cut number line = elim (cases_lt (length line) (LONGEST_HEX + 1)) [
-  | inl h ↦ ap (told_of_line number) (take_all (LONGEST_HEX + 1) line (omega arith))
+result_of_line-cut : (number : ℕ) (line : List ℕ) → result_of_line number (take (LONGEST_HEX + 1) line) ≡ result_of_line number line
+result_of_line-cut number line = elim (cases_lt (length line) (LONGEST_HEX + 1)) [
+  | inl h ↦ ap (result_of_line number) (take_all (LONGEST_HEX + 1) line (omega arith))
   | inr h ↦
       let front = take (LONGEST_HEX + 1) line in
       let long = length-take-le (LONGEST_HEX + 1) line h in
       let short = said_of_hex-long front (omega arith) in
-      told_of_line-some number front (omega arith) ∙ ap (told_of_said number) (short ∙ sym (said_of_hex-long line (omega arith))) ∙ sym
-      (told_of_line-some number line (omega arith))
+      result_of_line-some number front (omega arith) ∙ ap (result_of_said number) (short ∙ sym (said_of_hex-long line (omega arith))) ∙ sym
+      (result_of_line-some number line (omega arith))
 ]
 
 -- ---- what is written
@@ -86,36 +86,36 @@ stream old new = record { old = old; new = new }
 
 -- Behind the lines so far one more was told.
 pub written-more : (lines : List (List ℕ)) (line : List ℕ) (n : ℕ) (o p q e f g : Option (List ℕ)) → n ≡ length lines + 1
-    → IsWritten (told_of 0 lines) (stream o p) (stream e f) → IsWritten (told_of_line n line) (stream p q) (stream f g)
-    → IsWritten (told_of 0 (lines ++ line ∷ [])) (stream o q) (stream e g)
+    → IsWritten (result_of 0 lines) (stream o p) (stream e f) → IsWritten (result_of_line n line) (stream p q) (stream f g)
+    → IsWritten (result_of 0 (lines ++ line ∷ [])) (stream o q) (stream e g)
 written-more lines line n o p q e f g number before more =
-    let whole : told_of 0 (lines ++ line ∷ []) ≡ and_then (told_of 0 lines) (told_of_line n line) =
-    told_of-next lines line n number in
+    let whole : result_of 0 (lines ++ line ∷ []) ≡ and_then (result_of 0 lines) (result_of_line n line) =
+    result_of-next lines line n number in
     subst (λ told. IsWritten told (stream o q) (stream e g)) (sym whole)
     (Appends-trans o p q _ _ before.0 more.0, Appends-trans e f g _ _ before.1 more.1)
 
-pub worst-more : (lines : List (List ℕ)) (line : List ℕ) (n worst status : ℕ) → n ≡ length lines + 1 → worst ≡ (told_of 0 lines).status
-    → status ≡ (told_of_line n line).status → max worst status ≡ (told_of 0 (lines ++ line ∷ [])).status
+pub worst-more : (lines : List (List ℕ)) (line : List ℕ) (n worst status : ℕ) → n ≡ length lines + 1 → worst ≡ (result_of 0 lines).status
+    → status ≡ (result_of_line n line).status → max worst status ≡ (result_of 0 (lines ++ line ∷ [])).status
 worst-more lines line n worst status number before more =
-    let whole : told_of 0 (lines ++ line ∷ []) ≡ and_then (told_of 0 lines) (told_of_line n line) =
-    told_of-next lines line n number in
-    rw (before, more) (sym (ap (λ (told : LinesTold). told.status) whole))
+    let whole : result_of 0 (lines ++ line ∷ []) ≡ and_then (result_of 0 lines) (result_of_line n line) =
+    result_of-next lines line n number in
+    rw (before, more) (sym (ap (λ (told : LinesResult). told.status) whole))
 
 -- nothing of no lines
-pub written-none : (o e : Option (List ℕ)) → IsWritten (told_of 0 []) (stream o o) (stream e e)
-written-none o e = subst (λ told. IsWritten told (stream o o) (stream e e)) (sym told_of-none) (Appends-nil o, Appends-nil e)
+pub written-none : (o e : Option (List ℕ)) → IsWritten (result_of 0 []) (stream o o) (stream e e)
+written-none o e = subst (λ told. IsWritten told (stream o o) (stream e e)) (sym result_of-none) (Appends-nil o, Appends-nil e)
 
 -- a prefix of a text behind another
 torn-behind : (o p q : Option (List ℕ)) (text torn : List ℕ) → Appends o p text → WritesPart p q torn → WritesTorn (stream o q) text torn
 torn-behind o p q text torn before part = (part.0, Appends-trans o p q text (take part.0 torn) before part.1)
 
 -- It stopped in a line.
-pub stops-in : (lines others : List (List ℕ)) (line : List ℕ) (n : ℕ) (stop : Stop) (o p q e f g : Option (List ℕ)) → n ≡ length lines + 1
-    → IsWritten (told_of 0 lines) (stream o p) (stream e f) → TellsLine (told_of_line n line) (Err stop) (stream p q) (stream f g)
+pub stops-in : (lines others : List (List ℕ)) (line : List ℕ) (n : ℕ) (stop : PdusFault) (o p q e f g : Option (List ℕ)) → n ≡ length lines + 1
+    → IsWritten (result_of 0 lines) (stream o p) (stream e f) → ShowsLine (result_of_line n line) (Err stop) (stream p q) (stream f g)
     → StopsAfter lines (line ∷ others) stop (stream o q) (stream e g)
-stops-in lines others line n (stops.Untold failed) o p q e f g number before told = (
+stops-in lines others line n (stops.Unreported failed) o p q e f g number before told = (
   Appends-kept o p q _ before.0 told.0,
-  subst (λ k. WritesTorn (stream e g) (told_of 0 lines).errors (told_of_line k line).errors) number
+  subst (λ k. WritesTorn (stream e g) (result_of 0 lines).errors (result_of_line k line).errors) number
       (torn-behind e f g _ _ before.1 told.1),
 )
 stops-in lines others line n (stops.Unread failed) o p q e f g number before told = absurd told
@@ -125,7 +125,7 @@ stops-in lines others line n (stops.Fault fault) o p q e f g number before (kept
   Appends-kept e f g _ before.1 kept,
   inr (
     failed.0,
-    subst (λ k. WritesTorn (stream o q) (told_of 0 lines).out (told_of_line k line).out) number
+    subst (λ k. WritesTorn (stream o q) (result_of 0 lines).out (result_of_line k line).out) number
         (torn-behind o p q _ _ before.0 failed.1),
   ),
 )
@@ -134,32 +134,32 @@ stops-in lines others line n (stops.Fault fault) o p q e f g number before (kept
 
 -- what goes out of a line is what `pdu` would say
 out_of_reading : (number : ℕ) (refusal : Option PduFault) (pdu : Pdu)
-    → (told_of_said number (said_of_reading refusal pdu)).out ≡ (said_of_reading refusal pdu).text
+    → (result_of_said number (said_of_reading refusal pdu)).out ≡ (said_of_reading refusal pdu).text
 out_of_reading number None pdu = refl
 out_of_reading number (Some fault) pdu = refl
 
-out_of_bytes : (number : ℕ) (bytes : Option (List ℕ)) → (told_of_said number (said_of_bytes bytes)).out ≡ (said_of_bytes bytes).text
+out_of_bytes : (number : ℕ) (bytes : Option (List ℕ)) → (result_of_said number (said_of_bytes bytes)).out ≡ (said_of_bytes bytes).text
 out_of_bytes number None = refl
 out_of_bytes number (Some b) = out_of_reading number (refusal_of b) (pdu_from (header_at b) b)
 
-out_of_line : (number : ℕ) (line : List ℕ) → 0 < length line → (told_of_line number line).out ≡ (said_of_hex line).text
-out_of_line number line some = ap (λ (told : LinesTold). told.out) (told_of_line-some number line some) ∙ out_of_bytes number (bytes_of line)
+out_of_line : (number : ℕ) (line : List ℕ) → 0 < length line → (result_of_line number line).out ≡ (said_of_hex line).text
+out_of_line number line some = ap (λ (told : LinesResult). told.out) (result_of_line-some number line some) ∙ out_of_bytes number (bytes_of line)
 
 -- a bad line
-pub line-bad : (number : ℕ) (line : List ℕ) (result : Result ℕ Stop) (o p e f : Option (List ℕ)) → 0 < length line → said_of_hex line ≡ not_byte_pairs
-    → Keeps o p → TellsBad number result (stream e f) → TellsLine (told_of_line number line) result (stream o p) (stream e f)
+pub line-bad : (number : ℕ) (line : List ℕ) (result : Result ℕ PdusFault) (o p e f : Option (List ℕ)) → 0 < length line → said_of_hex line ≡ not_byte_pairs
+    → Keeps o p → PutsBadLine number result (stream e f) → ShowsLine (result_of_line number line) result (stream o p) (stream e f)
 line-bad number line (Ok status) o p e f some bad kept told =
-    let same = told_of_line-some number line some ∙ ap (told_of_said number) bad in
-    subst (λ (t : LinesTold). TellsLine t (Ok status) (stream o p) (stream e f)) (sym same) (told.0, (Appends-kept o o p [] (Appends-nil o) kept, told.1))
-line-bad number line (Err (stops.Untold failed)) o p e f some bad kept told =
-    let same = told_of_line-some number line some ∙ ap (told_of_said number) bad in
-    subst (λ (t : LinesTold). TellsLine t (Err (stops.Untold failed)) (stream o p) (stream e f)) (sym same) (kept, told)
+    let same = result_of_line-some number line some ∙ ap (result_of_said number) bad in
+    subst (λ (t : LinesResult). ShowsLine t (Ok status) (stream o p) (stream e f)) (sym same) (told.0, (Appends-kept o o p [] (Appends-nil o) kept, told.1))
+line-bad number line (Err (stops.Unreported failed)) o p e f some bad kept told =
+    let same = result_of_line-some number line some ∙ ap (result_of_said number) bad in
+    subst (λ (t : LinesResult). ShowsLine t (Err (stops.Unreported failed)) (stream o p) (stream e f)) (sym same) (kept, told)
 line-bad number line (Err (stops.Unread failed)) o p e f some bad kept told = absurd told
 line-bad number line (Err (stops.Fault fault)) o p e f some bad kept told = absurd told
 
 -- a line that was not told whole
 pub line-stopped : (number : ℕ) (line : List ℕ) (fault : Fault) (o p e : Option (List ℕ)) → 0 < length line → IsSaid (said_of_hex line) (Err fault) o p
-    → fault ≢ NotBytePairs → TellsLine (told_of_line number line) (Err (stops.Fault fault)) (stream o p) (stream e e)
+    → fault ≢ NotBytePairs → ShowsLine (result_of_line number line) (Err (stops.Fault fault)) (stream o p) (stream e e)
 line-stopped number line NotBytePairs o p e some said other = absurd (other refl)
 line-stopped number line Output o p e some said other =
     (Keeps-refl e, inr (refl, subst (WritesPart o p) (sym (out_of_line number line some)) said))
@@ -207,12 +207,12 @@ all_lines (Some x) None lines read end = absurd read
 all_lines (Some x) (Some y) lines read end = (x, refl, read ∙ ap (λ bytes. lines ++ lines_of bytes) end ∙ append-nil lines)
 
 -- what is told of the lines of an input
-abbrev pub TellsInput : (known : Option (List ℕ)) → Result ℕ Stop → (out errors : Stream) → Type 0
-TellsInput known result out errors = (bytes : List ℕ) × Has known bytes × TellsLines (lines_of bytes) result out errors
+abbrev pub ShowsInput : (known : Option (List ℕ)) → Result ℕ PdusFault → (out errors : Stream) → Type 0
+ShowsInput known result out errors = (bytes : List ℕ) × Has known bytes × ShowsLines (lines_of bytes) result out errors
 
 -- It stopped between two lines.
-stopped-between : (a b : Option (List ℕ)) (lines : List (List ℕ)) (stop : Stop) (out errors : Stream) → ReadsLines a b lines
-    → ((rest : List (List ℕ)) → StopsAfter lines rest stop out errors) → TellsInput a (Err stop) out errors
+stopped-between : (a b : Option (List ℕ)) (lines : List (List ℕ)) (stop : PdusFault) (out errors : Stream) → ReadsLines a b lines
+    → ((rest : List (List ℕ)) → StopsAfter lines rest stop out errors) → ShowsInput a (Err stop) out errors
 stopped-between a b lines stop out errors read stops =
     let left = lines_left a b lines read in
     (left.0, left.1, (lines, left.2.0, left.2.1, stops left.2.0))
@@ -220,31 +220,31 @@ stopped-between a b lines stop out errors read stops =
 -- ---- the lines so far
 
 -- These lines were read and told, and their number and worst status kept.
-pub record ToldSoFar (a b o p e f : Option (List ℕ)) (number worst : ℕ) : Type 0 where
+pub record ShownSoFar (a b o p e f : Option (List ℕ)) (number worst : ℕ) : Type 0 where
   pub lines : List (List ℕ)
   pub count : number ≡ length lines + 1
-  pub status : worst ≡ (told_of 0 lines).status
-  pub written : IsWritten (told_of 0 lines) (stream o p) (stream e f)
+  pub status : worst ≡ (result_of 0 lines).status
+  pub written : IsWritten (result_of 0 lines) (stream o p) (stream e f)
   pub read : ReadsLines a b lines
 
-pub told-none : (a o e : Option (List ℕ)) → ToldSoFar a a o o e e 1 0
+pub told-none : (a o e : Option (List ℕ)) → ShownSoFar a a o o e e 1 0
 told-none a o e = record {
   lines = [];
   count = refl;
-  status = sym (ap (λ (told : LinesTold). told.status) told_of-none);
+  status = sym (ap (λ (told : LinesResult). told.status) result_of-none);
   written = written-none o e;
   read = reads-none a;
 }
 
 -- what is told of as much of a line as is held is what is to be told of the line
 told-held : {b c : Option (List ℕ)} {buffer : List ℕ} {held : ℕ} (number : ℕ) (size : length buffer ≡ LONGEST_HEX + 1) (holds : HoldsLine b c buffer held)
-    → told_of_line number (take held buffer) ≡ told_of_line number holds.line
-told-held {buffer = buffer} number size holds = ap (told_of_line number) (holds.front ∙ ap (λ n. take n holds.line) size) ∙ told_of_line-cut number holds.line
+    → result_of_line number (take held buffer) ≡ result_of_line number holds.line
+told-held {buffer = buffer} number size holds = ap (result_of_line number) (holds.front ∙ ap (λ n. take n holds.line) size) ∙ result_of_line-cut number holds.line
 
 -- one more line was read, and told
-pub told-more : {a b c o p q e f g : Option (List ℕ)} {number worst status worse held : ℕ} {buffer : List ℕ} → ToldSoFar a b o p e f number worst
+pub told-more : {a b c o p q e f g : Option (List ℕ)} {number worst status worse held : ℕ} {buffer : List ℕ} → ShownSoFar a b o p e f number worst
     → length buffer ≡ LONGEST_HEX + 1 → HoldsLine b c buffer held → worse ≡ max worst status
-    → TellsLine (told_of_line number (take held buffer)) (Ok status) (stream p q) (stream f g) → ToldSoFar a c o q e g (number + 1) worse
+    → ShowsLine (result_of_line number (take held buffer)) (Ok status) (stream p q) (stream f g) → ShownSoFar a c o q e g (number + 1) worse
 told-more {a} {b} {c} {o} {p} {q} {e} {f} {g} {number} {worst} {status} before size holds worsen told =
     let longer = length-append before.lines (holds.line ∷ []) in
     let line = rw (told-held number size holds) at told in
@@ -257,44 +257,44 @@ told-more {a} {b} {c} {o} {p} {q} {e} {f} {g} {number} {worst} {status} before s
     }
 
 -- there are no more
-pub told-all : {a b o p e f : Option (List ℕ)} {number worst : ℕ} → ToldSoFar a b o p e f number worst → IsAtEnd b
-    → TellsInput a (Ok worst) (stream o p) (stream e f)
+pub told-all : {a b o p e f : Option (List ℕ)} {number worst : ℕ} → ShownSoFar a b o p e f number worst → IsAtEnd b
+    → ShowsInput a (Ok worst) (stream o p) (stream e f)
 told-all {a} {b} {o} {p} {e} {f} {number} {worst} before end =
     let all = all_lines a b before.lines before.read end in
-    (all.0, all.1, subst (λ (lines : List (List ℕ)). TellsLines lines (Ok worst) (stream o p) (stream e f)) (sym all.2) (before.status, before.written))
+    (all.0, all.1, subst (λ (lines : List (List ℕ)). ShowsLines lines (Ok worst) (stream o p) (stream e f)) (sym all.2) (before.status, before.written))
 
 -- a read failed
-pub told-unread : {a b o p e f : Option (List ℕ)} {number worst : ℕ} (failed : Unread) → ToldSoFar a b o p e f number worst
-    → TellsInput a (Err (stops.Unread failed)) (stream o p) (stream e f)
+pub told-unread : {a b o p e f : Option (List ℕ)} {number worst : ℕ} (failed : UnreadLine) → ShownSoFar a b o p e f number worst
+    → ShowsInput a (Err (stops.Unread failed)) (stream o p) (stream e f)
 told-unread {a} {b} {o} {p} {e} {f} failed before =
     stopped-between a b before.lines (stops.Unread failed) (stream o p) (stream e f) before.read (λ rest. before.written)
 
 -- it stopped in a line
-pub told-short : {a b c o p e f : Option (List ℕ)} {number worst held : ℕ} {buffer : List ℕ} (q g : Option (List ℕ)) (stop : Stop) → ToldSoFar a b o p e f number worst
+pub told-short : {a b c o p e f : Option (List ℕ)} {number worst held : ℕ} {buffer : List ℕ} (q g : Option (List ℕ)) (stop : PdusFault) → ShownSoFar a b o p e f number worst
     → length buffer ≡ LONGEST_HEX + 1 → HoldsLine b c buffer held
-    → TellsLine (told_of_line number (take held buffer)) (Err stop) (stream p q) (stream f g) → TellsInput a (Err stop) (stream o q) (stream e g)
+    → ShowsLine (result_of_line number (take held buffer)) (Err stop) (stream p q) (stream f g) → ShowsInput a (Err stop) (stream o q) (stream e g)
 told-short {a} {b} {c} {o} {p} {e} {f} {number} q g stop before size holds told =
     let lines = before.lines in
     let line = holds.line in
     let left = lines_left a c (lines ++ line ∷ []) (reads-more a b c lines line before.read holds.one holds.read) in
-    let of_line = subst (λ (t : LinesTold). TellsLine t (Err stop) (stream p q) (stream f g)) (told-held number size holds) told in
+    let of_line = subst (λ (t : LinesResult). ShowsLine t (Err stop) (stream p q) (stream f g)) (told-held number size holds) told in
     let torn = stops-in lines left.2.0 line number stop o p q e f g before.count before.written of_line in
     (left.0, left.1, (lines, line ∷ left.2.0, left.2.1 ∙ append_assoc lines (line ∷ []) left.2.0, torn))
 
 -- of a line of the same number
-pub at_number : (n m : ℕ) (line : List ℕ) (result : Result ℕ Stop) (out errors : Stream) → n ≡ m → TellsLine (told_of_line n line) result out errors
-    → TellsLine (told_of_line m line) result out errors
-at_number n m line result out errors same told = subst (λ (k : ℕ). TellsLine (told_of_line k line) result out errors) same told
+pub at_number : (n m : ℕ) (line : List ℕ) (result : Result ℕ PdusFault) (out errors : Stream) → n ≡ m → ShowsLine (result_of_line n line) result out errors
+    → ShowsLine (result_of_line m line) result out errors
+at_number n m line result out errors same told = subst (λ (k : ℕ). ShowsLine (result_of_line k line) result out errors) same told
 
 -- what was passed on is told
-pub passed_on : (known : Option (List ℕ)) (stop : Stop) (result : Result ℕ Stop) (out errors : Stream) → IsErrAnd result (λ e. e ≡ stop)
-    → TellsInput known (Err stop) out errors → TellsInput known result out errors
+pub passed_on : (known : Option (List ℕ)) (stop : PdusFault) (result : Result ℕ PdusFault) (out errors : Stream) → IsErrAnd result (λ e. e ≡ stop)
+    → ShowsInput known (Err stop) out errors → ShowsInput known result out errors
 passed_on known stop (Ok status) out errors passed told = absurd passed
 passed_on known stop (Err e) out errors passed told = rw passed told
 
 -- there was no memory to begin
-pub told-nothing : (known : Option (List ℕ)) (result : Result ℕ Stop) (o e : Option (List ℕ)) → IsErrAnd result (λ s. s ≡ stops.Fault Memory)
-    → TellsInput known result (stream o o) (stream e e)
+pub told-nothing : (known : Option (List ℕ)) (result : Result ℕ PdusFault) (o e : Option (List ℕ)) → IsErrAnd result (λ s. s ≡ stops.Fault Memory)
+    → ShowsInput known result (stream o o) (stream e e)
 told-nothing known result o e passed =
     let none = written-none o e in
     passed_on known (stops.Fault Memory) result (stream o o) (stream e e) passed

@@ -10,7 +10,7 @@ use Rattle.exercise_check.specs.declared.certificate.Step.{Step}
 use Rattle.exercise_check.specs.declared.checker.CheckFault.TheVariants.{Bad}
 use Rattle.exercise_check.specs.Certificate.{certificate_at}
 use Rattle.exercise_check.specs.Goodness.{IsGood, Refuses}
-use Rattle.exercise_check.specs.Order.{order_of}
+use Rattle.exercise_check.specs.Sequence.{sequence_of}
 use Rattle.exercise_chart.specs.declared.fault.ChartFault.{ChartFault}
 use Rattle.exercise_chart.specs.declared.fault.ChartFault.TheVariants as charts
 use Rattle.exercise_chart.specs.declared.marks.TheConstants.{MOST_ROWS}
@@ -80,7 +80,7 @@ pub record IsCertified (recorded : Recorded) (certified : Certified) (r : PlainR
   -- There is a step for each entry, and each step is good.
   pub good : IsGood r steps
   -- The sequence that the steps name is a run that explains the recording: the headline's sentences hold of it.
-  pub holds : Holds r (order_of r steps)
+  pub holds : Holds r (sequence_of r steps)
 
 -- A PICTURE IS DRAWN
 pub record DrawsPicture (words : List (List ℕ)) (window : Window) (recorded : Recorded) (certified : Certified) (picture line : List ℕ) : Type 0 where
@@ -111,8 +111,8 @@ pub record RefusesChart (recorded : Recorded) (certified : Certified) (text : Li
   pub text_is : text ≡ no_text step cause
 
 -- The fault of a word is `filter: WORD`, with the word as it was given.
-abbrev pub IsToldWord : List ℕ → Fault → Type 0
-IsToldWord word fault = fault_text fault ≡ codes "filter: " ++ word
+abbrev pub IsFilterFault : List ℕ → Fault → Type 0
+IsFilterFault word fault = fault_text fault ≡ codes "filter: " ++ word
 
 -- the number of steps that a fault has, for a word past the last one
 abbrev pub steps_of : Fault → Option ℕ
@@ -122,7 +122,7 @@ steps_of other = None
 -- WHY NO PICTURE IS DRAWN FOR A GOOD CERTIFICATE: a word names a step past the last, or the picture passes a limit
 abbrev pub IsUndrawn : (words : List (List ℕ)) → Window → PlainRecording → List Step → Fault → Type 0
 IsUndrawn words window r steps fault =
-    ((word : List ℕ) × (past_of (length steps) words ≡ Some word) × IsToldWord word fault × (steps_of fault ≡ Some (length steps)))
+    ((word : List ℕ) × (past_of (length steps) words ≡ Some word) × IsFilterFault word fault × (steps_of fault ≡ Some (length steps)))
     ⊎ ((rows : Rows) × (past_of (length steps) words ≡ None) × AreShown window (length steps) rows × IsOverfilled r rows × (fault ≡ ChartOverLimit))
 
 -- NO PICTURE: nothing was judged, where the recording is read first, or it is not drawn
@@ -158,5 +158,5 @@ of_chart charts.Memory = Memory
 -- WHAT `chart` DOES: the first bad word is reported, with nothing opened; or both files are opened in their order, neither of which is the one to be made, before either is read
 abbrev pub ChartsNamed : (recording certificate picture : List ℕ) → (words : List (List ℕ)) → (force : Bool) → List Deed → Answered → Stream → Type 0
 ChartsNamed recording certificate picture words force deeds answered out =
-    ((word : List ℕ) × (fault : Fault) × (window_of words ≡ Err word) × IsToldWord word fault × (deeds ≡ []) × (answered ≡ Err fault) × Keeps out.old out.new)
+    ((word : List ℕ) × (fault : Fault) × (window_of words ≡ Err word) × IsFilterFault word fault × (deeds ≡ []) × (answered ≡ Err fault) × Keeps out.old out.new)
     ⊎ ((window : Window) × (window_of words ≡ Ok window) × WorksOnBoth (ChartsFiles words window) MakesChart force recording certificate picture deeds answered out)

@@ -10,9 +10,9 @@ use Rattle.byte_files.specs.Writing.{WritesPart}
 use Rattle.exercise_check.specs.declared.certificate.Step.{Step}
 use Rattle.exercise_check.specs.declared.certificate_fault.CertificateFault.TheVariants as certificates
 use Rattle.exercise_check.specs.declared.checker.CheckFault.TheVariants.{Bad}
-use Rattle.exercise_findings.specs.Account.{AccountData, TellsAccount}
-use Rattle.exercise_check.specs.Checked.{TellsKnowledge, TellsPairs}
-use Rattle.exercise_check.specs.Order.{order_of}
+use Rattle.exercise_findings.specs.Account.{AccountData, IsAccount}
+use Rattle.exercise_check.specs.Checked.{HasKnowledge, HasPairs}
+use Rattle.exercise_check.specs.Sequence.{sequence_of}
 use Rattle.exercise_check.specs.Goodness.{IsGood, Refuses}
 use Rattle.siman_outside.specs.declared.files_fault.FilesFault.{FilesFault}
 use Rattle.siman_outside.specs.declared.files_fault.FilesFault.TheVariants.{Recording, Certificate, Write, Memory}
@@ -36,9 +36,9 @@ pub record SaysYes (recorded : Recorded) (certified : Certified) (old new : Opti
   -- It has a step for each entry, and each step is good.
   pub good : IsGood recording steps
   -- The sequence that it names is a run that explains the recording: the headline's sentences hold of it.
-  pub holds : Holds recording (order_of recording steps)
+  pub holds : Holds recording (sequence_of recording steps)
   -- Its pairs of requests and answers, and the changes of Able acknowledgements, are those of the recording; each pair has the request that is taken up in that run, and each change is known in it.
-  pub knows : (checked : AccountData) × TellsAccount recording checked × TellsPairs recording (order_of recording steps) checked × TellsKnowledge recording (order_of recording steps) checked
+  pub knows : (checked : AccountData) × IsAccount recording checked × HasPairs recording (sequence_of recording steps) checked × HasKnowledge recording (sequence_of recording steps) checked
   -- They hold in every run that explains the recording: the pairs, and the states at the end.
   pub said : IsAlwaysAsSaid recording
   -- The report of the recording is appended to the output.
@@ -95,17 +95,17 @@ judged_status (Ok false) = Ok 1
 judged_status (Err fault) = Err (of_files fault)
 
 -- The answer of `check`: a judgement is on the output, with status 0 or 1, or there was a fault.
-abbrev pub TellsCheck : Recorded → Certified → (answered : Result ℕ Fault) → (old new : Option (List ℕ)) → Type 0
-TellsCheck recorded certified answered old new =
+abbrev pub GivesCheck : Recorded → Certified → (answered : Result ℕ Fault) → (old new : Option (List ℕ)) → Type 0
+GivesCheck recorded certified answered old new =
     (judged : Result Bool FilesFault) × Judges recorded certified judged old new × (answered ≡ judged_status judged)
 
 -- THE ANSWER OF `check` for two files with these bytes, if they are known
 abbrev pub ChecksFiles : (recording certificate : Option (List ℕ)) → Result ℕ Fault → (out : Stream) → Type 0
 ChecksFiles recording certificate answered out =
     (bytes : List ℕ) × Has recording bytes
-    × ((text : List ℕ) × Has certificate text × TellsCheck (recording_at LARGEST_RECORDING bytes) (certificate_at LARGEST_CERTIFICATE text) answered out.old out.new)
+    × ((text : List ℕ) × Has certificate text × GivesCheck (recording_at LARGEST_RECORDING bytes) (certificate_at LARGEST_CERTIFICATE text) answered out.old out.new)
 
 -- HOW `check` ENDS: its answer is on the output, and its status and fault are those of the answer
 abbrev pub EndsCheck : Recorded → Certified → (status : ℕ) → (old new : Option (List ℕ)) → (errors_old errors_new : Option (List ℕ)) → Type 0
 EndsCheck recorded certified status old new errors_old errors_new =
-    (answered : Result ℕ Fault) × TellsCheck recorded certified answered old new × EndsWith answered status errors_old errors_new
+    (answered : Result ℕ Fault) × GivesCheck recorded certified answered old new × EndsWith answered status errors_old errors_new

@@ -24,7 +24,7 @@ use Rattle.siman_file_commands.specs.declared.join.OpenPiece.{OpenPiece}
 use Rattle.siman_outside.specs.declared.limits.TheConstants.{LARGEST_RECORDING}
 use Rattle.siman_outside.specs.Ending.{fault_text}
 use Rattle.siman_outside.specs.Making.{Answered, MakesFile, PutsBoth}
-use Rattle.siman_outside.specs.Opening.{OpensApart, Spares, looks_into}
+use Rattle.siman_outside.specs.Opening.{OpensInput, Spares, looks_into}
 use Rattle.siman_outside.specs.Outside.{Has, Stream, Deed, Opens, Compares, Reads}
 
 -- the form that the words ask for, if they do
@@ -49,15 +49,15 @@ abbrev pub joined_text : Joined → List ℕ
 joined_text told = line_text (joined_line told)
 
 -- THE FAULT for pieces that are not joined; that of a single piece has its name as it was given
-abbrev pub IsToldOf : JoinFault → (name : List ℕ) → Fault → Type 0
-IsToldOf (joins.Recording why) name fault = fault_text fault ≡ codes "recording: " ++ join_fault_text (joins.Recording why) ++ codes " in " ++ name
-IsToldOf joins.Exercise name fault = fault_text fault ≡ codes "join: exercise in " ++ name
-IsToldOf (joins.Station a) name fault = fault_text fault ≡ codes "join: " ++ join_fault_text (joins.Station a) ++ codes " in " ++ name
-IsToldOf joins.Stations name fault = fault_text fault ≡ codes "join: stations"
-IsToldOf joins.Records name fault = fault_text fault ≡ codes "join: records"
-IsToldOf joins.Size name fault = fault_text fault ≡ codes "join: size"
-IsToldOf joins.Write name fault = fault ≡ Output
-IsToldOf joins.Memory name fault = fault ≡ Memory
+abbrev pub IsJoinFault : JoinFault → (name : List ℕ) → Fault → Type 0
+IsJoinFault (joins.Recording why) name fault = fault_text fault ≡ codes "recording: " ++ join_fault_text (joins.Recording why) ++ codes " in " ++ name
+IsJoinFault joins.Exercise name fault = fault_text fault ≡ codes "join: exercise in " ++ name
+IsJoinFault (joins.Station a) name fault = fault_text fault ≡ codes "join: " ++ join_fault_text (joins.Station a) ++ codes " in " ++ name
+IsJoinFault joins.Stations name fault = fault_text fault ≡ codes "join: stations"
+IsJoinFault joins.Records name fault = fault_text fault ≡ codes "join: records"
+IsJoinFault joins.Size name fault = fault_text fault ≡ codes "join: size"
+IsJoinFault joins.Write name fault = fault ≡ Output
+IsJoinFault joins.Memory name fault = fault ≡ Memory
 
 -- ---- opening
 
@@ -86,7 +86,7 @@ opening_deeds made piece = Opens piece.name (Ok piece.bytes) ∷ Compares made f
 abbrev pub StopsAt : (left : List (List ℕ)) → (made : List ℕ) → List Deed → Fault → Type 0
 StopsAt left made deeds fault =
     ((deeds ≡ []) × (fault ≡ Memory))
-    ⊎ ((name : List ℕ) × (more : List (List ℕ)) × (left ≡ name ∷ more) × OpensApart name made deeds (Err fault))
+    ⊎ ((name : List ℕ) × (more : List (List ℕ)) × (left ≡ name ∷ more) × OpensInput name made deeds (Err fault))
 
 -- PIECES ARE OPENED in the order of the words, none of which is the file to be made; or some are, up to a fault
 abbrev pub OpensPieces : (names : List (List ℕ)) → (made : List ℕ) → List Deed → Opening → Type 0
@@ -107,14 +107,14 @@ OpensPiecesSpared names force made deeds (Err fault) =
 -- ---- reading
 
 -- A piece that was read is appended to the others, or its fault is returned.
-abbrev pub TellsTaken : Recorded → (name : List ℕ) → (old : JoiningData) → Result (Unit {0}) Fault → (new : JoiningData) → Type 0
-TellsTaken recorded name old (Ok u) new = Takes recorded (Ok u) old new
-TellsTaken recorded name old (Err fault) new = (why : JoinFault) × Takes recorded (Err why) old new × IsToldOf why name fault
+abbrev pub TakesRecording : Recorded → (name : List ℕ) → (old : JoiningData) → Result (Unit {0}) Fault → (new : JoiningData) → Type 0
+TakesRecording recorded name old (Ok u) new = Takes recorded (Ok u) old new
+TakesRecording recorded name old (Err fault) new = (why : JoinFault) × Takes recorded (Err why) old new × IsJoinFault why name fault
 
 -- HOW A PIECE IS READ and appended
 abbrev pub TakesPiece : Seen → (old : JoiningData) → List Deed → Result (Unit {0}) Fault → (new : JoiningData) → Type 0
 TakesPiece piece old deeds result new =
-    (bytes : List ℕ) × Has piece.bytes bytes × (deeds ≡ Reads piece.bytes ∷ []) × TellsTaken (recording_at LARGEST_RECORDING bytes) piece.name old result new
+    (bytes : List ℕ) × Has piece.bytes bytes × (deeds ≡ Reads piece.bytes ∷ []) × TakesRecording (recording_at LARGEST_RECORDING bytes) piece.name old result new
 
 -- More pieces behind those appended: each is read and appended, up to the first fault, after which no other is read.
 abbrev pub ReadsBehind : JoiningData → List Seen → List Deed → Result JoiningData Fault → Type 0
@@ -132,7 +132,7 @@ ReadsPieces word pieces deeds result = ReadsBehind (record { word = word; pieces
 -- THE JOINED FILE OF PIECES, with its line, or the fault
 abbrev pub Gives : JoiningData → Result JoinedFile Fault → Type 0
 Gives j (Ok file) = Ends LARGEST_RECORDING j (Ok file.joint) × (string_bytes file.line ≡ joined_text file.joint.told)
-Gives j (Err fault) = (why : JoinFault) × Ends LARGEST_RECORDING j (Err why) × IsToldOf why [] fault
+Gives j (Err fault) = (why : JoinFault) × Ends LARGEST_RECORDING j (Err why) × IsJoinFault why [] fault
 
 abbrev pub ReadsAndGives : FormWord → List Seen → List Deed → Result JoinedFile Fault → Type 0
 ReadsAndGives word pieces deeds result =

@@ -4,7 +4,7 @@ use Rattle.exercise_recording.specs.declared.format_fault.FormatFault.{FormatFau
 use Rattle.exercise_recording.specs.declared.format_fault.RecordingFault.TheVariants as recordings
 use Rattle.exercise_recording.specs.declared.mending.Mended.{Mended}
 use Rattle.exercise_recording.specs.FaultText.{format_fault_text}
-use Rattle.exercise_recording.specs.Mending.{Whole, mended_at, told_of}
+use Rattle.exercise_recording.specs.Mending.{Whole, mended_at, result_of}
 use Rattle.exercise_recording.specs.Text.{recording_text}
 use Rattle.siman_print.specs.Line.{Line, Number, Phrase, Keyed, Bare, named_line}
 use Rattle.siman_print.specs.Spelled.{line_text}
@@ -23,12 +23,12 @@ torn_line told fault =
     ∷ Bare (codes "fault") (Phrase (format_fault_text fault)) ∷ [])
 
 -- the line of the answer: that line, or for a whole recording `whole records=N`
-abbrev pub told_line : Mended → Option FormatFault → Line
-told_line told None = counted (codes "whole") (codes "records") told.entries
-told_line told (Some fault) = torn_line told fault
+abbrev pub result_line : Mended → Option FormatFault → Line
+result_line told None = counted (codes "whole") (codes "records") told.entries
+result_line told (Some fault) = torn_line told fault
 
 abbrev pub mended_text : Mended → List ℕ
-mended_text told = line_text (told_line told told.fault)
+mended_text told = line_text (result_line told told.fault)
 
 -- NOTHING IS MENDED: the file has a fault that an interrupted recorder does not leave, a read failed, or memory ran out
 abbrev pub IsUnmended : Result Whole FormatFault → Fault → Type 0
@@ -40,7 +40,7 @@ IsUnmended given fault =
 -- the texts of a mended recording: its whole part, and the line
 pub record MendsTexts (whole : Whole) (text line : List ℕ) : Type 0 where
   pub text_is : text ≡ recording_text whole.recording
-  pub line_is : line ≡ mended_text (told_of whole)
+  pub line_is : line ≡ mended_text (result_of whole)
 
 -- the mended recording with its texts, or the fault
 abbrev pub Mends : Result Whole FormatFault → Result MendedFile Fault → Type 0

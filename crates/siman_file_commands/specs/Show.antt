@@ -15,14 +15,14 @@ abbrev pub Shows : Result PlainRecording FormatFault → Result (Unit {0}) Fault
 Shows recorded shown old new = Gives show_text recorded shown old new
 
 -- The answer of `show`: the printed recording, with status 0, or a fault.
-abbrev pub TellsShow : Result PlainRecording FormatFault → (answered : Result ℕ Fault) → (old new : Option (List ℕ)) → Type 0
-TellsShow recorded answered old new = (shown : Result (Unit {0}) Fault) × Shows recorded shown old new × (answered ≡ shown_status shown)
+abbrev pub GivesShow : Result PlainRecording FormatFault → (answered : Result ℕ Fault) → (old new : Option (List ℕ)) → Type 0
+GivesShow recorded answered old new = (shown : Result (Unit {0}) Fault) × Shows recorded shown old new × (answered ≡ shown_status shown)
 
 -- THE ANSWER OF `show` for a file with these bytes, if they are known
 abbrev pub ShowsFile : (known : Option (List ℕ)) → Result ℕ Fault → (out : Stream) → Type 0
-ShowsFile known answered out = (bytes : List ℕ) × Has known bytes × TellsShow (recording_at LARGEST_RECORDING bytes) answered out.old out.new
+ShowsFile known answered out = (bytes : List ℕ) × Has known bytes × GivesShow (recording_at LARGEST_RECORDING bytes) answered out.old out.new
 
 -- HOW `show` ENDS: its answer is on the output, and its status and fault are those of the answer
 abbrev pub EndsShow : Result PlainRecording FormatFault → (status : ℕ) → (old new : Option (List ℕ)) → (errors_old errors_new : Option (List ℕ)) → Type 0
 EndsShow recorded status old new errors_old errors_new =
-    (answered : Result ℕ Fault) × TellsShow recorded answered old new × EndsWith answered status errors_old errors_new
+    (answered : Result ℕ Fault) × GivesShow recorded answered old new × EndsWith answered status errors_old errors_new

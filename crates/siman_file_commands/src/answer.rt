@@ -6,7 +6,7 @@ ghost use Rattle.siman_pdus.specs.declared.pdu.Pdu.{Pdu};
 ghost use Rattle.siman_pdus.specs.Spelling.{Spells};
 ghost use Rattle.siman_print.specs.Spelled.{line_text};
 ghost use Rattle.siman_file_commands.specs.Answer.{refusal_line, answer_to, said_of_hex, said_of_pdu};
-ghost use Rattle.siman_file_commands.specs.Pdus.{told_of_said, told_of_line};
+ghost use Rattle.siman_file_commands.specs.Pdus.{result_of_said, result_of_line};
 
 use siman_pdus::{PduFault, spellings_are_apart, view};
 use siman_print::{Field, Spelling, Value, named_line, pdu_lines};
@@ -86,7 +86,7 @@ pub fn answers_follow_the_grammar()
     ensures spelled { (pdu : Pdu) (b : List ℕ) → Spells pdu b → answer_to b ≡ said_of_pdu pdu }
     ensures not_spelled { (b : List ℕ) → ((pdu : Pdu) → ¬ Spells pdu b) → (answer_to b).status ≡ 1 }
     ensures hex { (b : List ℕ) → IsBytes b → length b ≤ 32768 → said_of_hex (encode_lower b) ≡ answer_to b }
-    ensures line { (number : ℕ) (b : List ℕ) → IsBytes b → 0 < length b → length b ≤ 32768 → told_of_line number (encode_lower b) ≡ told_of_said number (answer_to b) }
+    ensures line { (number : ℕ) (b : List ℕ) → IsBytes b → 0 < length b → length b ≤ 32768 → result_of_line number (encode_lower b) ≡ result_of_said number (answer_to b) }
 {
     spellings_are_apart();
 }

@@ -7,7 +7,7 @@ ghost use Rattle.exercise_model.specs.Recording.{IsRecording};
 ghost use Rattle.exercise_recording.specs.Reading.{recording_at};
 ghost use Rattle.exercise_check.specs.Certificate.{certificate_at};
 ghost use Rattle.exercise_check.specs.Goodness.{IsGood};
-ghost use Rattle.exercise_check.specs.Order.{order_of};
+ghost use Rattle.exercise_check.specs.Sequence.{sequence_of};
 ghost use Rattle.siman_print.specs.Spelled.{line_text};
 ghost use Rattle.siman_outside.specs.declared.limits.TheConstants.{LARGEST_CERTIFICATE, LARGEST_RECORDING};
 ghost use Rattle.siman_file_commands.specs.ChartWords.{window_of, past_of};
@@ -24,10 +24,10 @@ use exercise_model::ExerciseLog;
 use exercise_recording::{RecordingView, fetch_recording};
 use exercise_review::Register;
 use siman_outside::{
-    Fault, LARGEST_CERTIFICATE, LARGEST_RECORDING, Making, Notes, Outside, make_file,
-    open_both_spared, put_stuck, settle_and_say,
+    Fault, LARGEST_CERTIFICATE, LARGEST_RECORDING, Making, Notes, Outside, flush_and_print,
+    make_file, open_inputs_if_free, put_blocked_answer,
 };
-use siman_print::{Field, Line, Spelling, Value, put_line};
+use siman_print::{Field, PrintedRow, Spelling, Value, put_line};
 use std::alloc::{AllocError, Global};
 use std::io::{Read, Write};
 
@@ -97,7 +97,7 @@ fn chart_of_files<'a, O: Outside, W: Write>(
     ensures { let out : Stream = record { old = W.contents out.old; new = W.contents out.new } in
         (deeds : List Deed) × Adds (O.deeds outside.old) (O.deeds outside.new) deeds × All (WasHeld (O.holds outside.old)) deeds × WorksOnBoth (ChartsFiles (map (λ word. word.now) asked.entry.0.now) asked.entry.1) MakesChart force names.entry.0.now names.entry.1.now picture.now deeds result out }
 {
-    let opened = open_both_spared(names, picture, force, outside)?;
+    let opened = open_inputs_if_free(names, picture, force, outside)?;
     let charted = chart_opened(alloc, opened, asked, outside, notes)?;
     make_chart(alloc, &charted, picture, force, outside, out)
 }
@@ -177,7 +177,7 @@ fn drawn<'a, L: ExerciseLog>(
     asked: (&'a [&'a str], Window),
 ) -> Result<Charted, Fault<'a>>
     requires good { IsGood (L.recording log.now) steps.now }
-    requires holds { let r = L.recording log.now in Holds r (order_of r steps.now) }
+    requires holds { let r = L.recording log.now in Holds r (sequence_of r steps.now) }
     ensures { Charts (map (λ word. word.now) asked.entry.0.now) asked.entry.1 (Ok (L.recording log.now)) (Ok steps.now) result }
 {
     match past_of(steps.len(), asked.0) {
@@ -194,7 +194,7 @@ fn shown<'a, L: ExerciseLog>(
     asked: (&'a [&'a str], Window),
 ) -> Result<Charted, Fault<'a>>
     requires good { IsGood (L.recording log.now) steps.now }
-    requires holds { let r = L.recording log.now in Holds r (order_of r steps.now) }
+    requires holds { let r = L.recording log.now in Holds r (sequence_of r steps.now) }
     requires within { past_of (length steps.now) (map (λ word. word.now) asked.0.now) ≡ None }
     ensures { Charts (map (λ word. word.now) asked.entry.0.now) asked.entry.1 (Ok (L.recording log.now)) (Ok steps.now) result }
 {
@@ -233,7 +233,11 @@ fn chart_line(alloc: Global, steps: usize, stations: usize) -> Result<String, Al
         Field::Keyed("stations", Value::Number(stations as u64)),
     ];
     let mut line = String::new(alloc);
-    put_line(&mut line, Spelling::Text, &Line::named("chart", &fields))?;
+    put_line(
+        &mut line,
+        Spelling::Text,
+        &PrintedRow::named("chart", &fields),
+    )?;
     Ok(line)
 }
 
@@ -253,7 +257,7 @@ impl Making for PictureTexts {
         if put(file, self.picture.as_bytes()).is_err() {
             return Err(Fault::Output);
         }
-        match settle_and_say(file, &self.line, out) {
+        match flush_and_print(file, &self.line, out) {
             Ok(()) => Ok(0),
             Err(fault) => Err(fault),
         }
@@ -275,6 +279,6 @@ fn make_chart<O: Outside, W: Write>(
 {
     match charted {
         Charted::Drawn(texts) => make_file(alloc, texts, name, force, outside, out),
-        Charted::Refused(line) => put_stuck(line, out),
+        Charted::Refused(line) => put_blocked_answer(line, out),
     }
 }

@@ -3,8 +3,8 @@
 ghost use Rattle.std.specs.Prelude.{◌≡◌, ◌≤◌, Ok, Err, IfOk, IfErr, map, option_map};
 ghost use Rattle.siman_file_commands.specs.ChartWords.{edge_by, edge_of, is_turned, narrowed, with_word, window_of, step_of, is_past, past_of, AreShown};
 
+use byte_files::{number_32, split_once};
 use exercise_chart::Rows;
-use siman_scripts::{number_32, split_once};
 
 /// One bound of the selected steps.
 #[derive(Clone, Copy)]

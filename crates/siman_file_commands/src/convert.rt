@@ -7,7 +7,7 @@ ghost use Rattle.siman_outside.specs.Outside.{Has};
 ghost use Rattle.siman_file_commands.specs.Convert.{Carries};
 
 use exercise_recording::Conversion;
-use siman_outside::{Fault, Making, Notes, Outside, Product, make_file, settle_and_say};
+use siman_outside::{Fault, Making, Notes, Outside, Product, flush_and_print, make_file};
 use siman_print::counted;
 use std::alloc::Global;
 use std::io::{Read, Write};
@@ -49,7 +49,7 @@ impl Making for Carried {
         if self.conversion.write(file).is_err() {
             return Err(Fault::Output);
         }
-        match settle_and_say(file, &self.line, out) {
+        match flush_and_print(file, &self.line, out) {
             Ok(()) => Ok(0),
             Err(fault) => Err(fault),
         }

@@ -3,13 +3,13 @@
 ghost use Rattle.std.specs.Prelude.{◌≡◌, ℕ, List, Option, IfOk, map, string_bytes};
 ghost use Rattle.std.specs.List.{All};
 ghost use Rattle.siman_outside.specs.Outside.{Deed, Found, Adds, WasHeld, Stream};
-ghost use Rattle.siman_file_commands.specs.Join.{word_of, opened_by, seen_by, form_word, joined_text, IsToldOf, OpensPieces, OpensPiecesSpared, TakesPiece, ReadsPieces, Gives, ReadsAndGives, JoinsPieces};
+ghost use Rattle.siman_file_commands.specs.Join.{word_of, opened_by, seen_by, form_word, joined_text, IsJoinFault, OpensPieces, OpensPiecesSpared, TakesPiece, ReadsPieces, Gives, ReadsAndGives, JoinsPieces};
 
 use exercise_model::Form;
 use exercise_recording::{FormWord, JoinFault, Joined, Joining, Joint};
 use siman_command_line::JoinForm;
 use siman_outside::{
-    Fault, JoinLimit, LARGEST_RECORDING, Making, Outside, make_file, open_apart, settle_and_say,
+    Fault, JoinLimit, LARGEST_RECORDING, Making, Outside, flush_and_print, make_file, open_input,
     spare,
 };
 use siman_print::{Field, Value, named_line};
@@ -44,8 +44,8 @@ pub fn word_of(form: Option<JoinForm>) -> FormWord
 }
 
 /// The fault for pieces that are not joined; the fault of a single piece has its name.
-fn told_of(fault: JoinFault, name: &str) -> Fault<'_>
-    ensures { IsToldOf fault name.now result }
+fn result_of(fault: JoinFault, name: &str) -> Fault<'_>
+    ensures { IsJoinFault fault name.now result }
 {
     match fault {
         JoinFault::Recording(fault) => Fault::Piece(fault, name),
@@ -96,7 +96,7 @@ fn open_pieces<'a, S: AsStr, O: Outside>(
     let mut pieces = Vec::new(alloc);
     for name in names {
         let name = name.as_str();
-        let file = open_apart((name, new), outside)?;
+        let file = open_input((name, new), outside)?;
         match pieces.push(OpenPiece { name, file }) {
             Ok(()) => {}
             Err(_) => return Err(Fault::Memory),
@@ -107,7 +107,7 @@ fn open_pieces<'a, S: AsStr, O: Outside>(
 
 /// Opens pieces as [`open_pieces`] does; `Exists` if the name of the file to be made has a file to
 /// replace, unless `force` is set.
-fn open_spared<'a, S: AsStr, O: Outside>(
+fn open_input_if_free<'a, S: AsStr, O: Outside>(
     alloc: Global,
     names: &'a [S],
     new: &'a str,
@@ -133,7 +133,7 @@ fn take_piece<'a, O: Outside>(
     let file = outside.read(piece.file);
     match joining.add(alloc, file, LARGEST_RECORDING) {
         Ok(()) => Ok(()),
-        Err(fault) => Err(told_of(fault, piece.name)),
+        Err(fault) => Err(result_of(fault, piece.name)),
     }
 }
 
@@ -161,7 +161,7 @@ fn give(alloc: Global, joining: Joining) -> Result<JoinedFile, Fault<'static>>
 {
     let joint = match joining.end(alloc, LARGEST_RECORDING) {
         Ok(joint) => joint,
-        Err(fault) => return Err(told_of(fault, "")),
+        Err(fault) => return Err(result_of(fault, "")),
     };
     let line = joined_line(alloc, joint.told())?;
     Ok(JoinedFile { joint, line })
@@ -183,7 +183,7 @@ impl Making for JoinedFile {
         if self.joint.write(file).is_err() {
             return Err(Fault::Output);
         }
-        match settle_and_say(file, &self.line, out) {
+        match flush_and_print(file, &self.line, out) {
             Ok(()) => Ok(0),
             Err(fault) => Err(fault),
         }
@@ -218,7 +218,7 @@ pub fn join_pieces<'a, S: AsStr, O: Outside, W: Write>(
     ensures { let out : Stream = record { old = W.contents out.old; new = W.contents out.new } in
         (deeds : List Deed) × Adds (O.deeds outside.old) (O.deeds outside.new) deeds × All (WasHeld (O.holds outside.old)) deeds × JoinsPieces (map S.text names.now) force new.now word deeds result out }
 {
-    let pieces = open_spared(alloc, names, new, force, outside)?;
+    let pieces = open_input_if_free(alloc, names, new, force, outside)?;
     let joined = read_and_give(alloc, word, pieces, outside)?;
     make_file(alloc, &joined, new, force, outside, out)
 }

@@ -30,6 +30,6 @@ pub use check::{CheckCommand, check_command, check_files};
 pub use convert::{Carried, LARGEST_OLD_RECORDING};
 pub use join::{join_pieces, word_of};
 pub use mend::MendedFile;
-pub use pdu::{pdu_command, tell_word};
+pub use pdu::{pdu_command, show_word};
 pub use pdus::{end_lines, pdus_command};
 pub use show::{ShowCommand, show_command};

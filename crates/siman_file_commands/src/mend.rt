@@ -8,7 +8,7 @@ ghost use Rattle.siman_file_commands.specs.Mend.{torn_line, mended_text, Mends};
 ghost use Rattle.siman_print.specs.Spelled.{line_text};
 
 use exercise_recording::{FormatFault, Mended, Mending};
-use siman_outside::{Fault, Making, Notes, Outside, Product, make_file, settle_and_say};
+use siman_outside::{Fault, Making, Notes, Outside, Product, flush_and_print, make_file};
 use siman_print::{Field, Value, counted, named_line};
 use std::alloc::{AllocError, Global};
 use std::io::{Read, Write};
@@ -72,7 +72,7 @@ impl Making for MendedFile {
         if self.mending.write(file).is_err() {
             return Err(Fault::Output);
         }
-        match settle_and_say(file, &self.line, out) {
+        match flush_and_print(file, &self.line, out) {
             Ok(()) => Ok(0),
             Err(fault) => Err(fault),
         }

@@ -21,11 +21,11 @@ pub fn pdu_command<W: Write, E: Write>(alloc: Global, hex: &str, out: &mut W, er
     ensures ends { EndsPdu (said_of_hex hex.now) result (W.contents out.old) (W.contents out.new) (E.contents errors.old) (E.contents errors.new) }
     ensures silent { result ≤ 1 → Keeps (E.contents errors.old) (E.contents errors.new) }
 {
-    end(tell_word(alloc, hex, out), errors).status
+    end(show_word(alloc, hex, out), errors).status
 }
 
 /// Writes the answer for a word, and returns its status.
-pub fn tell_word<W: Write>(alloc: Global, hex: &str, out: &mut W) -> Result<u8, Fault<'static>>
+pub fn show_word<W: Write>(alloc: Global, hex: &str, out: &mut W) -> Result<u8, Fault<'static>>
     ensures { IsSaid (said_of_hex hex.now) result (W.contents out.old) (W.contents out.new) }
 {
     tell(alloc, hex.as_bytes(), out)

@@ -2,16 +2,16 @@
 
 ghost use Rattle.std.specs.Prelude.{◌≡◌, ◌+◌, List, ℕ, None, length, IfOk};
 ghost use Rattle.std.specs.Io.Buffered.{reader_remaining};
-ghost use Rattle.siman_scripts.specs.Text.{lines_of};
+ghost use Rattle.byte_files.specs.Text.{lines_of};
 ghost use Rattle.siman_file_commands.specs.declared.hex_text.TheConstants.{LONGEST_HEX};
 ghost use Rattle.siman_outside.specs.declared.fault.Fault.TheVariants.{Memory};
-ghost use Rattle.siman_file_commands.specs.declared.pdus.Stop.TheVariants as stops;
+ghost use Rattle.siman_file_commands.specs.declared.pdus.PdusFault.TheVariants as stops;
 ghost use Rattle.siman_outside.specs.Ending.{Wrote};
 ghost use Rattle.siman_outside.specs.Outside.{Has, Stream, Outcome, begun_by, outcome_of};
-ghost use Rattle.siman_file_commands.specs.Pdus.{told_of_line, TellsBad, TellsLine, TellsLines, EndsAt, EndsLines};
+ghost use Rattle.siman_file_commands.specs.Pdus.{result_of_line, PutsBadLine, ShowsLine, ShowsLines, EndsAt, EndsLines};
 
 use crate::hex_text::LONGEST_HEX;
-use crate::input::{Count, Unread, read_line};
+use crate::input::{Count, UnreadLine, read_line};
 use crate::pdu::tell;
 use byte_files::WriteFailed;
 use siman_outside::{Ended, Ending, Fault, conclude, end, tell as tell_fault};
@@ -20,28 +20,28 @@ use std::io::{BufReader, Read, Write};
 
 /// Why `pdus` stopped before the end of its input.
 #[derive(Clone, Copy)]
-pub(crate) enum Stop {
+pub(crate) enum PdusFault {
     /// Memory ran out, or an answer could not be written whole.
     Fault(Fault<'static>),
     /// A read failed.
-    Unread(Unread),
+    Unread(UnreadLine),
     /// The fault of a bad line could not be written whole.
-    Untold(WriteFailed),
+    Unreported(WriteFailed),
 }
 
-impl From<AllocError> for Stop {
+impl From<AllocError> for PdusFault {
     ghost from_gives = { λ _ stop. stop ≡ stops.Fault Memory };
 
-    fn from(_e: AllocError) -> Stop {
-        Stop::Fault(Fault::Memory)
+    fn from(_e: AllocError) -> PdusFault {
+        PdusFault::Fault(Fault::Memory)
     }
 }
 
-impl From<Unread> for Stop {
+impl From<UnreadLine> for PdusFault {
     ghost from_gives = { λ failed stop. stop ≡ stops.Unread failed };
 
-    fn from(failed: Unread) -> Stop {
-        Stop::Unread(failed)
+    fn from(failed: UnreadLine) -> PdusFault {
+        PdusFault::Unread(failed)
     }
 }
 
@@ -79,11 +79,11 @@ pub fn end_lines<R: Read + Drop, W: Write, E: Write>(
         (bytes : List ℕ) × Has (R.remaining input) bytes × EndsLines (lines_of bytes) (outcome_of result out errors) }
     ensures begun { begun_by result ≡ None }
 {
-    end_at(tell_input(alloc, input, out, errors), errors)
+    end_at(show_input(alloc, input, out, errors), errors)
 }
 
 /// Ends the command, at the end of its input or where it stopped.
-fn end_at<E: Write>(answered: Result<u8, Stop>, errors: &mut E) -> Ending<'static>
+fn end_at<E: Write>(answered: Result<u8, PdusFault>, errors: &mut E) -> Ending<'static>
     ensures ends { EndsAt answered result.ended (E.contents errors.old) (E.contents errors.new) }
     ensures begun { begun_by result ≡ None }
 {
@@ -96,9 +96,9 @@ fn end_at<E: Write>(answered: Result<u8, Stop>, errors: &mut E) -> Ending<'stati
             trouble: None,
             warning: None,
         },
-        Err(Stop::Fault(fault)) => conclude(Err(fault), errors),
-        Err(Stop::Unread(_)) => conclude(Err(Fault::Input), errors),
-        Err(Stop::Untold(failed)) => Ending {
+        Err(PdusFault::Fault(fault)) => conclude(Err(fault), errors),
+        Err(PdusFault::Unread(_)) => conclude(Err(Fault::Input), errors),
+        Err(PdusFault::Unreported(failed)) => Ending {
             ended: Ended {
                 status: 2,
                 written: Err(failed),
@@ -112,19 +112,19 @@ fn end_at<E: Write>(answered: Result<u8, Stop>, errors: &mut E) -> Ending<'stati
 }
 
 /// Shows all lines of an input, and returns the worst status.
-fn tell_input<R: Read + Drop, W: Write, E: Write>(
+fn show_input<R: Read + Drop, W: Write, E: Write>(
     alloc: Global,
     input: R,
     out: &mut W,
     errors: &mut E,
-) -> Result<u8, Stop>
+) -> Result<u8, PdusFault>
     ensures { let out : Stream = record { old = W.contents out.old; new = W.contents out.new } in
         let errors : Stream = record { old = E.contents errors.old; new = E.contents errors.new } in
-        (bytes : List ℕ) × Has (R.remaining input) bytes × TellsLines (lines_of bytes) result out errors }
+        (bytes : List ℕ) × Has (R.remaining input) bytes × ShowsLines (lines_of bytes) result out errors }
 {
     let mut reader = buffered(alloc, input)?;
     let mut line = vec![in alloc; 0u8; LONGEST_HEX + 1]?;
-    tell_lines(alloc, &mut reader, &mut line, out, errors)
+    show_lines(alloc, &mut reader, &mut line, out, errors)
 }
 
 /// A reader with a buffer of its own.
@@ -138,17 +138,17 @@ fn buffered<R: Read + Drop>(alloc: Global, input: R) -> Result<BufReader<R>, All
 }
 
 /// Shows the rest of the lines, each read into `buffer`, and returns the worst status.
-fn tell_lines<R: Read, W: Write, E: Write>(
+fn show_lines<R: Read, W: Write, E: Write>(
     alloc: Global,
     reader: &mut R,
     buffer: &mut [u8],
     out: &mut W,
     errors: &mut E,
-) -> Result<u8, Stop>
+) -> Result<u8, PdusFault>
     requires { length buffer.old ≡ LONGEST_HEX + 1 }
     ensures { let out : Stream = record { old = W.contents out.old; new = W.contents out.new } in
         let errors : Stream = record { old = E.contents errors.old; new = E.contents errors.new } in
-        (bytes : List ℕ) × Has (R.remaining reader.old) bytes × TellsLines (lines_of bytes) result out errors }
+        (bytes : List ℕ) × Has (R.remaining reader.old) bytes × ShowsLines (lines_of bytes) result out errors }
 {
     let mut worst = 0;
     let mut count = Count::new();
@@ -157,22 +157,22 @@ fn tell_lines<R: Read, W: Write, E: Write>(
         let Some(held) = read_line(reader, buffer)? else {
             return Ok(worst);
         };
-        let status = tell_line(alloc, number, &buffer[..held], out, errors)?;
+        let status = show_line(alloc, number, &buffer[..held], out, errors)?;
         worst = worst.max(status);
     }
 }
 
 /// Shows a line, and returns its status: 0 for an empty one.
-fn tell_line<W: Write, E: Write>(
+fn show_line<W: Write, E: Write>(
     alloc: Global,
     number: usize,
     line: &[u8],
     out: &mut W,
     errors: &mut E,
-) -> Result<u8, Stop>
+) -> Result<u8, PdusFault>
     ensures { let out : Stream = record { old = W.contents out.old; new = W.contents out.new } in
         let errors : Stream = record { old = E.contents errors.old; new = E.contents errors.new } in
-        TellsLine (told_of_line number line.now) result out errors }
+        ShowsLine (result_of_line number line.now) result out errors }
 {
     if line.is_empty() {
         return Ok(0);
@@ -180,19 +180,19 @@ fn tell_line<W: Write, E: Write>(
     match tell(alloc, line, out) {
         Ok(status) => Ok(status),
         Err(fault) => match fault {
-            Fault::NotBytePairs => tell_bad(number, errors),
-            _ => Err(Stop::Fault(fault)),
+            Fault::NotBytePairs => put_bad_line(number, errors),
+            _ => Err(PdusFault::Fault(fault)),
         },
     }
 }
 
 /// Reports a bad line by its number, and returns its status, 2.
-fn tell_bad<E: Write>(number: usize, errors: &mut E) -> Result<u8, Stop>
+fn put_bad_line<E: Write>(number: usize, errors: &mut E) -> Result<u8, PdusFault>
     ensures { let errors : Stream = record { old = E.contents errors.old; new = E.contents errors.new } in
-        TellsBad number result errors }
+        PutsBadLine number result errors }
 {
     match tell_fault(Fault::HexLine(number), errors) {
         Ok(()) => Ok(2),
-        Err(failed) => Err(Stop::Untold(failed)),
+        Err(failed) => Err(PdusFault::Unreported(failed)),
     }
 }

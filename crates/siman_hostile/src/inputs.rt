@@ -19,14 +19,14 @@ use std::io::Write;
 
 /// Result of an input.
 #[derive(Drop)]
-pub(crate) struct Answer {
+pub(crate) struct InputResult {
     pub(crate) status: u8,
     /// Whether the answer passed every check.
     pub(crate) good: bool,
 }
 
 /// Result of an input that could not be tried.
-const UNTRIED: Answer = Answer {
+const UNTRIED: InputResult = InputResult {
     status: 3,
     good: false,
 };
@@ -45,7 +45,7 @@ pub(crate) struct Ends {
 const THROWS: [usize; 8] = [0, 0, 0, 0, 1, 2, 3, 3];
 
 /// Chooses a random input of a kind and tries it.
-fn try_kind(alloc: Global, kind: usize, input: &mut Input) -> Answer {
+fn try_kind(alloc: Global, kind: usize, input: &mut Input) -> InputResult {
     match kind {
         0 => try_datagram(alloc, input),
         1 => try_recording(alloc, input),
@@ -91,7 +91,7 @@ impl Ends {
         let _first = random.below(2);
         let kind = THROWS[random.below(8) % 8];
         let mut input = begin_input(alloc, random);
-        let Answer { status, good } = try_kind(alloc, kind, &mut input);
+        let InputResult { status, good } = try_kind(alloc, kind, &mut input);
         if self.count(kind, status) && good && !input.is_short {
             return Ok(());
         }

@@ -12,7 +12,7 @@ pub(crate) type Files<'a> = &'a [(&'a str, &'a [u8])];
 
 /// Files in memory, and the contents of the file that was made.
 #[derive(Drop)]
-struct Table<'a> {
+struct MemoryFiles<'a> {
     alloc: Global,
     files: Files<'a>,
     left: Option<Vec<u8>>,
@@ -22,7 +22,7 @@ struct Table<'a> {
     replaced: bool,
 }
 
-impl<'a> Table<'a> {
+impl<'a> MemoryFiles<'a> {
     /// The contents of a file.
     fn held(&self, name: &str) -> Option<&'a [u8]> {
         for (known, bytes) in self.files {
@@ -42,7 +42,7 @@ impl<'a> Table<'a> {
     }
 }
 
-impl<'a> Outside for Table<'a> {
+impl<'a> Outside for MemoryFiles<'a> {
     type Opened = &'a [u8];
 
     type File = Given<'a>;
@@ -145,7 +145,7 @@ fn command_line(alloc: Global, words: &[&str]) -> io::Result<Vec<String>> {
 
 /// Runs the program on words, with these files and this standard input.
 pub(crate) fn run_words(alloc: Global, words: &[&str], files: Files<'_>, input: &[u8]) -> Ran {
-    let mut table = Table {
+    let mut table = MemoryFiles {
         alloc,
         files,
         left: None,
@@ -166,7 +166,7 @@ pub(crate) fn run_words(alloc: Global, words: &[&str], files: Files<'_>, input: 
         &mut errors,
         &mut reasons,
     );
-    let Table { left, replaced, .. } = table;
+    let MemoryFiles { left, replaced, .. } = table;
     let Written { bytes: out, .. } = out;
     let Written { bytes: errors, .. } = errors;
     let Written { bytes: reasons, .. } = reasons;

@@ -13,9 +13,9 @@ mod scripts;
 
 use crate::refusals::files::Judging;
 use crate::refusals::reasons::{Asking, AskingOfSteps};
-use crate::refusals::reviews::{Reviewing, make_streams};
+use crate::refusals::reviews::{WritingReview, make_streams};
 use crate::refusals::scripts::{Performing, ReadingScript, RunningWorld, Trying};
-use siman_refusals::{put_library_calls, room, told_of};
+use siman_refusals::{put_library_calls, result_of, room};
 use std::alloc::Global;
 use std::io;
 use std::io::Write;
@@ -36,14 +36,14 @@ static CALLS: [&str; 8] = [
 pub(crate) fn put_calls<W: Write>(alloc: Global, out: &mut W) -> io::Result<()> {
     put_library_calls(alloc, out)?;
     let told = [
-        told_of::<Judging, _>(alloc, room(alloc)),
-        told_of::<Reviewing, _>(alloc, make_streams(alloc)),
-        told_of::<Asking, _>(alloc, make_streams(alloc)),
-        told_of::<AskingOfSteps, _>(alloc, make_streams(alloc)),
-        told_of::<ReadingScript, _>(alloc, Ok(())),
-        told_of::<RunningWorld, _>(alloc, Ok(())),
-        told_of::<Performing, _>(alloc, room(alloc)),
-        told_of::<Trying, _>(alloc, room(alloc)),
+        result_of::<Judging, _>(alloc, room(alloc)),
+        result_of::<WritingReview, _>(alloc, make_streams(alloc)),
+        result_of::<Asking, _>(alloc, make_streams(alloc)),
+        result_of::<AskingOfSteps, _>(alloc, make_streams(alloc)),
+        result_of::<ReadingScript, _>(alloc, Ok(())),
+        result_of::<RunningWorld, _>(alloc, Ok(())),
+        result_of::<Performing, _>(alloc, room(alloc)),
+        result_of::<Trying, _>(alloc, room(alloc)),
     ];
     for place in 0..8usize {
         writeln!(out, "{}: {}", CALLS[place], told[place])?;

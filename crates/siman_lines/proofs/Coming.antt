@@ -15,7 +15,7 @@ use Rattle.exercise_recording.specs.Writer.{WriterState}
 use Rattle.siman_application.specs.OwnLog.{AreOneOrder}
 use Rattle.siman_application.specs.Application.{came}
 use Rattle.siman_stations.specs.declared.turn.Node.{Node}
-use Rattle.siman_stations.specs.Deeds.{DeedsStand, ReceivesSent, RequestsAreOrdered}
+use Rattle.siman_stations.specs.Deeds.{DeedsHaveNoCause, ReceivesSent, RequestsAreOrdered}
 use Rattle.siman_stations.proofs.Offered.{all_run, requests_ordered, deeds_stand}
 use Rattle.siman_lines.specs.LineDatagrams.{Datagrams}
 use Rattle.siman_lines.specs.KeptAtLine.{IsClosed, IsKept}
@@ -50,10 +50,10 @@ requests_kept s n w es handed is =
     (requests_ordered s n.application.outfit (came n.application) n.manager (log_at s (past es)) (IsClosed w) is.halves)
 
 pub deeds_kept : (s : ℕ) (n : Node) (w : WriterState) (es : List Entry) (handed : Option Datagrams) → IsKept s n w es handed
-    → AreOneOrder n.application.outfit (log_at s (past es)) → DeedsStand w.setting.exercise (station_in w.setting s) (log_at s (past es))
+    → AreOneOrder n.application.outfit (log_at s (past es)) → DeedsHaveNoCause w.setting.exercise (station_in w.setting s) (log_at s (past es))
 deeds_kept s n w es handed is one =
-    subst (λ (x : ℕ). DeedsStand x (station_in w.setting s) (log_at s (past es))) is.station.exercise
-    (subst (λ (o : StationData). DeedsStand n.application.outfit.exercise o (log_at s (past es))) is.station.station
+    subst (λ (x : ℕ). DeedsHaveNoCause x (station_in w.setting s) (log_at s (past es))) is.station.exercise
+    (subst (λ (o : StationData). DeedsHaveNoCause n.application.outfit.exercise o (log_at s (past es))) is.station.station
     (deeds_stand s n.application.outfit (came n.application) n.manager (log_at s (past es)) (IsClosed w) is.halves
     (is.station.address ∙ sym (ap (λ (o : StationData). o.address) is.station.station)) (inr one)))
 

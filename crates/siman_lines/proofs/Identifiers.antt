@@ -19,11 +19,11 @@ use Rattle.exercise_model.specs.Recording.{PlainRecording, IsRecording}
 use Rattle.exercise_model.specs.Setting.{SettingData, station_in, is_from}
 use Rattle.exercise_model.proofs.Offered.{sender_found}
 use Rattle.siman_application.specs.Distinct.{is_under_key}
-use Rattle.siman_application.specs.Outfit.{Outfit}
+use Rattle.siman_application.specs.AppProfile.{AppProfile}
 use Rattle.siman_application.specs.OwnLog.{HasGet, AreOneOrder}
-use Rattle.siman_manager.specs.declared.kept.KeptOrder.{KeptOrder}
+use Rattle.siman_manager.specs.declared.kept.MadeOrder.{MadeOrder}
 use Rattle.siman_manager.specs.Book.{Book}
-use Rattle.siman_manager.specs.Calls.{Call, Life, life, kept, kept_as}
+use Rattle.siman_manager.specs.Calls.{Call, Life, life, kept, made_order}
 use Rattle.siman_manager.proofs.Offered.{agrees, made_as}
 use Rattle.siman_stations.specs.Deeds.{ReceivesSent, IsOrdered, RequestsAreOrdered}
 use Rattle.siman_stations.specs.Orders.{AreFit}
@@ -95,19 +95,19 @@ got_sent w b p (Tell s n y ∷ h) e has received = got_sent w b p h e has receiv
 
 -- the identifiers of the orders that are kept are distinct: they count from the first on
 abbrev pub AreNumbered : Book → Type 0
-AreNumbered k = (n : ℕ) (order : KeptOrder) → slice_get k.orders n ≡ Some order → request_id_of order.pdu.body ≡ Some (k.settings.first_id + n)
+AreNumbered k = (n : ℕ) (order : MadeOrder) → slice_get k.orders n ≡ Some order → request_id_of order.pdu.body ≡ Some (k.settings.first_id + n)
 
 pub numbered : (k : Book) (calls : List Call) → AreFit calls → k.orders ≡ kept k.settings calls → AreNumbered k
 numbered k calls fit orders n order there =
     by (life k.settings calls n) refl
-    (sym (agrees k.settings calls (fit_requests calls fit) n) ∙ (ap (λ (os : List KeptOrder). slice_get os n) (sym orders) ∙ there))
+    (sym (agrees k.settings calls (fit_requests calls fit) n) ∙ (ap (λ (os : List MadeOrder). slice_get os n) (sym orders) ∙ there))
   where
-    by : (o : Option Life) → life k.settings calls n ≡ o → option_map kept_as o ≡ Some order
+    by : (o : Option Life) → life k.settings calls n ≡ o → option_map made_order o ≡ Some order
         → request_id_of order.pdu.body ≡ Some (k.settings.first_id + n)
     by None e is = absurd cc
     by (Some l) e is =
-        let same : kept_as l ≡ order = same_Some (kept_as l) order is in
-        subst (λ (x : KeptOrder). request_id_of x.pdu.body ≡ Some (k.settings.first_id + n)) same
+        let same : made_order l ≡ order = same_Some (made_order l) order is in
+        subst (λ (x : MadeOrder). request_id_of x.pdu.body ≡ Some (k.settings.first_id + n)) same
         (made_as k.settings calls (fit_requests calls fit) n l e).id
 
 same_numbers : (first j k : ℕ) (o u : Option ℕ) → o ≡ Some (first + j) → u ≡ Some (first + k) → same_id o u ≡ true → j ≡ k
@@ -130,7 +130,7 @@ one_order k p q own is of e =
     let numbers : of.number ≡ is.number = same_numbers k.settings.first_id of.number is.number (request_id_of q.body) (request_id_of p.body)
     (ordered_id k q own of) (ordered_id k p own is) e in
     let orders : of.order ≡ is.order = same_Some of.order is.order (sym of.there ∙ (ap (slice_get k.orders) numbers ∙ is.there)) in
-    same_both p q is.order.pdu is.same (subst (λ (o : KeptOrder). IsSameOrder q o.pdu) orders of.same)
+    same_both p q is.order.pdu is.same (subst (λ (o : MadeOrder). IsSameOrder q o.pdu) orders of.same)
 
 -- Of all stations.
 
@@ -190,7 +190,7 @@ one_sender r books limits p q is of same =
 -- NO IDENTIFIER STANDS FOR TWO ORDERS
 pub are_one : (r : PlainRecording) (books : ℕ → Book) → IsRecording r → ((s : ℕ) → s < length r.setting.stations → OrdersOwn r.setting (past r.entries) s (books s))
     → AllByRecursion (λ v. station_of v < length r.setting.stations) (past r.entries) → ReceivesSent r.setting (past r.entries)
-    → (s : ℕ) (a : Outfit) → a.exercise ≡ r.setting.exercise → AreOneOrder a (log_at s (past r.entries))
+    → (s : ℕ) (a : AppProfile) → a.exercise ≡ r.setting.exercise → AreOneOrder a (log_at s (past r.entries))
 are_one r books limits own within received s a exercise b c p q got_p got_q meant_p meant_q request_p request_q key =
     let w = r.setting in
     let h = past r.entries in

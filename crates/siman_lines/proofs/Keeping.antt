@@ -16,7 +16,7 @@ use Rattle.exercise_model.specs.Station.{StationData}
 use Rattle.exercise_recording.specs.declared.fault.WriterFault.{WriterFault}
 use Rattle.exercise_recording.specs.Writer.{WriterState}
 use Rattle.siman_application.specs.Distinct.{with_request}
-use Rattle.siman_application.specs.Outfit.{Outfit}
+use Rattle.siman_application.specs.AppProfile.{AppProfile}
 use Rattle.siman_application.specs.Application.{ApplicationData, came}
 use Rattle.siman_manager.specs.declared.order.Order.{Order}
 use Rattle.siman_manager.specs.declared.settings.Settings.{Settings}
@@ -35,7 +35,7 @@ use Rattle.siman_lines.specs.declared.fault.IssueFault.{IssueFault}
 use Rattle.siman_lines.specs.declared.fault.IssueFault.TheVariants as issue_faults
 use Rattle.siman_lines.specs.declared.served.Served.{Served}
 use Rattle.siman_lines.specs.LineDatagrams.{Datagrams, Same, GrowsAll, MayGrow}
-use Rattle.siman_lines.specs.Serving.{State, HasTaken, LosesSend, BreaksTurn, ServeEnds, IsBytes, AreBytes, came_after, book_after, taken_with, reply_at, entries_after, text_of, texts_after, texts_by, short_of, is_short}
+use Rattle.siman_lines.specs.Serving.{State, HasTaken, LosesSend, BreaksTurn, ServeEnds, IsBytes, AreBytes, pdus_after, book_after, taken_with, reply_at, entries_after, text_of, texts_after, texts_by, short_of, is_short}
 use Rattle.siman_lines.specs.Ordering.{Rests, Makes, IssueEnds, NudgeEnds}
 use Rattle.siman_lines.specs.KeptAtLine.{IsWritten, IsClosed, HasSent, AreHanded, IsOfStation, IsKept, KeepsOn, Keeps}
 use Rattle.siman_lines.proofs.Growth.{same_itself}
@@ -89,7 +89,7 @@ reply_has : (s now : ℕ) (b : List ℕ) (o : Option Pdu) → AllByRecursion (Ha
 reply_has s now b None = tt
 reply_has s now b (Some p) = (inl (refl, refl), tt)
 
-texts_has : (s now : ℕ) (a : Outfit) (ds : List Pdu) (bs : Datagrams)
+texts_has : (s now : ℕ) (a : AppProfile) (ds : List Pdu) (bs : Datagrams)
     → AllByRecursion (HasSent s (entries_after a ds s now bs)) (texts_after a ds now bs)
 texts_has s now a ds [] = tt
 texts_has s now a ds (b ∷ bs) =
@@ -100,7 +100,7 @@ texts_has s now a ds (b ∷ bs) =
     (each_on (HasSent s first) (HasSent s (first ++ last)) (sent_more s first last) (texts_after a ds now bs) (texts_has s now a ds bs))
     (each_on (HasSent s last) (HasSent s (first ++ last)) (sent_late s first last) (text_of o) (reply_has s now b o))
 
-handed_texts : (s now : ℕ) (a : Outfit) (ds : List Pdu) (es : List Entry) (bs : Datagrams) (old new : Option Datagrams) → AreHanded s es old
+handed_texts : (s now : ℕ) (a : AppProfile) (ds : List Pdu) (es : List Entry) (bs : Datagrams) (old new : Option Datagrams) → AreHanded s es old
     → GrowsAll old new (texts_after a ds now bs) → AreHanded s (es ++ entries_after a ds s now bs) new
 handed_texts s now a ds es bs old new h g =
     let more = entries_after a ds s now bs in
@@ -116,7 +116,7 @@ sent_stamped : (s now : ℕ) (o : Option Pdu) → now < 2 ^ 64 → list_all is_s
 sent_stamped s now None h = refl
 sent_stamped s now (Some p) h = ap (λ (b : Bool). b && true) (now_stamped now h)
 
-pub entries_stamped : (s now : ℕ) (a : Outfit) (ds : List Pdu) (bs : Datagrams) → now < 2 ^ 64
+pub entries_stamped : (s now : ℕ) (a : AppProfile) (ds : List Pdu) (bs : Datagrams) → now < 2 ^ 64
     → list_all is_stamped (entries_after a ds s now bs) ≡ true
 entries_stamped s now a ds [] h = refl
 entries_stamped s now a ds (b ∷ bs) h =
@@ -132,11 +132,11 @@ pub settings_after : (k : Book) (bs : Datagrams) → (book_after k bs).settings 
 settings_after k [] = refl
 settings_after k (b ∷ bs) = settings_taken (book_after k bs) (reading b) ∙ settings_after k bs
 
-stand_as : (s : ℕ) (a c : Outfit) (ds es : List Pdu) (k l : Book) (log : History) (closed : Type 0) → c ≡ a → es ≡ ds → l ≡ k
+stand_as : (s : ℕ) (a c : AppProfile) (ds es : List Pdu) (k l : Book) (log : History) (closed : Type 0) → c ≡ a → es ≡ ds → l ≡ k
     → HalvesFollow (Unit {0}) s a ds k log closed
     → HalvesFollow (Unit {0}) s c es l log closed
 stand_as s a c ds es k l log closed e f g is =
-    subst (λ (x : Outfit). HalvesFollow (Unit {0}) s x es l log closed) (sym e)
+    subst (λ (x : AppProfile). HalvesFollow (Unit {0}) s x es l log closed) (sym e)
     (subst (λ (x : List Pdu). HalvesFollow (Unit {0}) s a x l log closed) (sym f) (subst (λ (x : Book). HalvesFollow (Unit {0}) s a ds x log closed) (sym g) is))
 
 pub of_station : (s : ℕ) (n m : Node) (w v : SettingData) → m.application.outfit ≡ n.application.outfit → m.manager.settings ≡ n.manager.settings
@@ -144,8 +144,8 @@ pub of_station : (s : ℕ) (n m : Node) (w v : SettingData) → m.application.ou
     → IsOfStation s n w → IsOfStation s m v
 of_station s n m w v outfit settings setting is = subst (IsOfStation s m) (sym setting) (record {
   within = is.within;
-  exercise = ap (λ (a : Outfit). a.exercise) outfit ∙ is.exercise;
-  station = ap (λ (a : Outfit). a.station) outfit ∙ is.station;
+  exercise = ap (λ (a : AppProfile). a.exercise) outfit ∙ is.exercise;
+  station = ap (λ (a : AppProfile). a.station) outfit ∙ is.station;
   manager_exercise = ap (λ (x : Settings). x.exercise) settings ∙ is.manager_exercise;
   address = ap (λ (x : Settings). x.address) settings ∙ is.address;
 })
@@ -173,7 +173,7 @@ step_keeps s before es n m w new old handed is step = record {
   written = step.written;
   kept = record {
     station = of_station s n m w.setting new.setting step.outfit step.settings step.setting is.station;
-    halves = subst (λ (x : Outfit). HalvesFollow (Unit {0}) s x (came m.application) m.manager (log_at s (past (es ++ step.more))) (IsClosed new)) (sym step.outfit)
+    halves = subst (λ (x : AppProfile). HalvesFollow (Unit {0}) s x (came m.application) m.manager (log_at s (past (es ++ step.more))) (IsClosed new)) (sym step.outfit)
         step.halves;
     handed_are = step.handed_are;
   };
@@ -211,7 +211,7 @@ keeps_taken s now bs n m w new before es old handed h taken bytes written is han
       written = written_all before (entries_after a ds s now bs) w new es (entries_stamped s now a ds bs h) written taken.entries;
       outfit = taken.outfit;
       settings = ap (λ (k : Book). k.settings) taken.manager ∙ settings_after n.manager bs;
-      halves = stand_as s a a (came_after a ds bs) (came m.application) (book_after n.manager bs) m.manager _ (IsClosed new) refl taken.came_is
+      halves = stand_as s a a (pdus_after a ds bs) (came m.application) (book_after n.manager bs) m.manager _ (IsClosed new) refl taken.came_is
           taken.manager
           (hear_all s now a ds n.manager es bs w new bytes is.halves taken.entries);
       handed_are = handed_are;
@@ -335,7 +335,7 @@ keeps_served s now bs n m w new before es old handed h taken bytes sent written 
     keeps_taken s now bs n m w new before es old handed h taken bytes written is
     (handed_texts s now n.application.outfit (came n.application) es bs old handed is.handed_are sent)
 
-answer_has : (s now : ℕ) (a : Outfit) (ds : List Pdu) (es : List Entry) (bs : Datagrams) (b : List ℕ) (p : Pdu) → reply_at a ds now bs b ≡ Some p
+answer_has : (s now : ℕ) (a : AppProfile) (ds : List Pdu) (es : List Entry) (bs : Datagrams) (b : List ℕ) (p : Pdu) → reply_at a ds now bs b ≡ Some p
     → HasSent s (es ++ entries_after a ds s now (b ∷ bs)) (pdu_text p)
 answer_has s now a ds es bs b p due =
     let first = entries_after a ds s now bs in

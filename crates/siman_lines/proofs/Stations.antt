@@ -56,7 +56,7 @@ pub fresh : (s : ℕ) (n : Node) (recorder : WriterState) (handed : Option Datag
 fresh s n recorder handed is = record {
   station = is.station;
   halves = subst (λ (log : History). HalvesFollow (Unit {0}) s n.application.outfit (came n.application) n.manager log (IsClosed recorder)) (sym (no_past s))
-      (halves_begun s n.application.outfit n.manager (IsClosed recorder) (came n.application) (ap requests is.nothing_came) is.no_order is.ranges);
+      (halves_begun s n.application.outfit n.manager (IsClosed recorder) (came n.application) (ap requests is.nothing_received) is.no_order is.ranges);
   handed_are = none_handed s handed is.unused;
 }
 

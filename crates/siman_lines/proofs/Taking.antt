@@ -4,14 +4,14 @@ use Rattle.siman_pdus.specs.declared.pdu.Pdu.{Pdu}
 use Rattle.siman_pdus.specs.Reading.{reading}
 use Rattle.exercise_model.specs.Entry.{Entry, Received}
 use Rattle.exercise_recording.specs.Writer.{WriterState}
-use Rattle.siman_application.specs.Outfit.{Outfit}
+use Rattle.siman_application.specs.AppProfile.{AppProfile}
 use Rattle.siman_application.specs.Application.{ApplicationData, came}
 use Rattle.siman_manager.specs.Book.{Book}
 use Rattle.siman_stations.specs.declared.turn.Node.{Node}
 use Rattle.siman_stations.specs.Recording.{WritesOne}
 use Rattle.siman_stations.specs.StationTurn.{stamp_of, sent_as, reply_due, turn_entries, RecordsAll, TakesBoth}
 use Rattle.siman_lines.specs.LineDatagrams.{Datagrams}
-use Rattle.siman_lines.specs.Serving.{came_with, taken_with, reply_with, reply_at, entries_after, HasTaken}
+use Rattle.siman_lines.specs.Serving.{requests_with, taken_with, reply_with, reply_at, entries_after, HasTaken}
 
 -- Entries are recorded one after the other.
 
@@ -38,7 +38,7 @@ takes_outfit None old new t = ap (λ (n : Node). n.application.outfit) t
 takes_outfit (Some q) old new t = t.0.outfit
 
 pub takes_came : (o : Option Pdu) (old new : Node) → TakesBoth o old new
-    → came new.application ≡ came_with old.application.outfit (came old.application) o
+    → came new.application ≡ requests_with old.application.outfit (came old.application) o
 takes_came None old new t = ap (λ (n : Node). came n.application) t
 takes_came (Some q) old new t = t.0.came_is
 
@@ -55,7 +55,7 @@ pub reply_told : (s now : ℕ) (bs : Datagrams) (b : List ℕ) (before mid : Nod
     → reply_due mid.application (reading b) (stamp_of now) ≡ reply_at before.application.outfit (came before.application) now bs b
 reply_told s now bs b before mid old writer t =
     reply_same mid.application (reading b) (stamp_of now)
-    ∙ (ap (λ (a : Outfit). reply_with a (came mid.application) (reading b) (stamp_of now)) t.outfit
+    ∙ (ap (λ (a : AppProfile). reply_with a (came mid.application) (reading b) (stamp_of now)) t.outfit
     ∙ ap (λ (ds : List Pdu). reply_with before.application.outfit ds (reading b) (stamp_of now)) t.came_is)
 
 pub taken_none : (s now : ℕ) (n : Node) (w : WriterState) → HasTaken s now [] n n w w
@@ -69,8 +69,8 @@ pub taken_on : (s now : ℕ) (bs : Datagrams) (b : List ℕ) (before mid after :
 taken_on s now bs b before mid after old writer new t entries halves = record {
   outfit = takes_outfit (reading b) mid after halves ∙ t.outfit;
   came_is = takes_came (reading b) mid after halves
-      ∙ (ap (λ (a : Outfit). came_with a (came mid.application) (reading b)) t.outfit
-      ∙ ap (λ (ds : List Pdu). came_with before.application.outfit ds (reading b)) t.came_is);
+      ∙ (ap (λ (a : AppProfile). requests_with a (came mid.application) (reading b)) t.outfit
+      ∙ ap (λ (ds : List Pdu). requests_with before.application.outfit ds (reading b)) t.came_is);
   manager = takes_book (reading b) mid after halves ∙ ap (λ (k : Book). taken_with k (reading b)) t.manager;
   entries = records_on WritesOne (entries_after before.application.outfit (came before.application) s now bs) _ old writer new t.entries
       (subst (λ (o : Option Pdu). RecordsAll WritesOne (Received s now b ∷ sent_as s now o) writer new) (reply_told s now bs b before mid old writer

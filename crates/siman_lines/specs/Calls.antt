@@ -9,7 +9,7 @@ use Rattle.exercise_model.specs.Run.{IsRun}
 use Rattle.exercise_model.specs.Setting.{SettingData, IsSetting}
 use Rattle.exercise_recording.specs.Text.{recording_text}
 use Rattle.exercise_recording.specs.Writer.{WriterState, Starts}
-use Rattle.siman_application.specs.Ranges.{IsOutfitInRange}
+use Rattle.siman_application.specs.Ranges.{IsProfileInRange}
 use Rattle.siman_stations.specs.declared.turn.Node.{Node}
 use Rattle.siman_stations.specs.Deeds.{ReceivesSent}
 use Rattle.siman_lines.specs.LineDatagrams.{Datagrams}
@@ -25,8 +25,8 @@ IsUnused (Some ds) = ds ≡ []
 -- A STATION IN ITS INITIAL STATE: it has received nothing and made no order, and its link has sent nothing
 pub record IsFresh (s : ℕ) (n : Node) (w : SettingData) (handed : Option Datagrams) : Type 0 where
   pub station : IsOfStation s n w
-  pub ranges : IsOutfitInRange n.application.outfit
-  pub nothing_came : n.application.kept ≡ []
+  pub ranges : IsProfileInRange n.application.outfit
+  pub nothing_received : n.application.kept ≡ []
   pub no_order : n.manager.orders ≡ []
   pub unused : IsUnused handed
 

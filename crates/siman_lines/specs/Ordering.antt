@@ -6,7 +6,7 @@ use Rattle.siman_pdus.specs.Spelling.{pdu_text}
 use Rattle.exercise_model.specs.Entry.{Sent}
 use Rattle.exercise_recording.specs.declared.fault.WriterFault.{WriterFault}
 use Rattle.siman_manager.specs.declared.order.Order.{Order}
-use Rattle.siman_manager.specs.Answers.{refusal_of, told_by}
+use Rattle.siman_manager.specs.Answers.{refusal_of, reported_by}
 use Rattle.siman_manager.specs.Book.{next_id}
 use Rattle.siman_stations.specs.declared.turn.Node.{Node}
 use Rattle.siman_stations.specs.Sending.{next_order, after_order, next_repeat, after_tick}
@@ -79,7 +79,7 @@ pub record Withholds (now : ℕ) (order : Order) (old new : State) (Left : List 
 -- THE EFFECT OF A FAULT in an order: only a refusal leaves the manager unchanged
 abbrev pub FailsIssue : (s now : ℕ) → Order → State → State → IssueFault → Type 0
 FailsIssue s now order old new (faults.Order fault) =
-    (refusal_of old.node.manager order (stamp_of now) ≡ told_by fault) × (new.node ≡ old.node) × Rests old new
+    (refusal_of old.node.manager order (stamp_of now) ≡ reported_by fault) × (new.node ≡ old.node) × Rests old new
 FailsIssue s now order old new faults.Send = Withholds now order old new (λ text. LosesText s now text old new)
 FailsIssue s now order old new (faults.Record fault) = Withholds now order old new (λ text. KeepsText s now text fault old new)
 FailsIssue s now order old new faults.Memory = Makes now order old.node new.node × Rests old new

@@ -8,7 +8,7 @@ use Rattle.siman_pdus.specs.Spelling.{pdu_text}
 use Rattle.exercise_model.specs.Entry.{Entry, Received}
 use Rattle.exercise_recording.specs.Writer.{WriterState}
 use Rattle.siman_application.specs.Distinct.{with_request}
-use Rattle.siman_application.specs.Outfit.{Outfit}
+use Rattle.siman_application.specs.AppProfile.{AppProfile}
 use Rattle.siman_application.specs.Play.{reply_after}
 use Rattle.siman_application.specs.Application.{came}
 use Rattle.siman_manager.specs.Answers.{taken}
@@ -27,13 +27,13 @@ use Rattle.siman_lines.specs.LineDatagrams.{Datagrams, Same, GrowsAll, Grows, Ma
 -- Datagrams that a station takes, each in its turn.
 
 -- the distinct requests after one more datagram was taken, if it is read as a PDU
-abbrev pub came_with : Outfit → List Pdu → Option Pdu → List Pdu
-came_with a ds None = ds
-came_with a ds (Some q) = with_request a ds q
+abbrev pub requests_with : AppProfile → List Pdu → Option Pdu → List Pdu
+requests_with a ds None = ds
+requests_with a ds (Some q) = with_request a ds q
 
-abbrev pub came_after : Outfit → List Pdu → Datagrams → List Pdu
-came_after a ds [] = ds
-came_after a ds (b ∷ bs) = came_with a (came_after a ds bs) (reading b)
+abbrev pub pdus_after : AppProfile → List Pdu → Datagrams → List Pdu
+pdus_after a ds [] = ds
+pdus_after a ds (b ∷ bs) = requests_with a (pdus_after a ds bs) (reading b)
 
 -- the orders after one more datagram was taken
 abbrev pub taken_with : Book → Option Pdu → Book
@@ -45,16 +45,16 @@ book_after k [] = k
 book_after k (b ∷ bs) = taken_with (book_after k bs) (reading b)
 
 -- the reply to a datagram, after these distinct requests
-abbrev pub reply_with : Outfit → List Pdu → Option Pdu → ℕ → Option Pdu
+abbrev pub reply_with : AppProfile → List Pdu → Option Pdu → ℕ → Option Pdu
 reply_with a ds None stamp = None
 reply_with a ds (Some q) stamp = reply_after a ds q stamp
 
 -- the reply to a datagram, after the earlier datagrams
-abbrev pub reply_at : Outfit → List Pdu → ℕ → Datagrams → List ℕ → Option Pdu
-reply_at a ds now bs b = reply_with a (came_after a ds bs) (reading b) (stamp_of now)
+abbrev pub reply_at : AppProfile → List Pdu → ℕ → Datagrams → List ℕ → Option Pdu
+reply_at a ds now bs b = reply_with a (pdus_after a ds bs) (reading b) (stamp_of now)
 
 -- THE ENTRIES: each datagram is received, and then the reply is sent, if one is due
-abbrev pub entries_after : Outfit → List Pdu → (s now : ℕ) → Datagrams → List Entry
+abbrev pub entries_after : AppProfile → List Pdu → (s now : ℕ) → Datagrams → List Entry
 entries_after a ds s now [] = []
 entries_after a ds s now (b ∷ bs) = entries_after a ds s now bs ++ (Received s now b ∷ sent_as s now (reply_at a ds now bs b))
 
@@ -64,14 +64,14 @@ text_of None = []
 text_of (Some p) = pdu_text p ∷ []
 
 -- THE TEXTS that are sent, in their order
-abbrev pub texts_after : Outfit → List Pdu → ℕ → Datagrams → Datagrams
+abbrev pub texts_after : AppProfile → List Pdu → ℕ → Datagrams → Datagrams
 texts_after a ds now [] = []
 texts_after a ds now (b ∷ bs) = texts_after a ds now bs ++ text_of (reply_at a ds now bs b)
 
 -- manager and application took these datagrams, each in its turn, and exactly the entries of them are recorded
 pub record HasTaken (s now : ℕ) (bs : Datagrams) (before after : Node) (old new : WriterState) : Type 0 where
   pub outfit : after.application.outfit ≡ before.application.outfit
-  pub came_is : came after.application ≡ came_after before.application.outfit (came before.application) bs
+  pub came_is : came after.application ≡ pdus_after before.application.outfit (came before.application) bs
   pub manager : after.manager ≡ book_after before.manager bs
   pub entries : RecordsAll WritesOne (entries_after before.application.outfit (came before.application) s now bs) old new
 

@@ -10,7 +10,7 @@ ghost use Rattle.exercise_model.specs.Setting.{SettingData, IsSetting, station_i
 ghost use Rattle.exercise_recording.specs.Writer.{WriterState, Starts};
 ghost use Rattle.siman_application.specs.OwnLog.{AreOneOrder};
 ghost use Rattle.siman_stations.specs.declared.turn.Node.{Node};
-ghost use Rattle.siman_stations.specs.Deeds.{DeedsStand, ReceivesSent, RequestsAreOrdered};
+ghost use Rattle.siman_stations.specs.Deeds.{DeedsHaveNoCause, ReceivesSent, RequestsAreOrdered};
 ghost use Rattle.siman_lines.specs.LineDatagrams.{Datagrams};
 ghost use Rattle.siman_lines.specs.KeptAtLine.{IsWritten, IsKept};
 ghost use Rattle.siman_lines.specs.declared.station_at_line.StationAtLine.{StationAtLine};
@@ -42,10 +42,10 @@ pub fn what_is_kept_stands()
     // If no site and application used one request identifier for two orders, nothing that the
     // station sent or told has a cause against it,
     ensures deeds { (s : ℕ) (n : Node) (recorder : WriterState) (es : List Entry) (handed : Option Datagrams) → IsKept s n recorder es handed
-        → AreOneOrder n.application.outfit (log_at s (past es)) → DeedsStand recorder.setting.exercise (station_in recorder.setting s) (log_at s (past es)) }
+        → AreOneOrder n.application.outfit (log_at s (past es)) → DeedsHaveNoCause recorder.setting.exercise (station_in recorder.setting s) (log_at s (past es)) }
     // and if, besides, each received datagram that is not other was sent before, the entries are a
     // run in the order of the file.
-    ensures run { (w : SettingData) (es : List Entry) → ((s : ℕ) → s < length w.stations → DeedsStand w.exercise (station_in w s) (log_at s (past es)))
+    ensures run { (w : SettingData) (es : List Entry) → ((s : ℕ) → s < length w.stations → DeedsHaveNoCause w.exercise (station_in w s) (log_at s (past es)))
         → AllByRecursion (λ v. station_of v < length w.stations) (past es) → ReceivesSent w (past es) → IsRun w (past es) }
     // If the invariant holds of all stations of the recording, and each received datagram that is
     // not other was sent before, no site and application used one request identifier for two

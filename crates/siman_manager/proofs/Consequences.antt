@@ -8,7 +8,7 @@ use Rattle.siman_pdus.specs.declared.pdu.Pdu.{Pdu}
 use Rattle.siman_pdus.specs.Answers.{same_id}
 use Rattle.siman_pdus.specs.Role.{request_id_of}
 use Rattle.siman_manager.specs.declared.fault.OrderFault.{OrderFault}
-use Rattle.siman_manager.specs.declared.kept.KeptOrder.{KeptOrder}
+use Rattle.siman_manager.specs.declared.kept.MadeOrder.{MadeOrder}
 use Rattle.siman_manager.specs.declared.kept.OrderStanding.TheVariants as standings
 use Rattle.siman_manager.specs.declared.settings.Settings.{Settings}
 use Rattle.siman_manager.specs.Book.{order_pdu, next_id, refusal, is_ready, with_stamp}
@@ -42,12 +42,12 @@ made_of_order : (s : Settings) (n : ℕ) (p : Pdu) (r : Option OrderFault) (rest
 made_of_order s n p (Some fault) rest e all = all
 made_of_order s n p None rest e all = ((n, omega arith, e), wider s n (n + 1) (omega arith) rest all)
 
-repeat_of_order : (s : Settings) (stamp n : ℕ) (orders : List KeptOrder) (rest : List Pdu) → Numbered s orders → length orders ≡ n → (o : Option ℕ)
+repeat_of_order : (s : Settings) (stamp n : ℕ) (orders : List MadeOrder) (rest : List Pdu) → Numbered s orders → length orders ≡ n → (o : Option ℕ)
     → AllByRecursion (IsOfOrder s n) rest
-    → AllByRecursion (IsOfOrder s n) (option_to_list (option_map (λ (x : KeptOrder). with_stamp stamp x.pdu) (item_at orders o)) ++ rest)
+    → AllByRecursion (IsOfOrder s n) (option_to_list (option_map (λ (x : MadeOrder). with_stamp stamp x.pdu) (item_at orders o)) ++ rest)
 repeat_of_order s stamp n orders rest numbers len None all = all
 repeat_of_order s stamp n orders rest numbers len (Some j) all = at (slice_get orders j) refl where
-  at : (x : Option KeptOrder) → slice_get orders j ≡ x → AllByRecursion (IsOfOrder s n) (option_to_list (option_map (λ (x : KeptOrder). with_stamp stamp x.pdu) x) ++ rest)
+  at : (x : Option MadeOrder) → slice_get orders j ≡ x → AllByRecursion (IsOfOrder s n) (option_to_list (option_map (λ (x : MadeOrder). with_stamp stamp x.pdu) x) ++ rest)
   at None e = all
   at (Some x) e = ((j, below (nat_lt j (length orders)) refl, numbers j x e), all) where
     below : (b : Bool) → nat_lt j (length orders) ≡ b → j < n
@@ -67,8 +67,8 @@ of_orders s (Requested order now stamp ∷ past) are =
     (id-numbered (next_id s (count_made s past)) order.body are.0) (of_orders s past are.1))
 of_orders s (Came p ∷ past) are = of_orders s past are
 of_orders s (Ticked now stamp ∷ past) are =
-    subst (λ (x : Option KeptOrder). AllByRecursion (IsOfOrder s (count_made s past))
-    (option_to_list (option_map (λ (x : KeptOrder). with_stamp stamp x.pdu) x) ++ given_out s past))
+    subst (λ (x : Option MadeOrder). AllByRecursion (IsOfOrder s (count_made s past))
+    (option_to_list (option_map (λ (x : MadeOrder). with_stamp stamp x.pdu) x) ++ given_out s past))
     (sym (find-at (is_ready s now) (kept s past)))
     (repeat_of_order s stamp (count_made s past) (kept s past) (given_out s past)
     (numbered_kept s (kept s past) (life s past) (agrees s past are) (numbers s past are)) (counts s past)

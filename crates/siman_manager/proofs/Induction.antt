@@ -8,12 +8,12 @@ use Rattle.siman_pdus.specs.Role.{request_id_of, is_request_body}
 use Rattle.siman_pdus.specs.Spelling.{pdu_size}
 use Rattle.siman_manager.specs.declared.fault.OrderFault.{OrderFault}
 use Rattle.siman_manager.specs.declared.fault.OrderFault.TheVariants as faults
-use Rattle.siman_manager.specs.declared.kept.KeptOrder.{KeptOrder}
+use Rattle.siman_manager.specs.declared.kept.MadeOrder.{MadeOrder}
 use Rattle.siman_manager.specs.declared.kept.OrderStanding.TheVariants as standings
 use Rattle.siman_manager.specs.declared.order.Order.{Order}
 use Rattle.siman_manager.specs.declared.settings.Settings.{Settings}
 use Rattle.siman_manager.specs.Book.{order_pdu, new_order, next_id, refusal, after_request, after_take, changed_through, order_of, settled_if, settled_under, is_ready, looked_at}
-use Rattle.siman_manager.specs.Calls.{Call, Requested, Came, Ticked, AreRequests, kept, count_made, one_more, Life, life, life_made, life_ticked, kept_as, none_before, passes, is_ready_at, is_due_at, settles_order, with_standing, with_send, IsOrder}
+use Rattle.siman_manager.specs.Calls.{Call, Requested, Came, Ticked, AreRequests, kept, count_made, one_more, Life, life, life_made, life_ticked, made_order, none_before, passes, is_ready_at, is_due_at, settles_order, with_standing, with_send, IsOrder}
 use Rattle.siman_manager.proofs.Places.{slice_get-append_one}
 use Rattle.siman_manager.proofs.Lives.{Agree, NumberedLives, id-numbered, came_agrees, ticked_agrees, eq-true}
 
@@ -24,20 +24,20 @@ length-changed_through p f [] = refl
 length-changed_through p f (x ∷ xs) =
     ap suc (elim (p x) as (λ b. length (if b then xs else changed_through p f xs) ≡ length xs) [ true ↦ refl | false ↦ length-changed_through p f xs ])
 
-length-settled_if : (i : ℕ) (p : Pdu) (orders : List KeptOrder) (o : Option KeptOrder) → length (settled_if i p orders o) ≡ length orders
+length-settled_if : (i : ℕ) (p : Pdu) (orders : List MadeOrder) (o : Option MadeOrder) → length (settled_if i p orders o) ≡ length orders
 length-settled_if i p orders None = refl
 length-settled_if i p orders (Some k) = simp length-set
 
-length-settled_under : (s : Settings) (p : Pdu) (orders : List KeptOrder) (r : Option ℕ) → length (settled_under s p orders r) ≡ length orders
+length-settled_under : (s : Settings) (p : Pdu) (orders : List MadeOrder) (r : Option ℕ) → length (settled_under s p orders r) ≡ length orders
 length-settled_under s p orders None = refl
 length-settled_under s p orders (Some id) = length-settled_if (id - s.first_id) p orders (order_of s orders id)
 
-length-after_take : (s : Settings) (p : Pdu) (orders : List KeptOrder) → length (after_take s p orders) ≡ length orders
+length-after_take : (s : Settings) (p : Pdu) (orders : List MadeOrder) → length (after_take s p orders) ≡ length orders
 length-after_take s p orders =
     elim (p.exercise == s.exercise) as (λ b. length (if b then settled_under s p orders (request_id_of p.body) else orders) ≡ length orders)
     [ true ↦ length-settled_under s p orders (request_id_of p.body) | false ↦ refl ]
 
-length-after_request : (r : Option OrderFault) (s : Settings) (order : Order) (now stamp : ℕ) (orders : List KeptOrder)
+length-after_request : (r : Option OrderFault) (s : Settings) (order : Order) (now stamp : ℕ) (orders : List MadeOrder)
     → length (after_request r s order now stamp orders) ≡ one_more r (length orders)
 length-after_request (Some fault) s order now stamp orders = refl
 length-after_request None s order now stamp orders = length-append orders _
@@ -125,7 +125,7 @@ numbers s past are k l e = (made_as s past are k l e).id
 
 -- Agreement.
 
-made_agrees : (s : Settings) (order : Order) (now stamp : ℕ) (orders : List KeptOrder) (lives : ℕ → Option Life) → Agree orders lives
+made_agrees : (s : Settings) (order : Order) (now stamp : ℕ) (orders : List MadeOrder) (lives : ℕ → Option Life) → Agree orders lives
     → (r : Option OrderFault)
     → Agree (after_request r s order now stamp orders) (λ k. life_made r (order_pdu s (next_id s (length orders)) order stamp) now stamp (k == length orders)
     (lives k))
@@ -133,7 +133,7 @@ made_agrees s order now stamp orders lives agree (Some fault) k = agree k
 made_agrees s order now stamp orders lives agree None k =
     slice_get-append_one orders (new_order (order_pdu s (next_id s (length orders)) order stamp) now) k ∙ next (k == length orders) where
       next : (b : Bool) → (if b then Some (new_order (order_pdu s (next_id s (length orders)) order stamp) now) else slice_get orders k)
-          ≡ option_map kept_as (life_made None (order_pdu s (next_id s (length orders)) order stamp) now stamp b (lives k))
+          ≡ option_map made_order (life_made None (order_pdu s (next_id s (length orders)) order stamp) now stamp b (lives k))
       next true = refl
       next false = agree k
 

@@ -4,7 +4,7 @@ use Rattle.std.specs.Prelude.{Bool, true, false, ◌&&◌, nat_le, nat_lt, slice
 use Rattle.std.proofs.lemmas.Bool.Decides.{nat_tests}
 use Rattle.siman_pdus.specs.declared.pdu.Pdu.{Pdu}
 use Rattle.siman_pdus.specs.Answers.{is_answer_to}
-use Rattle.siman_manager.specs.declared.kept.KeptOrder.{KeptOrder}
+use Rattle.siman_manager.specs.declared.kept.MadeOrder.{MadeOrder}
 use Rattle.siman_manager.specs.declared.kept.OrderStanding.TheVariants as standings
 use Rattle.siman_manager.specs.declared.settings.Settings.{Settings}
 use Rattle.siman_manager.specs.Book.{is_waiting, is_due, looked_at, resent, settles, settled}
@@ -21,13 +21,13 @@ first_true : (a b : Bool) → (a && b) ≡ true → a ≡ true
 first_true true b e = refl
 first_true false b e = absurd cc
 
-not_below : (s : Settings) (now time : ℕ) (x : KeptOrder) → IsQuiet s time x → is_due s now x ≡ true → time ≤ now
+not_below : (s : Settings) (now time : ℕ) (x : MadeOrder) → IsQuiet s time x → is_due s now x ≡ true → time ≤ now
 not_below s now time x quiet e = side (nat_le time now) refl where
   side : (b : Bool) → nat_le time now ≡ b → time ≤ now
   side true t = grind (arith, nat_tests)
   side false t = let under : now < time = grind (arith, nat_tests) in let clash : is_due s now x ≡ false = quiet now under in absurd cc
 
-looked-quiet : (s : Settings) (now stamp time t : ℕ) (x : KeptOrder) → IsQuiet s time x → t < time → is_due s t (looked_at s now stamp x) ≡ false
+looked-quiet : (s : Settings) (now stamp time t : ℕ) (x : MadeOrder) → IsQuiet s time x → t < time → is_due s t (looked_at s now stamp x) ≡ false
 looked-quiet s now stamp time t x quiet below = tested (is_due s now x) (nat_lt x.sends s.tries) refl where
   tested : (due fewer : Bool) → is_due s now x ≡ due
       → is_due s t (if due then (if fewer then resent now stamp x else record x { standing = standings.GivenUp }) else x) ≡ false
@@ -38,30 +38,30 @@ looked-quiet s now stamp time t x quiet below = tested (is_due s now x) (nat_lt 
   tested true false e = refl
   tested false fewer e = quiet t below
 
-pub later-looked : (s : Settings) (now stamp : ℕ) (x y : KeptOrder) → y ≡ looked_at s now stamp x → IsLater s x y
+pub later-looked : (s : Settings) (now stamp : ℕ) (x y : MadeOrder) → y ≡ looked_at s now stamp x → IsLater s x y
 later-looked s now stamp x y e time quiet t below = ap (is_due s t) e ∙ looked-quiet s now stamp time t x quiet below
 
 -- An order is due no sooner after it was settled.
 
-settled-quiet : (s : Settings) (p : Pdu) (time t : ℕ) (x : KeptOrder) → IsQuiet s time x → t < time → is_due s t (settled p x) ≡ false
+settled-quiet : (s : Settings) (p : Pdu) (time t : ℕ) (x : MadeOrder) → IsQuiet s time x → t < time → is_due s t (settled p x) ≡ false
 settled-quiet s p time t x quiet below = tested (is_answer_to p x.pdu) (settles p.body) where
   tested : (own settling : Bool) → is_due s t (if own then (if settling then record x { standing = standings.Answered } else x) else x) ≡ false
   tested true true = refl
   tested true false = quiet t below
   tested false settling = quiet t below
 
-pub later-settled : (s : Settings) (p : Pdu) (x y : KeptOrder) → y ≡ settled p x → IsLater s x y
+pub later-settled : (s : Settings) (p : Pdu) (x y : MadeOrder) → y ≡ settled p x → IsLater s x y
 later-settled s p x y e time quiet t below = ap (is_due s t) e ∙ settled-quiet s p time t x quiet below
 
 -- All orders are due no sooner after one was written so.
 
-pub later-same : (s : Settings) (xs : List KeptOrder) → AreLater s xs xs
+pub later-same : (s : Settings) (xs : List MadeOrder) → AreLater s xs xs
 later-same s xs p y at = (y, at, λ time q. q)
 
-pub later-both : (s : Settings) (xs ys zs : List KeptOrder) → AreLater s xs ys → AreLater s ys zs → AreLater s xs zs
+pub later-both : (s : Settings) (xs ys zs : List MadeOrder) → AreLater s xs ys → AreLater s ys zs → AreLater s xs zs
 later-both s xs ys zs f g p z at =
-    let b : (y : KeptOrder) × (slice_get ys p ≡ Some y) × IsLater s y z = g p z at in
-    let a : (x : KeptOrder) × (slice_get xs p ≡ Some x) × IsLater s x b.0 = f p b.0 b.1 in
+    let b : (y : MadeOrder) × (slice_get ys p ≡ Some y) × IsLater s y z = g p z at in
+    let a : (x : MadeOrder) × (slice_get xs p ≡ Some x) × IsLater s x b.0 = f p b.0 b.1 in
     (a.0, a.1, λ time q. b.2 time (a.2 time q))
 
 -- what stands at a place of a list after a write is what was written there, or what stood there
@@ -74,28 +74,28 @@ slice_get-set_either (x ∷ xs) (suc i) y zero z e = inr e
 slice_get-set_either (x ∷ xs) (suc i) y (suc k) z e =
     elim (slice_get-set_either xs i y k z e) [ inl h ↦ inl (ap suc h.0, h.1) | inr h ↦ inr h ]
 
-pub later-set : (s : Settings) (xs : List KeptOrder) (i : ℕ) (x y : KeptOrder) → slice_get xs i ≡ Some x → IsLater s x y → AreLater s xs (set xs i y)
+pub later-set : (s : Settings) (xs : List MadeOrder) (i : ℕ) (x y : MadeOrder) → slice_get xs i ≡ Some x → IsLater s x y → AreLater s xs (set xs i y)
 later-set s xs i x y at later p z e =
     elim (slice_get-set_either xs i y p z e) [
-      | inl h ↦ (x, ap (slice_get xs) h.0 ∙ at, subst (λ (w : KeptOrder). IsLater s x w) (sym h.1) later)
+      | inl h ↦ (x, ap (slice_get xs) h.0 ∙ at, subst (λ (w : MadeOrder). IsLater s x w) (sym h.1) later)
       | inr h ↦ (z, h, λ time q. q)
     ]
 
 -- The blocks hold on.
 
-pub blocks-later : (s : Settings) (times : List ℕ) (xs ys : List KeptOrder) → AreBlocks s times xs → AreLater s xs ys → length ys ≡ length xs
+pub blocks-later : (s : Settings) (times : List ℕ) (xs ys : List MadeOrder) → AreBlocks s times xs → AreLater s xs ys → length ys ≡ length xs
     → AreBlocks s times ys
 blocks-later s times xs ys are later same = record {
   quiet = λ b time p y at_time at low high.
-      let a : (x : KeptOrder) × (slice_get xs p ≡ Some x) × IsLater s x y = later p y at in
+      let a : (x : MadeOrder) × (slice_get xs p ≡ Some x) × IsLater s x y = later p y at in
       a.2 time (are.quiet b time p a.0 at_time a.1 low high);
   have_all = omega (arith, are.have_all, same);
   last_begun = omega (arith, are.last_begun, same);
 }
 
 -- a block gets a time before which none of its orders is due
-pub blocks-renewed : (s : Settings) (times : List ℕ) (xs : List KeptOrder) (b time : ℕ) → AreBlocks s times xs
-    → ((p : ℕ) (k : KeptOrder) → 64 * b ≤ p → p < 64 * b + 64 → slice_get xs p ≡ Some k → IsQuiet s time k)
+pub blocks-renewed : (s : Settings) (times : List ℕ) (xs : List MadeOrder) (b time : ℕ) → AreBlocks s times xs
+    → ((p : ℕ) (k : MadeOrder) → 64 * b ≤ p → p < 64 * b + 64 → slice_get xs p ≡ Some k → IsQuiet s time k)
     → AreBlocks s (set times b time) xs
 blocks-renewed s times xs b time are quiet = record {
   quiet = λ c t p k at_time at low high.
@@ -118,7 +118,7 @@ slice_get-append_either (y ∷ ys) x (suc k) z e =
     elim (slice_get-append_either ys x k z e) [ inl h ↦ inl (ap suc h.0, h.1) | inr h ↦ inr (omega (arith, h.0), h.1) ]
 
 -- an order that begins a block
-pub blocks-begun : (s : Settings) (times : List ℕ) (xs : List KeptOrder) (kept : KeptOrder) (place time : ℕ) → length times ≤ place / 64
+pub blocks-begun : (s : Settings) (times : List ℕ) (xs : List MadeOrder) (kept : MadeOrder) (place time : ℕ) → length times ≤ place / 64
     → length xs ≡ place → IsQuiet s time kept → AreBlocks s times xs → AreBlocks s (times ++ time ∷ []) (xs ++ kept ∷ [])
 blocks-begun s times xs kept place time full last quiet are =
     let whole : length xs ≡ 64 * length times = omega (arith, full, last, are.have_all) in
@@ -126,7 +126,7 @@ blocks-begun s times xs kept place time full last quiet are =
       quiet = λ b t p k at_time at low high.
           elim (slice_get-append_either xs kept p k at) [
             | inl h ↦ elim (slice_get-append_either times time b t at_time) [
-              | inl g ↦ subst (λ (u : ℕ). IsQuiet s u k) (sym g.1) (subst (λ (x : KeptOrder). IsQuiet s time x) (sym h.1) quiet)
+              | inl g ↦ subst (λ (u : ℕ). IsQuiet s u k) (sym g.1) (subst (λ (x : MadeOrder). IsQuiet s time x) (sym h.1) quiet)
               | inr g ↦ absurd (omega (arith, g.0, h.0, whole, high))
             ]
             | inr h ↦ elim (slice_get-append_either times time b t at_time) [
@@ -163,7 +163,7 @@ lowered-set block time u times at below = record {
 }
 
 -- an order that goes on in the last block
-pub blocks-gone_on : (s : Settings) (times new : List ℕ) (xs : List KeptOrder) (kept : KeptOrder) (place time : ℕ) → place / 64 < length times
+pub blocks-gone_on : (s : Settings) (times new : List ℕ) (xs : List MadeOrder) (kept : MadeOrder) (place time : ℕ) → place / 64 < length times
     → AreLowered (place / 64) time times new
     → length xs ≡ place → IsQuiet s time kept → AreBlocks s times xs → AreBlocks s new (xs ++ kept ∷ [])
 blocks-gone_on s times new xs kept place time room lowered last quiet are = record {
@@ -176,7 +176,7 @@ blocks-gone_on s times new xs kept place time room lowered last quiet are = reco
   have_all = omega (arith, room, last, lowered.same, length-append xs (kept ∷ []));
   last_begun = omega (arith, are.last_begun, lowered.same, length-append xs (kept ∷ []));
 } where
-  own : (b t p : ℕ) (k : KeptOrder) → slice_get new b ≡ Some t → 64 * b ≤ p → p < 64 * b + 64 → p ≡ length xs → k ≡ kept → IsQuiet s t k
+  own : (b t p : ℕ) (k : MadeOrder) → slice_get new b ≡ Some t → 64 * b ≤ p → p < 64 * b + 64 → p ≡ length xs → k ≡ kept → IsQuiet s t k
   own b t p k at_time low high here is now below =
       let block : b ≡ place / 64 = omega (arith, low, high, here, last) in
       let under : t ≤ time = lowered.noted t (ap (slice_get new) (sym block) ∙ at_time) in

@@ -7,11 +7,11 @@ use Rattle.siman_pdus.specs.declared.pdu.Pdu.{Pdu}
 use Rattle.siman_pdus.specs.Answers.{same_id}
 use Rattle.siman_pdus.specs.Role.{request_id_of}
 use Rattle.siman_manager.specs.declared.fault.OrderFault.{OrderFault}
-use Rattle.siman_manager.specs.declared.kept.KeptOrder.{KeptOrder}
+use Rattle.siman_manager.specs.declared.kept.MadeOrder.{MadeOrder}
 use Rattle.siman_manager.specs.declared.kept.OrderStanding.TheVariants as standings
 use Rattle.siman_manager.specs.declared.settings.Settings.{Settings}
 use Rattle.siman_manager.specs.Book.{order_pdu, next_id, refusal, is_ready, repeated, with_stamp}
-use Rattle.siman_manager.specs.Calls.{Call, Requested, Came, Ticked, AreRequests, kept, given_out, made_pdu, count_made, one_more, Life, life, life_made, life_ticked, kept_as, none_before, passes, is_ready_at, is_due_at, settles_order, with_standing, with_send, sent_as, has_id}
+use Rattle.siman_manager.specs.Calls.{Call, Requested, Came, Ticked, AreRequests, kept, given_out, made_pdu, count_made, one_more, Life, life, life_made, life_ticked, made_order, none_before, passes, is_ready_at, is_due_at, settles_order, with_standing, with_send, sent_as, has_id}
 use Rattle.siman_manager.proofs.Places.{first_place, item_at, is_place, find-at, reached_first, none_before-same}
 use Rattle.siman_manager.proofs.Lives.{Agree, NumberedLives, id-numbered, eq-true, passes-agree}
 use Rattle.siman_manager.proofs.Induction.{counts, agrees, numbers}
@@ -40,7 +40,7 @@ grown_none : (stamp : ℕ) (b : Bool) → [] ≡ grown stamp b None ++ []
 grown_none stamp true = refl
 grown_none stamp false = refl
 
-reached_one : (s : Settings) (now : ℕ) (orders : List KeptOrder) (lives : ℕ → Option Life) → Agree orders lives → (k : ℕ)
+reached_one : (s : Settings) (now : ℕ) (orders : List MadeOrder) (lives : ℕ → Option Life) → Agree orders lives → (k : ℕ)
     → (if none_before (λ j. passes (is_ready_at s now) (lives j)) k then passes (is_ready_at s now) (lives k) else false) ≡ is_place k
     (first_place (is_ready s now) orders)
 reached_one s now orders lives agree k =
@@ -84,16 +84,16 @@ none_filtered : (stamp k j : ℕ) (lives : ℕ → Option Life) (b : Bool) → (
 none_filtered stamp k j lives false e at = refl
 none_filtered stamp k j lives true e at = sym (ap (grown stamp true) (ap lives (eq-true k j e) ∙ at))
 
-tick_filtered : (s : Settings) (stamp k : ℕ) (orders : List KeptOrder) (lives : ℕ → Option Life) → Agree orders lives → NumberedLives s lives
+tick_filtered : (s : Settings) (stamp k : ℕ) (orders : List MadeOrder) (lives : ℕ → Option Life) → Agree orders lives → NumberedLives s lives
     → (o : Option ℕ)
-    → filter (has_id (s.first_id + k)) (option_to_list (option_map (λ (x : KeptOrder). with_stamp stamp x.pdu) (item_at orders o))) ≡ grown stamp (is_place k o)
+    → filter (has_id (s.first_id + k)) (option_to_list (option_map (λ (x : MadeOrder). with_stamp stamp x.pdu) (item_at orders o))) ≡ grown stamp (is_place k o)
     (lives k)
 tick_filtered s stamp k orders lives agree numbers None = refl
 tick_filtered s stamp k orders lives agree numbers (Some j) =
-    ap (λ (x : Option KeptOrder). filter (has_id (s.first_id + k)) (option_to_list (option_map (λ (x : KeptOrder). with_stamp stamp x.pdu) x))) (agree j) ∙ at
+    ap (λ (x : Option MadeOrder). filter (has_id (s.first_id + k)) (option_to_list (option_map (λ (x : MadeOrder). with_stamp stamp x.pdu) x))) (agree j) ∙ at
     (lives j) refl where
       at : (o : Option Life) → lives j ≡ o → filter (has_id (s.first_id + k))
-          (option_to_list (option_map (λ (x : KeptOrder). with_stamp stamp x.pdu) (option_map kept_as o))) ≡ grown stamp (k == j) (lives k)
+          (option_to_list (option_map (λ (x : MadeOrder). with_stamp stamp x.pdu) (option_map made_order o))) ≡ grown stamp (k == j) (lives k)
       at None e = none_filtered stamp k j lives (k == j) refl e
       at (Some l) e =
           ap (λ (b : Bool). cond b (with_stamp stamp l.order ∷ []) []) (has_own_id s j k l.order (numbers j l e)) ∙ one_filtered stamp k j lives l
@@ -132,7 +132,7 @@ sends_of s (Came p ∷ past) are k = sends_of s past are k ∙ came (life s past
 sends_of s (Ticked now stamp ∷ past) are k =
     filter-append (has_id (s.first_id + k)) (option_to_list (repeated s now stamp (kept s past))) (given_out s past)
     ∙ ap (λ (ps : List Pdu). ps ++ filter (has_id (s.first_id + k)) (given_out s past))
-    (ap (λ (x : Option KeptOrder). filter (has_id (s.first_id + k)) (option_to_list (option_map (λ (x : KeptOrder). with_stamp stamp x.pdu) x)))
+    (ap (λ (x : Option MadeOrder). filter (has_id (s.first_id + k)) (option_to_list (option_map (λ (x : MadeOrder). with_stamp stamp x.pdu) x)))
     (find-at (is_ready s now) (kept s past))
     ∙ tick_filtered s stamp k (kept s past) (life s past) (agrees s past are) (numbers s past are) (first_place (is_ready s now) (kept s past)))
     ∙ ap (λ (ps : List Pdu). grown stamp (is_place k (first_place (is_ready s now) (kept s past))) (life s past k) ++ ps) (sends_of s past are k)

@@ -8,13 +8,13 @@ use Rattle.siman_pdus.specs.declared.pdu.Pdu.{Pdu}
 use Rattle.siman_pdus.specs.Answers.{is_answer_to}
 use Rattle.siman_pdus.specs.Role.{request_id_of}
 use Rattle.siman_manager.specs.declared.fault.OrderFault.{OrderFault}
-use Rattle.siman_manager.specs.declared.kept.KeptOrder.{KeptOrder}
+use Rattle.siman_manager.specs.declared.kept.MadeOrder.{MadeOrder}
 use Rattle.siman_manager.specs.declared.kept.OrderStanding.{OrderStanding}
 use Rattle.siman_manager.specs.declared.kept.OrderStanding.TheVariants as standings
 use Rattle.siman_manager.specs.declared.order.Taken.TheVariants as taken
 use Rattle.siman_manager.specs.declared.settings.Settings.{Settings}
 use Rattle.siman_manager.specs.Book.{refusal, is_waiting, is_given_up, settles, order_of, taken_as, taken_under, taken_after, taken_by, taken_by_found, settled, settled_if, settled_under, after_take}
-use Rattle.siman_manager.specs.Calls.{Call, Requested, Came, Ticked, AreRequests, kept, count_made, one_more, Life, life, life_made, life_ticked, kept_as, none_before, passes, is_ready_at, is_due_at, last_at, settles_order, with_standing, with_send, is_answered, came_since, is_given_up_life, count_below, AnswersNone}
+use Rattle.siman_manager.specs.Calls.{Call, Requested, Came, Ticked, AreRequests, kept, count_made, one_more, Life, life, life_made, life_ticked, made_order, none_before, passes, is_ready_at, is_due_at, last_at, settles_order, with_standing, with_send, is_answered, received_since, is_given_up_life, count_below, AnswersNone}
 use Rattle.siman_manager.proofs.Lives.{eq-true, answer_id, order_of-place, order_of-low}
 use Rattle.siman_manager.proofs.Induction.{counts, agrees, made_as, mapped_from}
 use Rattle.siman_manager.proofs.Sends.{unmade}
@@ -22,16 +22,16 @@ use Rattle.siman_manager.proofs.Taking.{if_true}
 
 -- Answered.
 
-nothing_came : (s : Settings) (past : List Call) (k : ℕ) → count_made s past ≤ k → came_since s past k ≡ []
-nothing_came s [] k h = refl
-nothing_came s (Requested order now stamp ∷ past) k h = nothing_came s past k (fewer (refusal s (count_made s past) order stamp) h) where
+nothing_received : (s : Settings) (past : List Call) (k : ℕ) → count_made s past ≤ k → received_since s past k ≡ []
+nothing_received s [] k h = refl
+nothing_received s (Requested order now stamp ∷ past) k h = nothing_received s past k (fewer (refusal s (count_made s past) order stamp) h) where
   fewer : (r : Option OrderFault) → one_more r (count_made s past) ≤ k → count_made s past ≤ k
   fewer (Some fault) u = u
   fewer None u = omega arith
-nothing_came s (Came p ∷ past) k h =
+nothing_received s (Came p ∷ past) k h =
     let not_yet : nat_lt k (count_made s past) ≡ false = grind (arith, nat_tests) in
-    ap (λ (b : Bool). if b then p ∷ came_since s past k else []) not_yet
-nothing_came s (Ticked now stamp ∷ past) k h = nothing_came s past k h
+    ap (λ (b : Bool). if b then p ∷ received_since s past k else []) not_yet
+nothing_received s (Ticked now stamp ∷ past) k h = nothing_received s past k h
 
 made_by_then : (s : Settings) (past : List Call) (k : ℕ) (l : Life) → life s past k ≡ Some l → nat_lt k (count_made s past) ≡ true
 made_by_then s past k l e = side (nat_lt k (count_made s past)) refl where
@@ -84,25 +84,25 @@ answered_mapped s old new f o keeps are l e =
     let from : (x : Life) × (o ≡ Some x) × (l ≡ f x) = mapped_from f o l e in
     subst (AnsweredBy s new) (sym from.2) (keeps from.0 (are from.0 from.1))
 
-pub answered_by : (s : Settings) (past : List Call) (k : ℕ) (l : Life) → life s past k ≡ Some l → AnsweredBy s (came_since s past k) l
+pub answered_by : (s : Settings) (past : List Call) (k : ℕ) (l : Life) → life s past k ≡ Some l → AnsweredBy s (received_since s past k) l
 answered_by s [] k l e = absurd cc
 answered_by s (Requested order now stamp ∷ past) k l e =
-    answered_made s _ now stamp (count_made s past) k (refusal s (count_made s past) order stamp) (life s past k) (came_since s past k) (nothing_came s past k)
+    answered_made s _ now stamp (count_made s past) k (refusal s (count_made s past) order stamp) (life s past k) (received_since s past k) (nothing_received s past k)
     (answered_by s past k) l e
 answered_by s (Came p ∷ past) k l e =
     let from : (x : Life) × (life s past k ≡ Some x) × (l ≡ (if settles_order s x.order p then with_standing standings.Answered x else x)) = mapped_from _
     (life s past k) l e in
     subst (λ (came : List Pdu). AnsweredBy s came l) (sym
-    (if_true (nat_lt k (count_made s past)) (p ∷ came_since s past k) [] (made_by_then s past k from.0 from.1)))
-    (answered_mapped s (came_since s past k) (p ∷ came_since s past k) _ (life s past k) (answered_came s p (came_since s past k)) (answered_by s past k) l e)
+    (if_true (nat_lt k (count_made s past)) (p ∷ received_since s past k) [] (made_by_then s past k from.0 from.1)))
+    (answered_mapped s (received_since s past k) (p ∷ received_since s past k) _ (life s past k) (answered_came s p (received_since s past k)) (answered_by s past k) l e)
 answered_by s (Ticked now stamp ∷ past) k l e =
-    answered_mapped s (came_since s past k) (came_since s past k) _ (life s past k)
-    (answered_ticked s now stamp (none_before (λ j. passes (is_ready_at s now) (life s past j)) k) (came_since s past k)) (answered_by s past k) l e
+    answered_mapped s (received_since s past k) (received_since s past k) _ (life s past k)
+    (answered_ticked s now stamp (none_before (λ j. passes (is_ready_at s now) (life s past j)) k) (received_since s past k)) (answered_by s past k) l e
 
 -- By its identifier an order is found.
 
 pub found : (s : Settings) (past : List Call) → AreRequests past → (k : ℕ)
-    → order_of s (kept s past) (s.first_id + k) ≡ option_map kept_as (life s past k)
+    → order_of s (kept s past) (s.first_id + k) ≡ option_map made_order (life s past k)
 found s past are k = order_of-place s (kept s past) k ∙ agrees s past are k
 
 -- What a PDU is taken as.
@@ -114,7 +114,7 @@ taken_own s past are p k l e same answer =
     let id : request_id_of p.body ≡ Some (s.first_id + k) = answer_id p l.order answer ∙ (made_as s past are k l e).id in
     if_true (p.exercise == s.exercise) (taken_under s p (kept s past) (request_id_of p.body)) taken.Foreign (eq-eqb p.exercise s.exercise same)
     ∙ ap (taken_under s p (kept s past)) id
-    ∙ ap (taken_by_found (s.first_id + k) p) (found s past are k ∙ ap (option_map kept_as) e)
+    ∙ ap (taken_by_found (s.first_id + k) p) (found s past are k ∙ ap (option_map made_order) e)
     ∙ if_true (is_answer_to p l.order) (taken_after (s.first_id + k) (settles p.body) l.standing) taken.Foreign answer
 
 pub taken_none : (s : Settings) (past : List Call) → AreRequests past → (p : Pdu) → AnswersNone s past p → taken_as s p (kept s past) ≡ taken.Foreign
@@ -124,14 +124,14 @@ taken_none s past are p none =
           (request_id_of p.body)
       | false ↦ refl
     ] where
-      not_answered : (id : ℕ) (y : KeptOrder) (o : Option Life) → life s past (id - s.first_id) ≡ o → option_map kept_as o ≡ Some y → taken_by id p y ≡ taken.Foreign
+      not_answered : (id : ℕ) (y : MadeOrder) (o : Option Life) → life s past (id - s.first_id) ≡ o → option_map made_order o ≡ Some y → taken_by id p y ≡ taken.Foreign
       not_answered id y None e u = absurd cc
       not_answered id y (Some l) e u =
-          let is : kept_as l ≡ y = cc in
-          subst (λ (x : KeptOrder). taken_by id p x ≡ taken.Foreign) is
+          let is : made_order l ≡ y = cc in
+          subst (λ (x : MadeOrder). taken_by id p x ≡ taken.Foreign) is
           (ap (λ (b : Bool). if b then taken_after id (settles p.body) l.standing else taken.Foreign) (none (id - s.first_id) l e))
 
-      kept_one : (id : ℕ) (o : Option KeptOrder) → order_of s (kept s past) id ≡ o → taken_by_found id p o ≡ taken.Foreign
+      kept_one : (id : ℕ) (o : Option MadeOrder) → order_of s (kept s past) id ≡ o → taken_by_found id p o ≡ taken.Foreign
       kept_one id None e = refl
       kept_one id (Some y) e =
           let known : (s.first_id ≤ id) × (slice_get (kept s past) (id - s.first_id) ≡ Some y) = order_of-low s (kept s past) id y e in
@@ -141,7 +141,7 @@ taken_none s past are p none =
       under None = refl
       under (Some id) = kept_one id (order_of s (kept s past) id) refl
 
-pub taken_elsewhere : (s : Settings) (orders : List KeptOrder) (p : Pdu) → p.exercise ≢ s.exercise → taken_as s p orders ≡ taken.Foreign
+pub taken_elsewhere : (s : Settings) (orders : List MadeOrder) (p : Pdu) → p.exercise ≢ s.exercise → taken_as s p orders ≡ taken.Foreign
 taken_elsewhere s orders p other = side (p.exercise == s.exercise) refl where
   side : (b : Bool) → (p.exercise == s.exercise) ≡ b → (if b then taken_under s p orders (request_id_of p.body) else taken.Foreign) ≡ taken.Foreign
   side true t = absurd (other (eq-true p.exercise s.exercise t))
@@ -154,7 +154,7 @@ set_same [] i x y at e = refl
 set_same (z ∷ zs) zero x y at e = let same : y ≡ z = cc in ap (λ w. w ∷ zs) same
 set_same (z ∷ zs) (suc i) x y at e = ap (λ ws. z ∷ ws) (set_same zs i x y at e)
 
-not_settled : (id : ℕ) (p : Pdu) (k : KeptOrder) → (taken_by id p k ≢ taken.Answered id) → settled p k ≡ k
+not_settled : (id : ℕ) (p : Pdu) (k : MadeOrder) → (taken_by id p k ≢ taken.Answered id) → settled p k ≡ k
 not_settled id p k h = tested (is_answer_to p k.pdu) (settles p.body) k.standing refl h where
   tested : (answers settling : Bool) (standing : OrderStanding) → k.standing ≡ standing → ((if answers then taken_after id settling standing else taken.Foreign) ≢ taken.Answered id)
       → (if answers then (if settling then record k { standing = standings.Answered } else k) else k) ≡ k
@@ -162,12 +162,12 @@ not_settled id p k h = tested (is_answer_to p k.pdu) (settles p.body) k.standing
   tested true false standing e u = refl
   tested true true standings.Waiting e u = absurd (u refl)
   tested true true standings.GivenUp e u = absurd (u refl)
-  tested true true standings.Answered e u = ap (λ (z : OrderStanding). let x : KeptOrder = record k { standing = z } in x) (sym e)
+  tested true true standings.Answered e u = ap (λ (z : OrderStanding). let x : MadeOrder = record k { standing = z } in x) (sym e)
 
-pub unchanged_unless : (s : Settings) (orders : List KeptOrder) (p : Pdu) → ((id : ℕ) → taken_as s p orders ≢ taken.Answered id)
+pub unchanged_unless : (s : Settings) (orders : List MadeOrder) (p : Pdu) → ((id : ℕ) → taken_as s p orders ≢ taken.Answered id)
     → after_take s p orders ≡ orders
 unchanged_unless s orders p h = side (p.exercise == s.exercise) h where
-  known : (id : ℕ) (o : Option KeptOrder) → order_of s orders id ≡ o → (taken_by_found id p o ≢ taken.Answered id) → settled_if (id - s.first_id) p orders o ≡ orders
+  known : (id : ℕ) (o : Option MadeOrder) → order_of s orders id ≡ o → (taken_by_found id p o ≢ taken.Answered id) → settled_if (id - s.first_id) p orders o ≡ orders
   known id None e u = refl
   known id (Some k) e u =
       let at : (s.first_id ≤ id) × (slice_get orders (id - s.first_id) ≡ Some k) = order_of-low s orders id k e in
@@ -199,7 +199,7 @@ count_by-below p (x ∷ xs) =
       | false ↦ (let h : count_by p xs ≡ count_below (λ j. passes p (slice_get xs j)) (length xs) = count_by-below p xs in omega arith)
     ]
 
-given_up-agree : (o : Option Life) → passes is_given_up (option_map kept_as o) ≡ passes is_given_up_life o
+given_up-agree : (o : Option Life) → passes is_given_up (option_map made_order o) ≡ passes is_given_up_life o
 given_up-agree None = refl
 given_up-agree (Some l) = refl
 

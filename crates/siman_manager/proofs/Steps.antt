@@ -2,7 +2,7 @@
 use Rattle.std.proofs.Common.{◌≡◌, ℕ, zero, suc, ◌+◌, ◌≤◌, List, [], ◌∷◌, ◌++◌, length, set, take, drop, refl, ap, sym, ◌∙◌, arith, add-one}
 use Rattle.std.specs.Prelude.{Bool, true, false, ◌&&◌, nat_lt, cond, count_by, slice_get, find, Some, None, option_map, if◌then◌else◌}
 use Rattle.std.proofs.lemmas.List.Sums.{sum_by-append}
-use Rattle.siman_manager.specs.declared.kept.KeptOrder.{KeptOrder}
+use Rattle.siman_manager.specs.declared.kept.MadeOrder.{MadeOrder}
 use Rattle.siman_manager.specs.declared.kept.OrderStanding.TheVariants as standings
 use Rattle.siman_manager.specs.declared.settings.Settings.{Settings}
 use Rattle.siman_manager.specs.Book.{changed_through, is_due, is_ready, looked_at, resent, with_stamp, repeated}
@@ -69,14 +69,14 @@ if_both true false x y z e = absurd cc
 if_both false b x y z e = absurd cc
 
 -- an order that is ready is sent once more
-pub looked-ready : (s : Settings) (now stamp : ℕ) (k : KeptOrder) → is_ready s now k ≡ true → looked_at s now stamp k ≡ resent now stamp k
+pub looked-ready : (s : Settings) (now stamp : ℕ) (k : MadeOrder) → is_ready s now k ≡ true → looked_at s now stamp k ≡ resent now stamp k
 looked-ready s now stamp k e = if_both (is_due s now k) (nat_lt k.sends s.tries) (resent now stamp k) (record k { standing = standings.GivenUp }) k e
 
 -- what the walk sends is what stands where it ended
-pub sent_here : (s : Settings) (now stamp : ℕ) (xs : List KeptOrder) (i : ℕ) (x y : KeptOrder) → slice_get xs i ≡ Some x → is_ready s now x ≡ true
+pub sent_here : (s : Settings) (now stamp : ℕ) (xs : List MadeOrder) (i : ℕ) (x y : MadeOrder) → slice_get xs i ≡ Some x → is_ready s now x ≡ true
     → y ≡ looked_at s now stamp x
     → option_map (λ k. k.pdu) (slice_get (set xs i y) i) ≡ repeated s now stamp (drop i xs)
 sent_here s now stamp xs i x y at r l =
-    ap (option_map (λ (k : KeptOrder). k.pdu)) (slice_get-set xs i x y at)
-    ∙ ap (λ (k : KeptOrder). Some k.pdu) (l ∙ looked-ready s now stamp x r)
-    ∙ sym (ap (option_map (λ (k : KeptOrder). with_stamp stamp k.pdu)) (found_here (is_ready s now) xs i x at r))
+    ap (option_map (λ (k : MadeOrder). k.pdu)) (slice_get-set xs i x y at)
+    ∙ ap (λ (k : MadeOrder). Some k.pdu) (l ∙ looked-ready s now stamp x r)
+    ∙ sym (ap (option_map (λ (k : MadeOrder). with_stamp stamp k.pdu)) (found_here (is_ready s now) xs i x at r))

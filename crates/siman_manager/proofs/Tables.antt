@@ -9,20 +9,20 @@ use Rattle.std.proofs.lemmas.Iterator.Adapters.{position_from-zero}
 use Rattle.indexmap.specs.IndexMap.{keys, values, index_map_len, insert_entry, set_value_at, with_value_at}
 use Rattle.indexmap.proofs.CallerLemmas.{keys-with_value_at, index_map_len-with_value_at}
 use Rattle.siman_manager.specs.Table.{Table, numbers_from, IsNumbered}
-use Rattle.siman_manager.specs.declared.kept.KeptOrder.{KeptOrder}
+use Rattle.siman_manager.specs.declared.kept.MadeOrder.{MadeOrder}
 
 values_of-set : {X : Type 0} (es : List (ℕ × X)) (i : ℕ) (w : X) → values_of (set_value_at es i w) ≡ set (values_of es) i w
 values_of-set [] i w = refl
 values_of-set (e ∷ es) zero w = refl
 values_of-set (e ∷ es) (suc i) w = ap (λ vs. e.1 ∷ vs) (values_of-set es i w)
 
-pub values-with_value_at : (m : Table) (i : ℕ) (w : KeptOrder) → values (with_value_at m i w) ≡ set (values m) i w
+pub values-with_value_at : (m : Table) (i : ℕ) (w : MadeOrder) → values (with_value_at m i w) ≡ set (values m) i w
 values-with_value_at m i w = values_of-set m.entries i w
 
-pub keys-written : (m : Table) (i : ℕ) (w : KeptOrder) → keys (with_value_at m i w) ≡ keys m
+pub keys-written : (m : Table) (i : ℕ) (w : MadeOrder) → keys (with_value_at m i w) ≡ keys m
 keys-written m i w = keys-with_value_at m i w
 
-pub len-written : (m : Table) (i : ℕ) (w : KeptOrder) → index_map_len (with_value_at m i w) ≡ index_map_len m
+pub len-written : (m : Table) (i : ℕ) (w : MadeOrder) → index_map_len (with_value_at m i w) ≡ index_map_len m
 len-written m i w = index_map_len-with_value_at m i w
 
 pub length-values : (m : Table) → length (values m) ≡ index_map_len m
@@ -67,7 +67,7 @@ place_known first id m numbered =
 -- The next identifier goes last.
 
 -- what a table is after the next identifier was inserted
-pub record InsertsNext (first : ℕ) (old new : List (ℕ × KeptOrder)) (kept : KeptOrder) : Type 0 where
+pub record InsertsNext (first : ℕ) (old new : List (ℕ × MadeOrder)) (kept : MadeOrder) : Type 0 where
   pub keys : keys_of new ≡ numbers_from first (suc (length old))
   pub values : values_of new ≡ values_of old ++ kept ∷ []
   pub len : length new ≡ suc (length old)
@@ -78,7 +78,7 @@ tail_of a b xs ys e = cc
 head_of : (a b : ℕ) (xs ys : List ℕ) → a ∷ xs ≡ b ∷ ys → a ≡ b
 head_of a b xs ys e = cc
 
-pub inserts_next : (es : List (ℕ × KeptOrder)) (first id : ℕ) (kept : KeptOrder) → keys_of es ≡ numbers_from first (length es)
+pub inserts_next : (es : List (ℕ × MadeOrder)) (first id : ℕ) (kept : MadeOrder) → keys_of es ≡ numbers_from first (length es)
     → id ≡ first + length es → InsertsNext first es (insert_entry nat_eq es id kept) kept
 inserts_next [] first id kept e at = let same : id ≡ first = omega arith in record { keys = ap (λ i. i ∷ []) same; values = refl; len = refl }
 inserts_next (x ∷ es) first id kept e at =
@@ -86,12 +86,12 @@ inserts_next (x ∷ es) first id kept e at =
     let apart : nat_eq id x.0 ≡ false = grind (arith, nat_tests) in
     let rest : InsertsNext (suc first) es (insert_entry nat_eq es id kept) kept =
     inserts_next es (suc first) id kept (tail_of x.0 first (keys_of es) (numbers_from (suc first) (length es)) e) (omega arith) in
-    subst (λ (new : List (ℕ × KeptOrder)). InsertsNext first (x ∷ es) new kept)
+    subst (λ (new : List (ℕ × MadeOrder)). InsertsNext first (x ∷ es) new kept)
     (sym (ap (λ (b : Bool). if b then (x.0, kept) ∷ es else x ∷ insert_entry nat_eq es id kept) apart))
     (record { keys = ap (λ ns. x.0 ∷ ns) rest.keys ∙ ap (λ i. i ∷ numbers_from (suc first) (suc (length es))) key; values = ap (λ vs. x.1 ∷ vs) rest.values; len = ap suc rest.len })
 
-pub made_next : (first id : ℕ) (old new : Table) (kept : KeptOrder) → IsNumbered first old → id ≡ first + index_map_len old
+pub made_next : (first id : ℕ) (old new : Table) (kept : MadeOrder) → IsNumbered first old → id ≡ first + index_map_len old
     → new.entries ≡ insert_entry nat_eq old.entries id kept
     → InsertsNext first old.entries new.entries kept
 made_next first id old new kept numbered at e =
-    subst (λ (es : List (ℕ × KeptOrder)). InsertsNext first old.entries es kept) (sym e) (inserts_next old.entries first id kept numbered at)
+    subst (λ (es : List (ℕ × MadeOrder)). InsertsNext first old.entries es kept) (sym e) (inserts_next old.entries first id kept numbered at)

@@ -2,7 +2,7 @@
 use Rattle.std.proofs.Common.{◌≡◌, ℕ, List, set, ap, sym, ◌∙◌, subst, length-set}
 use Rattle.std.specs.Prelude.{slice_get, Some}
 use Rattle.indexmap.specs.IndexMap.{keys, values, index_map_len, with_value_at}
-use Rattle.siman_manager.specs.declared.kept.KeptOrder.{KeptOrder}
+use Rattle.siman_manager.specs.declared.kept.MadeOrder.{MadeOrder}
 use Rattle.siman_manager.specs.declared.settings.Settings.{Settings}
 use Rattle.siman_manager.specs.Table.{Table, numbers_from, IsNumbered}
 use Rattle.siman_manager.specs.Blocks.{IsLater, AreLater, AreBlocks, IsRight}
@@ -13,10 +13,10 @@ pub numbered-same : (first : ℕ) (old new : Table) → keys new ≡ keys old �
     → IsNumbered first new
 numbered-same first old new same len numbered = same ∙ numbered ∙ ap (numbers_from first) (sym len)
 
-pub numbered-written : (first : ℕ) (m : Table) (i : ℕ) (w : KeptOrder) → IsNumbered first m → IsNumbered first (with_value_at m i w)
+pub numbered-written : (first : ℕ) (m : Table) (i : ℕ) (w : MadeOrder) → IsNumbered first m → IsNumbered first (with_value_at m i w)
 numbered-written first m i w numbered = numbered-same first m (with_value_at m i w) (keys-written m i w) (len-written m i w) numbered
 
-pub blocks-written : (s : Settings) (times : List ℕ) (m : Table) (i : ℕ) (x w : KeptOrder) → slice_get (values m) i ≡ Some x → IsLater s x w
+pub blocks-written : (s : Settings) (times : List ℕ) (m : Table) (i : ℕ) (x w : MadeOrder) → slice_get (values m) i ≡ Some x → IsLater s x w
     → AreBlocks s times (values m)
     → AreBlocks s times (values (with_value_at m i w))
 blocks-written s times m i x w at later are =

@@ -4,20 +4,20 @@ use Rattle.siman_pdus.specs.declared.pdu.Pdu.{Pdu}
 use Rattle.siman_manager.specs.declared.fault.OrderFault.{OrderFault}
 use Rattle.siman_manager.specs.declared.fault.OrderFault.TheVariants as faults
 use Rattle.siman_manager.specs.declared.order.Order.{Order}
-use Rattle.siman_manager.specs.declared.kept.KeptOrder.{KeptOrder}
+use Rattle.siman_manager.specs.declared.kept.MadeOrder.{MadeOrder}
 use Rattle.siman_manager.specs.Book.{Book, refusal, with_order, after_tick, after_take}
 
 -- the refusal that a fault is, if any: lack of memory is none
-abbrev pub told_by : OrderFault → Option OrderFault
-told_by faults.IdsSpent = Some faults.IdsSpent
-told_by faults.TooLong = Some faults.TooLong
-told_by faults.Memory = None
+abbrev pub reported_by : OrderFault → Option OrderFault
+reported_by faults.IdsSpent = Some faults.IdsSpent
+reported_by faults.TooLong = Some faults.TooLong
+reported_by faults.Memory = None
 
 -- why the next order is not made, whatever memory there is
 abbrev pub refusal_of : Book → Order → ℕ → Option OrderFault
 refusal_of b order stamp = refusal b.settings (length b.orders) order stamp
 
-abbrev pub with_orders : Book → List KeptOrder → Book
+abbrev pub with_orders : Book → List MadeOrder → Book
 with_orders b orders = record { settings = b.settings; orders = orders }
 
 -- the book after a request with this result

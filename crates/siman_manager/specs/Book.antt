@@ -11,7 +11,7 @@ use Rattle.siman_pdus.specs.Role.{request_id_of}
 use Rattle.siman_pdus.specs.Spelling.{pdu_size}
 use Rattle.siman_manager.specs.declared.fault.OrderFault.{OrderFault}
 use Rattle.siman_manager.specs.declared.fault.OrderFault.TheVariants as faults
-use Rattle.siman_manager.specs.declared.kept.KeptOrder.{KeptOrder}
+use Rattle.siman_manager.specs.declared.kept.MadeOrder.{MadeOrder}
 use Rattle.siman_manager.specs.declared.kept.OrderStanding.{OrderStanding}
 use Rattle.siman_manager.specs.declared.kept.OrderStanding.TheVariants as standings
 use Rattle.siman_manager.specs.declared.order.Order.{Order}
@@ -24,7 +24,7 @@ use Rattle.siman_manager.specs.declared.settings.Settings.{Settings}
 -- the configuration of a manager, and its orders in order of making
 pub record Book : Type 0 where
   pub settings : Settings
-  pub orders : List KeptOrder
+  pub orders : List MadeOrder
 
 -- Making an order.
 
@@ -67,14 +67,14 @@ refusal s count order stamp =
     else Some faults.IdsSpent
 
 -- a new order: sent once
-abbrev pub new_order : Pdu → ℕ → KeptOrder
+abbrev pub new_order : Pdu → ℕ → MadeOrder
 new_order pdu now = record { pdu = pdu; sends = 1; last = now; standing = standings.Waiting }
 
-abbrev pub with_order : Settings → Order → ℕ → ℕ → List KeptOrder → List KeptOrder
+abbrev pub with_order : Settings → Order → ℕ → ℕ → List MadeOrder → List MadeOrder
 with_order s order now stamp orders = orders ++ new_order (order_pdu s (next_id s (length orders)) order stamp) now ∷ []
 
 -- the orders after a request that was not refused for memory
-abbrev pub after_request : Option OrderFault → Settings → Order → ℕ → ℕ → List KeptOrder → List KeptOrder
+abbrev pub after_request : Option OrderFault → Settings → Order → ℕ → ℕ → List MadeOrder → List MadeOrder
 after_request (Some fault) s order now stamp orders = orders
 after_request None s order now stamp orders = with_order s order now stamp orders
 
@@ -97,7 +97,7 @@ settles (EventReport event datums) = false
 settles (Comment datums) = false
 
 -- the order of an identifier
-abbrev pub order_of : Settings → List KeptOrder → ℕ → Option KeptOrder
+abbrev pub order_of : Settings → List MadeOrder → ℕ → Option MadeOrder
 order_of s orders id = if nat_le s.first_id id then slice_get orders (id - s.first_id) else None
 
 abbrev pub taken_after : ℕ → Bool → OrderStanding → Taken
@@ -106,35 +106,35 @@ taken_after id settling standings.Waiting = if settling then taken.Answered id e
 taken_after id settling standings.GivenUp = if settling then taken.Answered id else taken.Pending id
 
 -- the meaning of a PDU to an order with this identifier
-abbrev pub taken_by : ℕ → Pdu → KeptOrder → Taken
+abbrev pub taken_by : ℕ → Pdu → MadeOrder → Taken
 taken_by id p k = if is_answer_to p k.pdu then taken_after id (settles p.body) k.standing else taken.Foreign
 
 -- an order after a PDU of the exercise was taken
-abbrev pub settled : Pdu → KeptOrder → KeptOrder
+abbrev pub settled : Pdu → MadeOrder → MadeOrder
 settled p k = if is_answer_to p k.pdu then (if settles p.body then record k { standing = standings.Answered } else k) else k
 
-abbrev pub taken_by_found : ℕ → Pdu → Option KeptOrder → Taken
+abbrev pub taken_by_found : ℕ → Pdu → Option MadeOrder → Taken
 taken_by_found id p None = taken.Foreign
 taken_by_found id p (Some k) = taken_by id p k
 
-abbrev pub taken_under : Settings → Pdu → List KeptOrder → Option ℕ → Taken
+abbrev pub taken_under : Settings → Pdu → List MadeOrder → Option ℕ → Taken
 taken_under s p orders None = taken.Foreign
 taken_under s p orders (Some id) = taken_by_found id p (order_of s orders id)
 
 -- the meaning of a received PDU
-abbrev pub taken_as : Settings → Pdu → List KeptOrder → Taken
+abbrev pub taken_as : Settings → Pdu → List MadeOrder → Taken
 taken_as s p orders = if p.exercise == s.exercise then taken_under s p orders (request_id_of p.body) else taken.Foreign
 
-abbrev pub settled_if : ℕ → Pdu → List KeptOrder → Option KeptOrder → List KeptOrder
+abbrev pub settled_if : ℕ → Pdu → List MadeOrder → Option MadeOrder → List MadeOrder
 settled_if place p orders None = orders
 settled_if place p orders (Some k) = slice_set orders place (settled p k)
 
-abbrev pub settled_under : Settings → Pdu → List KeptOrder → Option ℕ → List KeptOrder
+abbrev pub settled_under : Settings → Pdu → List MadeOrder → Option ℕ → List MadeOrder
 settled_under s p orders None = orders
 settled_under s p orders (Some id) = settled_if (id - s.first_id) p orders (order_of s orders id)
 
 -- the orders after a PDU was received
-abbrev pub after_take : Settings → Pdu → List KeptOrder → List KeptOrder
+abbrev pub after_take : Settings → Pdu → List MadeOrder → List MadeOrder
 after_take s p orders = if p.exercise == s.exercise then settled_under s p orders (request_id_of p.body) else orders
 
 -- A tick.
@@ -146,22 +146,22 @@ is_waiting standings.GivenUp = false
 
 -- an order is due if it waits and its last send is at least `wait` ago; if the clock went backwards, no time has
 -- passed
-abbrev pub is_due : Settings → ℕ → KeptOrder → Bool
+abbrev pub is_due : Settings → ℕ → MadeOrder → Bool
 is_due s now k = is_waiting k.standing && nat_le s.wait (now - k.last)
 
 -- an order is ready if it is due and may be sent again
-abbrev pub is_ready : Settings → ℕ → KeptOrder → Bool
+abbrev pub is_ready : Settings → ℕ → MadeOrder → Bool
 is_ready s now k = is_due s now k && nat_lt k.sends s.tries
 
 abbrev pub with_stamp : ℕ → Pdu → Pdu
 with_stamp stamp p = record p { stamp = stamp }
 
 -- an order that is sent again
-abbrev pub resent : ℕ → ℕ → KeptOrder → KeptOrder
+abbrev pub resent : ℕ → ℕ → MadeOrder → MadeOrder
 resent now stamp k = record { pdu = with_stamp stamp k.pdu; sends = k.sends + 1; last = now; standing = k.standing }
 
 -- an order after a tick looked at it
-abbrev pub looked_at : Settings → ℕ → ℕ → KeptOrder → KeptOrder
+abbrev pub looked_at : Settings → ℕ → ℕ → MadeOrder → MadeOrder
 looked_at s now stamp k =
     if is_due s now k
     then (if nat_lt k.sends s.tries then resent now stamp k else record k { standing = standings.GivenUp })
@@ -173,11 +173,11 @@ changed_through test change [] = []
 changed_through test change (x ∷ xs) = change x ∷ (if test x then xs else changed_through test change xs)
 
 -- the orders after a tick, which looks at them in turn up to the first that is ready
-abbrev pub after_tick : Settings → ℕ → ℕ → List KeptOrder → List KeptOrder
+abbrev pub after_tick : Settings → ℕ → ℕ → List MadeOrder → List MadeOrder
 after_tick s now stamp orders = changed_through (is_ready s now) (looked_at s now stamp) orders
 
 -- the PDU that a tick sends: that of the first order that is ready
-abbrev pub repeated : Settings → ℕ → ℕ → List KeptOrder → Option Pdu
+abbrev pub repeated : Settings → ℕ → ℕ → List MadeOrder → Option Pdu
 repeated s now stamp orders = option_map (λ k. with_stamp stamp k.pdu) (find (is_ready s now) orders)
 
 -- States.
@@ -187,7 +187,7 @@ status_at standings.Waiting sends = statuses.Waiting sends
 status_at standings.Answered sends = statuses.Answered
 status_at standings.GivenUp sends = statuses.GivenUp
 
-abbrev pub status_of : KeptOrder → OrderStatus
+abbrev pub status_of : MadeOrder → OrderStatus
 status_of k = status_at k.standing k.sends
 
 abbrev pub gave_up : OrderStanding → Bool
@@ -195,5 +195,5 @@ gave_up standings.Waiting = false
 gave_up standings.Answered = false
 gave_up standings.GivenUp = true
 
-abbrev pub is_given_up : KeptOrder → Bool
+abbrev pub is_given_up : MadeOrder → Bool
 is_given_up k = gave_up k.standing

@@ -9,7 +9,7 @@ use Rattle.siman_pdus.specs.Answers.{is_answer_to, same_id}
 use Rattle.siman_pdus.specs.Role.{request_id_of, is_request_body}
 use Rattle.siman_pdus.specs.Same.{IsSameOrder}
 use Rattle.siman_manager.specs.declared.fault.OrderFault.{OrderFault}
-use Rattle.siman_manager.specs.declared.kept.KeptOrder.{KeptOrder}
+use Rattle.siman_manager.specs.declared.kept.MadeOrder.{MadeOrder}
 use Rattle.siman_manager.specs.declared.kept.OrderStanding.{OrderStanding}
 use Rattle.siman_manager.specs.declared.kept.OrderStanding.TheVariants as standings
 use Rattle.siman_manager.specs.declared.order.Order.{Order}
@@ -32,7 +32,7 @@ AreRequests (Ticked now stamp ∷ past) = AreRequests past
 -- By the steps.
 
 -- the stored orders after these calls
-abbrev pub kept : Settings → List Call → List KeptOrder
+abbrev pub kept : Settings → List Call → List MadeOrder
 kept s [] = []
 kept s (Requested order now stamp ∷ past) = after_request (refusal s (length (kept s past)) order stamp) s order now stamp (kept s past)
 kept s (Came p ∷ past) = after_take s p (kept s past)
@@ -134,8 +134,8 @@ life s (Ticked now stamp ∷ past) k =
 
 -- the stored order of a life: its PDU as it was last sent, the number of its sends, the time of the last, and its
 -- state
-abbrev pub kept_as : Life → KeptOrder
-kept_as l = record { pdu = with_stamp (last_stamp l.sends) l.order; sends = length l.sends; last = last_at l.sends; standing = l.standing }
+abbrev pub made_order : Life → MadeOrder
+made_order l = record { pdu = with_stamp (last_stamp l.sends) l.order; sends = length l.sends; last = last_at l.sends; standing = l.standing }
 
 -- the PDUs that an order was sent as, the latest first
 abbrev pub sent_as : Option Life → List Pdu
@@ -143,11 +143,11 @@ sent_as None = []
 sent_as (Some l) = map (λ send. with_stamp send.stamp l.order) l.sends
 
 -- the PDUs that were received since the k-th order was made, the latest first
-abbrev pub came_since : Settings → List Call → ℕ → List Pdu
-came_since s [] k = []
-came_since s (Requested order now stamp ∷ past) k = came_since s past k
-came_since s (Came p ∷ past) k = if nat_lt k (count_made s past) then p ∷ came_since s past k else []
-came_since s (Ticked now stamp ∷ past) k = came_since s past k
+abbrev pub received_since : Settings → List Call → ℕ → List Pdu
+received_since s [] k = []
+received_since s (Requested order now stamp ∷ past) k = received_since s past k
+received_since s (Came p ∷ past) k = if nat_lt k (count_made s past) then p ∷ received_since s past k else []
+received_since s (Ticked now stamp ∷ past) k = received_since s past k
 
 -- the PDU has this request identifier
 abbrev pub has_id : ℕ → Pdu → Bool

@@ -4,11 +4,11 @@
 ghost use Rattle.std.specs.Prelude.{◌≡◌, ◌≤◌, ◌<◌, ◌++◌, ◌-◌, ℕ, List, [], ◌∷◌, length, false, nat_le, slice_get};
 ghost use Rattle.std.specs.Vec.{vec_len, vec_capacity};
 ghost use Rattle.indexmap.specs.IndexMap.{values, index_map_len};
-ghost use Rattle.siman_manager.specs.declared.kept.KeptOrder.{KeptOrder};
+ghost use Rattle.siman_manager.specs.declared.kept.MadeOrder.{MadeOrder};
 ghost use Rattle.siman_manager.specs.declared.settings.Settings.{Settings};
 ghost use Rattle.siman_manager.specs.Blocks.{AreBlocks, IsQuiet};
 
-use crate::kept::{KeptOrder, OrderStanding, OrderTable};
+use crate::kept::{MadeOrder, OrderStanding, OrderTable};
 use crate::settings::Settings;
 
 /// Orders in a block; the last may have fewer.
@@ -26,7 +26,7 @@ fn next_due(last: u64, wait: u64) -> u64
 }
 
 /// A time before which an order is not due.
-pub(crate) fn quiet_until(kept: &KeptOrder, settings: &Settings) -> u64
+pub(crate) fn quiet_until(kept: &MadeOrder, settings: &Settings) -> u64
     ensures { IsQuiet settings.now result kept.now }
 {
     match kept.standing {
@@ -43,7 +43,7 @@ pub(crate) fn all_quiet_until(
     end: usize,
 ) -> u64
     requires { end ≤ index_map_len orders.now }
-    ensures { (p : ℕ) (k : KeptOrder) → first ≤ p → p < end → slice_get (values orders.now) p ≡ Some k → IsQuiet settings.now result k }
+    ensures { (p : ℕ) (k : MadeOrder) → first ≤ p → p < end → slice_get (values orders.now) p ≡ Some k → IsQuiet settings.now result k }
 {
     let mut time = u64::MAX;
     for place in first..end {
@@ -58,7 +58,7 @@ pub(crate) fn all_quiet_until(
 /// Notes that the order at this place, the last, is not due before this time.
 pub(crate) fn note(times: &mut Vec<u64>, place: usize, time: u64)
     requires { vec_len times.old < vec_capacity times.old }
-    ensures { (s : Settings) (orders : List KeptOrder) (kept : KeptOrder) → length orders ≡ place → IsQuiet s time kept → AreBlocks s times.old.items orders → AreBlocks s times.new.items (orders ++ kept ∷ []) }
+    ensures { (s : Settings) (orders : List MadeOrder) (kept : MadeOrder) → length orders ≡ place → IsQuiet s time kept → AreBlocks s times.old.items orders → AreBlocks s times.new.items (orders ++ kept ∷ []) }
 {
     let block = place / BLOCK;
     if block >= times.len() {

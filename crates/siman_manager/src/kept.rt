@@ -18,7 +18,7 @@ pub(crate) enum OrderStanding {
 
 /// An order that was made.
 #[derive(Drop)]
-pub(crate) struct KeptOrder {
+pub(crate) struct MadeOrder {
     /// Its PDU, as it was last sent.
     pub pdu: Pdu,
     /// How often it was sent.
@@ -28,7 +28,7 @@ pub(crate) struct KeptOrder {
     pub standing: OrderStanding,
 }
 
-impl KeptOrder {
+impl MadeOrder {
     pub(crate) fn status(&self) -> OrderStatus
         ensures { result ≡ status_of self.now }
     {
@@ -50,7 +50,7 @@ impl KeptOrder {
 }
 
 /// Orders by identifier, in order of making.
-pub(crate) type OrderTable = IndexMap<u32, KeptOrder>;
+pub(crate) type OrderTable = IndexMap<u32, MadeOrder>;
 
 pub(crate) fn count_given_up(orders: &OrderTable) -> usize
     ensures { result ≡ count_by is_given_up (values orders.now) }

@@ -5,11 +5,11 @@ ghost use Rattle.std.specs.Option.{SomeIff};
 ghost use Rattle.indexmap.specs.IndexMap.{values, index_map_len};
 ghost use Rattle.siman_manager.specs.Blocks.{IsRight};
 ghost use Rattle.siman_manager.specs.Book.{numbered, order_pdu, next_id, refusal, with_order};
-ghost use Rattle.siman_manager.specs.Answers.{told_by};
+ghost use Rattle.siman_manager.specs.Answers.{reported_by};
 
 use crate::blocks::{note, quiet_until};
 use crate::fault::OrderFault;
-use crate::kept::{KeptOrder, OrderStanding, OrderTable};
+use crate::kept::{MadeOrder, OrderStanding, OrderTable};
 use crate::order::Order;
 use crate::settings::Settings;
 use dis_records::{EntityId, Version};
@@ -97,7 +97,7 @@ pub(crate) fn make(
     requires { IsRight settings.now times.old.items orders.old }
     ensures right { IsRight settings.now times.new.items orders.new }
     ensures refused { IfSome (refusal settings.now (index_map_len orders.old) order stamp) (λ fault. result ≡ Err fault) }
-    ensures only { IfErr result (λ fault. refusal settings.now (index_map_len orders.old) order stamp ≡ told_by fault) }
+    ensures only { IfErr result (λ fault. refusal settings.now (index_map_len orders.old) order stamp ≡ reported_by fault) }
     ensures err { OnErr result (values orders.new ≡ values orders.old) }
     ensures id { IfOk result (λ id. id ≡ next_id settings.now (index_map_len orders.old)) }
     ensures made { OnOk result (values orders.new ≡ with_order settings.now order now stamp (values orders.old)) }
@@ -111,7 +111,7 @@ pub(crate) fn make(
     if encoded_size(&pdu).is_none() {
         return Err(OrderFault::TooLong);
     }
-    let kept = KeptOrder {
+    let kept = MadeOrder {
         pdu,
         sends: 1,
         last: now,

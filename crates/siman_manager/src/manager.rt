@@ -5,7 +5,7 @@ ghost use Rattle.std.specs.Option.{option_map, option_copied};
 ghost use Rattle.std.specs.Borrow.{sem};
 ghost use Rattle.siman_pdus.specs.Role.{is_request_body};
 ghost use Rattle.siman_manager.specs.Book.{Book, next_id, order_pdu, order_of, taken_as, repeated, status_of, is_given_up};
-ghost use Rattle.siman_manager.specs.Answers.{told_by, refusal_of, book_after, ticked, taken};
+ghost use Rattle.siman_manager.specs.Answers.{reported_by, refusal_of, book_after, ticked, taken};
 ghost use Rattle.siman_manager.specs.Lending.{EndsRequested, EndsTicked};
 
 use crate::fault::OrderFault;
@@ -96,7 +96,7 @@ impl Manager {
         // A refusal is returned,
         ensures refused { IfSome (refusal_of self.old order stamp) (λ fault. result ≡ Err fault) }
         // and no fault but that or lack of memory.
-        ensures only { IfErr result (λ fault. refusal_of self.old order stamp ≡ told_by fault) }
+        ensures only { IfErr result (λ fault. refusal_of self.old order stamp ≡ reported_by fault) }
         ensures id { IfOk result (λ made. made.0 ≡ next_id self.old.settings (length self.old.orders)) }
         ensures pdu { IfOk result (λ made.
             made.1.now ≡ order_pdu self.old.settings (next_id self.old.settings (length self.old.orders)) order stamp) }
@@ -109,7 +109,7 @@ impl Manager {
     fn make(&mut self, order: Order, now: u64, stamp: u32) -> Result<u32, OrderFault>
         ensures after { self.new ≡ book_after self.old order now stamp result }
         ensures refused { IfSome (refusal_of self.old order stamp) (λ fault. result ≡ Err fault) }
-        ensures only { IfErr result (λ fault. refusal_of self.old order stamp ≡ told_by fault) }
+        ensures only { IfErr result (λ fault. refusal_of self.old order stamp ≡ reported_by fault) }
         ensures id { IfOk result (λ id. id ≡ next_id self.old.settings (length self.old.orders)) }
     {
         make(

@@ -7,7 +7,7 @@ ghost use Rattle.siman_manager.specs.Table.{IsNumbered};
 ghost use Rattle.siman_manager.specs.Blocks.{IsRight};
 ghost use Rattle.siman_manager.specs.Book.{settles, taken_by, settled, taken_as, after_take};
 
-use crate::kept::{KeptOrder, OrderStanding, OrderTable};
+use crate::kept::{MadeOrder, OrderStanding, OrderTable};
 use crate::order::Taken;
 use crate::settings::Settings;
 use siman_pdus::{ABLE, Body, Pdu, UNABLE, answers, request_id};
@@ -33,7 +33,7 @@ fn settles(body: &Body) -> bool
 }
 
 /// Meaning of a PDU of the exercise to the order with this identifier, which it may settle.
-fn judge(kept: &mut KeptOrder, id: u32, pdu: &Pdu) -> Taken
+fn judge(kept: &mut MadeOrder, id: u32, pdu: &Pdu) -> Taken
     ensures answer { result ≡ taken_by id pdu.now kept.old }
     ensures after { kept.new ≡ settled pdu.now kept.old }
 {

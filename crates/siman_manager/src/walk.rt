@@ -7,11 +7,11 @@ ghost use Rattle.siman_manager.specs.Book.{is_ready, looked_at, after_tick, repe
 ghost use Rattle.siman_manager.specs.Blocks.{IsRight, AreLater, ticked_from, repeated_from};
 
 use crate::blocks::{BLOCK, all_quiet_until};
-use crate::kept::{KeptOrder, OrderStanding, OrderTable};
+use crate::kept::{MadeOrder, OrderStanding, OrderTable};
 use crate::settings::Settings;
 
 /// Looks at one order, and sends it again, gives it up, or leaves it. Returns whether it was sent.
-fn look(kept: &mut KeptOrder, settings: &Settings, now: u64, stamp: u32) -> bool
+fn look(kept: &mut MadeOrder, settings: &Settings, now: u64, stamp: u32) -> bool
     ensures answer { result ≡ is_ready settings.now now kept.old }
     ensures after { kept.new ≡ looked_at settings.now now stamp kept.old }
 {

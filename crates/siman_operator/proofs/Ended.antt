@@ -9,9 +9,9 @@ use Rattle.siman_operator.specs.declared.post.Post.{Post}
 use Rattle.siman_operator.specs.declared.printing.PrintFault.{PrintFault}
 use Rattle.siman_operator.specs.declared.playing.Stop.{Stop}
 use Rattle.siman_operator.specs.declared.playing.Stop.TheVariants as stops
-use Rattle.siman_operator.specs.declared.told.Told.{Told}
+use Rattle.siman_operator.specs.declared.session_report.SessionReport.{SessionReport}
 use Rattle.siman_operator.specs.Closing.{IsUnended, PrintsCounts, PrintsEnd}
-use Rattle.siman_operator.specs.Sessions.{TellsUnread, ClosesAt, EndsSession}
+use Rattle.siman_operator.specs.Sessions.{ReportsUnread, ClosesAt, EndsSession}
 
 -- a recorder that is refused an end was spent before
 spent_by : (spent : Bool) (fault : WriterFault) → (if spent then Some faults.Spent else None) ≡ Some fault → spent ≡ true
@@ -31,8 +31,8 @@ pub unended : (old new : WriterState) (r : Result (Unit {0}) WriterFault) (fault
 unended old new r fault was refused unchanged torn = unended_by old new fault refused unchanged (λ is. torn (was ∙ ap Err is))
 
 -- a failed read was told before
-pub ends_unread : {L : Type 0} (strangers : L → ℕ) (post : Post L) (stop : Stop) (w v : WriterState) (o p : Option (List ℕ)) (before after : Told) (e f : Option (List ℕ))
-    (told : Told) (mid : Option (List ℕ)) → stop ≡ stops.Unread → TellsUnread before told e mid → ClosesAt strangers post w v o p told after mid f
+pub ends_unread : {L : Type 0} (strangers : L → ℕ) (post : Post L) (stop : Stop) (w v : WriterState) (o p : Option (List ℕ)) (before after : SessionReport) (e f : Option (List ℕ))
+    (told : SessionReport) (mid : Option (List ℕ)) → stop ≡ stops.Unread → ReportsUnread before told e mid → ClosesAt strangers post w v o p told after mid f
     → EndsSession strangers post stop w v o p before after e f
 ends_unread strangers post stops.End w v o p before after e f told mid is tells closes = absurd cc
 ends_unread strangers post stops.Unread w v o p before after e f told mid is tells closes = (told, mid, tells, closes)

@@ -6,7 +6,7 @@ use Rattle.exercise_recording.specs.Writer.{WriterState}
 use Rattle.siman_stations.specs.declared.turn.Node.{Node}
 use Rattle.siman_lines.specs.KeptAtLine.{IsWritten, IsKept, Keeps}
 use Rattle.siman_lines.specs.LineDatagrams.{Datagrams}
-use Rattle.siman_operator.specs.Noting.{sent_through}
+use Rattle.siman_operator.specs.Noting.{datagrams_sent}
 use Rattle.siman_operator.specs.Printing.{IsPrinted}
 use Rattle.siman_operator.specs.Deeds.{PostState, KeepsAll, GoesOn}
 
@@ -25,7 +25,7 @@ goes_none a = record {
     [],
     refl,
     subst (λ (l : List Entry). IsWritten before a.recorder l) (sym (append-nil es)) written,
-    subst (λ (l : List Entry). IsKept a.station.index a.station.node a.recorder l (Some (sent_through a.station.line))) (sym (append-nil es)) is,
+    subst (λ (l : List Entry). IsKept a.station.index a.station.node a.recorder l (Some (datagrams_sent a.station.line))) (sym (append-nil es)) is,
   );
   prints = λ before start es written is. (
     [],
@@ -42,12 +42,12 @@ goes_then a b c first second = record {
   keeps = λ before es written is.
       let one = first.keeps before es written is in
       let two = second.keeps before (es ++ one.0) one.2
-      (subst (λ (i : ℕ). IsKept i b.station.node b.recorder (es ++ one.0) (Some (sent_through b.station.line))) (sym first.index) one.3) in (
+      (subst (λ (i : ℕ). IsKept i b.station.node b.recorder (es ++ one.0) (Some (datagrams_sent b.station.line))) (sym first.index) one.3) in (
         one.0 ++ two.0,
         two.1 ∙ one.1,
         subst (λ (l : List Entry). IsWritten before c.recorder l) (append_assoc es one.0 two.0) two.2,
-        subst (λ (i : ℕ). IsKept i c.station.node c.recorder (es ++ (one.0 ++ two.0)) (Some (sent_through c.station.line))) first.index
-            (subst (λ (l : List Entry). IsKept b.station.index c.station.node c.recorder l (Some (sent_through c.station.line))) (append_assoc es one.0 two.0) two.3),
+        subst (λ (i : ℕ). IsKept i c.station.node c.recorder (es ++ (one.0 ++ two.0)) (Some (datagrams_sent c.station.line))) first.index
+            (subst (λ (l : List Entry). IsKept b.station.index c.station.node c.recorder l (Some (datagrams_sent c.station.line))) (append_assoc es one.0 two.0) two.3),
       );
   prints = λ before start es written is.
       let one = first.prints before start es written is in

@@ -10,7 +10,7 @@ use Rattle.siman_lines.specs.Calls.{IsFresh}
 use Rattle.siman_lines.specs.KeptAtLine.{IsWritten, IsKept}
 use Rattle.siman_lines.proofs.Offered.{started, fresh}
 use Rattle.siman_operator.specs.declared.printing.PrintFault.{PrintFault}
-use Rattle.siman_operator.specs.Noting.{sent_through}
+use Rattle.siman_operator.specs.Noting.{datagrams_sent}
 use Rattle.siman_operator.specs.Printing.{IsPrinted}
 use Rattle.siman_operator.specs.Deeds.{PostState, GoesOn}
 use Rattle.siman_operator.specs.Explained.{GoOn, IsStarted, Leaves}
@@ -29,7 +29,7 @@ pub leaves : {L : Type 0} (before start : Option (List ℕ)) (w : SettingData) (
     → Leaves before start w new
 leaves before start w old new is goes =
     let written : IsWritten before old.recorder [] = started before w old.recorder is.setting is.starts in
-    let handed = Some (sent_through old.station.line) in
+    let handed = Some (datagrams_sent old.station.line) in
     let begun : IsKept old.station.index old.station.node old.recorder [] handed =
     fresh old.station.index old.station.node old.recorder handed
     (subst (λ (v : SettingData). IsFresh old.station.index old.station.node v handed) (sym is.starts.setting) is.fresh) in
@@ -40,7 +40,7 @@ leaves before start w old new is goes =
         record {
           setting = kept.1 ∙ is.starts.setting;
           written = kept.2;
-          kept = subst (λ (i : ℕ). IsKept i new.station.node new.recorder kept.0 (Some (sent_through new.station.line))) (sym goes.index) kept.3;
+          kept = subst (λ (i : ℕ). IsKept i new.station.node new.recorder kept.0 (Some (datagrams_sent new.station.line))) (sym goes.index) kept.3;
         },
       ),
       (

@@ -8,7 +8,6 @@ pub mod Leaving
 pub mod Single
 pub mod Explaining
 pub mod Offered
-pub mod LineReadings
 pub mod SessionLines
 pub mod Reasons
 pub mod Alone

@@ -8,7 +8,7 @@ use Rattle.byte_files.proofs.Offered.{writes_part, writes_later, written_part}
 use Rattle.exercise_model.specs.Entry.{Entry}
 use Rattle.siman_operator.specs.declared.printing.PrintFault.{PrintFault}
 use Rattle.siman_operator.specs.declared.printing.PrintFault.TheVariants as faults
-use Rattle.siman_operator.specs.Printing.{Printing, line_of, lines_from, IsPrinted, PrintsLine, PrintsNothing, FallsSilent}
+use Rattle.siman_operator.specs.Printing.{Printing, line_of, lines_from, IsPrinted, PrintsLine, PrintsNothing, StopsPrinting}
 
 -- the lines of more entries follow
 pub lines_more : (x n : ℕ) (es more : List Entry) → lines_from x n (es ++ more) ≡ lines_from x n es ++ lines_from x (n + length es) more
@@ -58,7 +58,7 @@ silent_at start o n (Some h) None s t p q kept = absurd cc
 silent_at start o n (Some h) (Some k) s t p q kept = writes_part start n s t (part_kept start o n s p kept)
 
 -- no line more is printed, whatever is recorded
-pub falls_silent : (start : Option (List ℕ)) (x : ℕ) (es more : List Entry) (old new : Printing) → IsPrinted start x es old → FallsSilent old new
+pub falls_silent : (start : Option (List ℕ)) (x : ℕ) (es more : List Entry) (old new : Printing) → IsPrinted start x es old → StopsPrinting old new
     → IsPrinted start x (es ++ more) new
 falls_silent start x es more old new is silent =
     subst (λ (t : List ℕ). MatchOption new.fault (Appends start new.out t) (λ h. WritesPart start new.out t)) (sym (lines_more x 0 es more))

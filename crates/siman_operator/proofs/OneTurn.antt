@@ -12,7 +12,7 @@ use Rattle.exercise_model.specs.Entry.{Entry, Sent, Received, is_stamped}
 use Rattle.exercise_recording.specs.declared.fault.WriterFault.{WriterFault}
 use Rattle.exercise_recording.specs.Writer.{WriterState}
 use Rattle.siman_application.specs.Application.{came}
-use Rattle.siman_application.specs.Outfit.{Outfit}
+use Rattle.siman_application.specs.AppProfile.{AppProfile}
 use Rattle.siman_stations.specs.Recording.{WritesOne, WritesNone}
 use Rattle.siman_stations.specs.declared.turn.TurnFault.{TurnFault}
 use Rattle.siman_stations.specs.declared.turn.TurnFault.TheVariants as turn_faults
@@ -26,10 +26,10 @@ use Rattle.siman_lines.specs.KeptAtLine.{IsWritten}
 use Rattle.siman_lines.specs.LineDatagrams.{Datagrams, GrowsAll, MayGrow}
 use Rattle.siman_lines.specs.Serving.{State, HasServed, LosesSend, BreaksTurn, ServeEnds, reply_at, entries_after, text_of, texts_after, short_of, is_short}
 use Rattle.siman_lines.proofs.Offered.{written_one, written_none, written_all, entries_stamped}
-use Rattle.siman_operator.specs.declared.noting.NotingLine.{NotingLine}
+use Rattle.siman_operator.specs.declared.logging.TracingLine.{TracingLine}
 use Rattle.siman_operator.specs.Noted.{last_of}
-use Rattle.siman_operator.specs.Noting.{sent_through, received_through, telling}
-use Rattle.siman_operator.specs.Printing.{Printing, line_of, IsPrinted, PrintsLine, PrintsNothing, FallsSilent}
+use Rattle.siman_operator.specs.Noting.{datagrams_sent, datagrams_received, telling}
+use Rattle.siman_operator.specs.Printing.{Printing, line_of, IsPrinted, PrintsLine, PrintsNothing, StopsPrinting}
 use Rattle.siman_operator.specs.Deeds.{PrintsSent, PrintsTurn, PrintsAll}
 use Rattle.siman_operator.proofs.Lines.{prints_line, falls_silent}
 use Rattle.siman_operator.proofs.NotedLemmas.{last_more}
@@ -118,7 +118,7 @@ wrote_by s now turns old new (Err faults.Send) h ends =
       tail = inl refl;
     }
 wrote_by s now turns old new (Err (faults.Record fault)) h ends = by ends.broken where
-  a : Outfit
+  a : AppProfile
   a = old.node.application.outfit
 
   ds : List Pdu
@@ -190,7 +190,7 @@ none_is [] b e = refl
 none_is (c ∷ us) b e = absurd (omega (arith, e))
 
 -- of the entries of one datagram that is taken, or of none
-abbrev TakenAs : (s now : ℕ) → Outfit → List Pdu → Datagrams → (ps qs : Datagrams) → (w v : WriterState) → Type 0
+abbrev TakenAs : (s now : ℕ) → AppProfile → List Pdu → Datagrams → (ps qs : Datagrams) → (w v : WriterState) → Type 0
 TakenAs s now a ds bs ps qs w v = RecordsAll WritesOne (entries_after a ds s now bs) w v × (qs ≡ ps ++ texts_after a ds now bs)
 
 replied : (s now : ℕ) (os rs ps qs : Datagrams) (b : List ℕ) (o : Option Pdu) (w v : WriterState) → rs ≡ os ++ b ∷ []
@@ -213,7 +213,7 @@ short_true b e = rw e refl
 short_false : (b : List ℕ) → is_short b ≡ false → short_of (b ∷ []) ≡ []
 short_false b e = rw e refl
 
-taken_one : (s now : ℕ) (a : Outfit) (ds : List Pdu) (os rs ps qs : Datagrams) (b : List ℕ) (w v : WriterState) → rs ≡ os ++ b ∷ []
+taken_one : (s now : ℕ) (a : AppProfile) (ds : List Pdu) (os rs ps qs : Datagrams) (b : List ℕ) (w v : WriterState) → rs ≡ os ++ b ∷ []
     → TakenAs s now a ds (short_of (b ∷ [])) ps qs w v → Shape s now os rs ps qs w v
 taken_one s now a ds os rs ps qs b w v came taken = by (is_short b) refl where
   by : (t : Bool) → is_short b ≡ t → Shape s now os rs ps qs w v
@@ -224,18 +224,18 @@ taken_one s now a ds os rs ps qs b w v came taken = by (is_short b) refl where
       let is = subst (λ (bs : Datagrams). TakenAs s now a ds bs ps qs w v) (short_false b e) taken in
       inl (inl is.0)
 
-abbrev ShapeOf : {L : Type 0} → (now : ℕ) → (p q : StationAtLine (NotingLine L)) → (w v : WriterState) → Type 0
-ShapeOf now p q w v = Shape p.index now (received_through p.line) (received_through q.line) (sent_through p.line) (sent_through q.line) w v
+abbrev ShapeOf : {L : Type 0} → (now : ℕ) → (p q : StationAtLine (TracingLine L)) → (w v : WriterState) → Type 0
+ShapeOf now p q w v = Shape p.index now (datagrams_received p.line) (datagrams_received q.line) (datagrams_sent p.line) (datagrams_sent q.line) w v
 
-served_shape : {L : Type 0} (strangers : L → ℕ) (now : ℕ) (p q : StationAtLine (NotingLine L)) (w v : WriterState) (us : Datagrams)
+served_shape : {L : Type 0} (strangers : L → ℕ) (now : ℕ) (p q : StationAtLine (TracingLine L)) (w v : WriterState) (us : Datagrams)
     → HasServed p.index now us (state_at (telling strangers) p w) (state_at (telling strangers) q v)
-    → length (received_through q.line) ≡ length (received_through p.line) + 1 → ShapeOf now p q w v
+    → length (datagrams_received q.line) ≡ length (datagrams_received p.line) + 1 → ShapeOf now p q w v
 served_shape strangers now p q w v us done more =
-    let grown : received_through q.line ≡ received_through p.line ++ reverse us = done.received_are in
-    let one = one_is us (one_came (received_through p.line) (received_through q.line) us grown more) in
-    taken_one p.index now p.node.application.outfit (came p.node.application) (received_through p.line) (received_through q.line) (sent_through p.line)
-    (sent_through q.line) one.0 w v (grown ∙ ap (λ (l : Datagrams). received_through p.line ++ reverse l) one.1)
-    (subst (λ (l : Datagrams). TakenAs p.index now p.node.application.outfit (came p.node.application) (short_of l) (sent_through p.line) (sent_through q.line) w v)
+    let grown : datagrams_received q.line ≡ datagrams_received p.line ++ reverse us = done.received_are in
+    let one = one_is us (one_came (datagrams_received p.line) (datagrams_received q.line) us grown more) in
+    taken_one p.index now p.node.application.outfit (came p.node.application) (datagrams_received p.line) (datagrams_received q.line) (datagrams_sent p.line)
+    (datagrams_sent q.line) one.0 w v (grown ∙ ap (λ (l : Datagrams). datagrams_received p.line ++ reverse l) one.1)
+    (subst (λ (l : Datagrams). TakenAs p.index now p.node.application.outfit (came p.node.application) (short_of l) (datagrams_sent p.line) (datagrams_sent q.line) w v)
     one.1 (done.taken.entries, done.sent_are))
 
 -- where the first of these came alone, nothing came before it
@@ -249,52 +249,52 @@ grows_none : (os : Datagrams) (o : Option Datagrams) → GrowsAll (Some os) o []
 grows_none os None g = absurd g
 grows_none os (Some rs) g = ap Some (g ∙ append-nil os)
 
-sent_shape : {L : Type 0} (strangers : L → ℕ) (now : ℕ) (p q : StationAtLine (NotingLine L)) (w v : WriterState)
+sent_shape : {L : Type 0} (strangers : L → ℕ) (now : ℕ) (p q : StationAtLine (TracingLine L)) (w v : WriterState)
     → LosesSend p.index now (state_at (telling strangers) p w) (state_at (telling strangers) q v)
-    → length (received_through q.line) ≡ length (received_through p.line) + 1 → ShapeOf now p q w v
+    → length (datagrams_received q.line) ≡ length (datagrams_received p.line) + 1 → ShapeOf now p q w v
 sent_shape strangers now p q w v l more =
     let a = p.node.application.outfit in
     let ds = came p.node.application in
-    let grown : received_through q.line ≡ received_through p.line ++ reverse (l.datagram ∷ l.earlier) = l.received_are in
-    let none = alone (received_through p.line) (received_through q.line) l.earlier l.datagram grown more in
+    let grown : datagrams_received q.line ≡ datagrams_received p.line ++ reverse (l.datagram ∷ l.earlier) = l.received_are in
+    let none = alone (datagrams_received p.line) (datagrams_received q.line) l.earlier l.datagram grown more in
     let due : reply_at a ds now [] l.datagram ≡ Some l.answer = subst (λ (us : Datagrams). reply_at a ds now (short_of us) l.datagram ≡ Some l.answer) none l.due in
     let all : RecordsAll WritesOne (Received p.index now l.datagram ∷ sent_as p.index now (reply_at a ds now [] l.datagram)) w v =
     subst (λ (us : Datagrams). RecordsAll WritesOne (entries_after a ds p.index now (l.datagram ∷ short_of us)) w v) none l.taken.entries in
     let both : RecordsAll WritesOne (Received p.index now l.datagram ∷ Sent p.index now (pdu_text l.answer) ∷ []) w v =
     subst (λ (o : Option Pdu). RecordsAll WritesOne (Received p.index now l.datagram ∷ sent_as p.index now o) w v) due all in
-    let before : l.before ≡ Some (sent_through p.line) =
-    grows_none (sent_through p.line) l.before (subst (λ (us : Datagrams). GrowsAll (Some (sent_through p.line)) l.before (texts_after a ds now (short_of us))) none l.sent_are) in
+    let before : l.before ≡ Some (datagrams_sent p.line) =
+    grows_none (datagrams_sent p.line) l.before (subst (λ (us : Datagrams). GrowsAll (Some (datagrams_sent p.line)) l.before (texts_after a ds now (short_of us))) none l.sent_are) in
     inr (inr (record {
       datagram = l.datagram;
-      came = came_alone (received_through p.line) (received_through q.line) l.earlier l.datagram grown none;
+      came = came_alone (datagrams_received p.line) (datagrams_received q.line) l.earlier l.datagram grown none;
       mid = both.0;
       one = both.1;
       text = pdu_text l.answer;
       two = subst (λ (u : WriterState). WritesOne both.0 (Sent p.index now (pdu_text l.answer)) u) (sym both.2.2) both.2.1;
-      goes = subst (λ (o : Option Datagrams). MayGrow o (Some (sent_through q.line)) (pdu_text l.answer)) before l.may_be_sent;
+      goes = subst (λ (o : Option Datagrams). MayGrow o (Some (datagrams_sent q.line)) (pdu_text l.answer)) before l.may_be_sent;
     }))
 
-broken_shape : {L : Type 0} (strangers : L → ℕ) (now : ℕ) (p q : StationAtLine (NotingLine L)) (w v : WriterState) (fault : TurnFault WriterFault) → now < 2 ^ 64
+broken_shape : {L : Type 0} (strangers : L → ℕ) (now : ℕ) (p q : StationAtLine (TracingLine L)) (w v : WriterState) (fault : TurnFault WriterFault) → now < 2 ^ 64
     → BreaksTurn p.index now fault (state_at (telling strangers) p w) (state_at (telling strangers) q v)
-    → length (received_through q.line) ≡ length (received_through p.line) + 1 → ShapeOf now p q w v
+    → length (datagrams_received q.line) ≡ length (datagrams_received p.line) + 1 → ShapeOf now p q w v
 broken_shape {L = L} strangers now p q w v fault h l more = by fault (subst (λ (u : WriterState). FailsTurn WritesOne WritesNone p.index now l.datagram fault u v l.node q.node) at l.broken) where
-  a : Outfit
+  a : AppProfile
   a = p.node.application.outfit
 
   ds : List Pdu
   ds = came p.node.application
 
-  grown : received_through q.line ≡ received_through p.line ++ reverse (l.datagram ∷ l.earlier)
+  grown : datagrams_received q.line ≡ datagrams_received p.line ++ reverse (l.datagram ∷ l.earlier)
   grown = l.received_are
 
   none : l.earlier ≡ []
-  none = alone (received_through p.line) (received_through q.line) l.earlier l.datagram grown more
+  none = alone (datagrams_received p.line) (datagrams_received q.line) l.earlier l.datagram grown more
 
   at : l.recorder ≡ w
   at = subst (λ (us : Datagrams). RecordsAll WritesOne (entries_after a ds p.index now (short_of us)) w l.recorder) none l.taken.entries
 
-  there : received_through q.line ≡ received_through p.line ++ l.datagram ∷ []
-  there = came_alone (received_through p.line) (received_through q.line) l.earlier l.datagram grown none
+  there : datagrams_received q.line ≡ datagrams_received p.line ++ l.datagram ∷ []
+  there = came_alone (datagrams_received p.line) (datagrams_received q.line) l.earlier l.datagram grown none
 
   by : (f : TurnFault WriterFault) → FailsTurn WritesOne WritesNone p.index now l.datagram f w v l.node q.node → ShapeOf now p q w v
   by (turn_faults.Record f) (inl u) = inl (inr (Received p.index now l.datagram, f, stamped now h, u.refused))
@@ -308,9 +308,9 @@ broken_shape {L = L} strangers now p q w v fault h l more = by fault (subst (λ 
       }))
   by turn_faults.Memory u = inr (inl (record { datagram = l.datagram; came = there; mid = u.0.0; one = u.0.1; tail = inl u.0.2 }))
 
-shape_by : {L : Type 0} (strangers : L → ℕ) (now : ℕ) (p q : StationAtLine (NotingLine L)) (w v : WriterState) (result : Result Served ServeFault) → now < 2 ^ 64
+shape_by : {L : Type 0} (strangers : L → ℕ) (now : ℕ) (p q : StationAtLine (TracingLine L)) (w v : WriterState) (result : Result Served ServeFault) → now < 2 ^ 64
     → ServeEnds p.index now 1 (state_at (telling strangers) p w) (state_at (telling strangers) q v) result
-    → length (received_through q.line) ≡ length (received_through p.line) + 1 → ShapeOf now p q w v
+    → length (datagrams_received q.line) ≡ length (datagrams_received p.line) + 1 → ShapeOf now p q w v
 shape_by strangers now p q w v (Ok served) h ends more = served_shape strangers now p q w v ends.datagrams ends.done more
 shape_by strangers now p q w v (Err faults.Receive) h ends more = served_shape strangers now p q w v ends.datagrams ends.done more
 shape_by strangers now p q w v (Err faults.Send) h ends more = sent_shape strangers now p q w v ends more
@@ -334,24 +334,24 @@ heard_line x k s i now os rs b old new index came line =
     subst (λ (c : List ℕ). PrintsLine (line_of x k (Received s now c)) old new) (ap last_of came ∙ last_more os b)
     (subst (λ (j : ℕ). PrintsLine (line_of x k (Received j now (last_of rs))) old new) index line)
 
-shape_prints : {L : Type 0} (x now : ℕ) (p q : StationAtLine (NotingLine L)) (w v : WriterState) (old mid new : Printing) → now < 2 ^ 64 → q.index ≡ p.index
-    → ShapeOf now p q w v → (v.entries ≡ w.entries → ⊥) → PrintsLine (line_of x w.entries (Received q.index now (last_of (received_through q.line)))) old mid
-    → PrintsSent q x v.entries now (w.entries + 1) (length (sent_through p.line)) mid new → PrintsAll x w v old new
+shape_prints : {L : Type 0} (x now : ℕ) (p q : StationAtLine (TracingLine L)) (w v : WriterState) (old mid new : Printing) → now < 2 ^ 64 → q.index ≡ p.index
+    → ShapeOf now p q w v → (v.entries ≡ w.entries → ⊥) → PrintsLine (line_of x w.entries (Received q.index now (last_of (datagrams_received q.line)))) old mid
+    → PrintsSent q x v.entries now (w.entries + 1) (length (datagrams_sent p.line)) mid new → PrintsAll x w v old new
 shape_prints x now p q w v old mid new h index (inl tail) other line sent = absurd (other (tail_count w v tail))
 shape_prints x now p q w v old mid new h index (inr (inl is)) other line sent =
     let count = is.one.adds.entries in
     then_prints x w is.mid v old mid new
     (shows_one x w is.mid (Received p.index now is.datagram) old mid (stamped now h) is.one
-    (heard_line x w.entries p.index q.index now (received_through p.line) (received_through q.line) is.datagram old mid index is.came line))
-    (unsent_prints x now (length (sent_through p.line)) q is.mid v mid new (tail_count is.mid v is.tail) (λ before es written. tail_written before is.mid v es is.tail written)
-    (subst (λ (k : ℕ). PrintsSent q x v.entries now k (length (sent_through p.line)) mid new) (sym count) sent))
+    (heard_line x w.entries p.index q.index now (datagrams_received p.line) (datagrams_received q.line) is.datagram old mid index is.came line))
+    (unsent_prints x now (length (datagrams_sent p.line)) q is.mid v mid new (tail_count is.mid v is.tail) (λ before es written. tail_written before is.mid v es is.tail written)
+    (subst (λ (k : ℕ). PrintsSent q x v.entries now k (length (datagrams_sent p.line)) mid new) (sym count) sent))
 shape_prints x now p q w v old mid new h index (inr (inr is)) other line sent =
     let count = is.one.adds.entries in
     then_prints x w is.mid v old mid new
     (shows_one x w is.mid (Received p.index now is.datagram) old mid (stamped now h) is.one
-    (heard_line x w.entries p.index q.index now (received_through p.line) (received_through q.line) is.datagram old mid index is.came line))
+    (heard_line x w.entries p.index q.index now (datagrams_received p.line) (datagrams_received q.line) is.datagram old mid index is.came line))
     (sent_prints x now p q is.mid v is.text mid new h index is.two is.goes
-    (subst (λ (k : ℕ). PrintsSent q x v.entries now k (length (sent_through p.line)) mid new) (sym count) sent))
+    (subst (λ (k : ℕ). PrintsSent q x v.entries now k (length (datagrams_sent p.line)) mid new) (sym count) sent))
 
 one_more_is : (a b : ℕ) → (a - b == 1) ≡ true → a ≡ b + 1
 one_more_is a b e = grind (arith, nat_tests)
@@ -363,48 +363,48 @@ other_is : (a b : ℕ) → (a == b) ≡ false → a ≡ b → ⊥
 other_is a b e h = grind (arith, nat_tests)
 
 -- what is printed of a datagram that came, and of the answer
-abbrev HeardPrints : {L : Type 0} → (x now : ℕ) → (p q : StationAtLine (NotingLine L)) → (w v : WriterState) → (old new : Printing) → Type 0
+abbrev HeardPrints : {L : Type 0} → (x now : ℕ) → (p q : StationAtLine (TracingLine L)) → (w v : WriterState) → (old new : Printing) → Type 0
 HeardPrints x now p q w v old new =
-    (mid : Printing) × PrintsLine (line_of x w.entries (Received q.index now (last_of (received_through q.line)))) old mid
-    × PrintsSent q x v.entries now (w.entries + 1) (length (sent_through p.line)) mid new
+    (mid : Printing) × PrintsLine (line_of x w.entries (Received q.index now (last_of (datagrams_received q.line)))) old mid
+    × PrintsSent q x v.entries now (w.entries + 1) (length (datagrams_sent p.line)) mid new
 
-pub turn_prints : {L : Type 0} (strangers : L → ℕ) (x now : ℕ) (p q : StationAtLine (NotingLine L)) (w v : WriterState) (result : Result Served ServeFault)
+pub turn_prints : {L : Type 0} (strangers : L → ℕ) (x now : ℕ) (p q : StationAtLine (TracingLine L)) (w v : WriterState) (result : Result Served ServeFault)
     (old new : Printing) → now < 2 ^ 64 → q.index ≡ p.index
     → ServeEnds p.index now 1 (state_at (telling strangers) p w) (state_at (telling strangers) q v) result
-    → PrintsTurn q x v.entries now w.entries (length (received_through p.line)) (length (sent_through p.line)) old new → PrintsAll x w v old new
+    → PrintsTurn q x v.entries now w.entries (length (datagrams_received p.line)) (length (datagrams_sent p.line)) old new → PrintsAll x w v old new
 turn_prints strangers x now p q w v result old new h index ends is = by (v.entries == w.entries) refl where
   wrote : Wrote w v
   wrote = wrote_by p.index now 1 (state_at (telling strangers) p w) (state_at (telling strangers) q v) result h ends
 
-  rest : (v.entries == w.entries) ≡ false → MatchBool (length (received_through q.line) - length (received_through p.line) == 1) (HeardPrints x now p q w v old new) (FallsSilent old new)
+  rest : (v.entries == w.entries) ≡ false → MatchBool (length (datagrams_received q.line) - length (datagrams_received p.line) == 1) (HeardPrints x now p q w v old new) (StopsPrinting old new)
   rest differs =
       by_false (PrintsNothing old new)
-      (MatchBool (length (received_through q.line) - length (received_through p.line) == 1) (HeardPrints x now p q w v old new) (FallsSilent old new))
+      (MatchBool (length (datagrams_received q.line) - length (datagrams_received p.line) == 1) (HeardPrints x now p q w v old new) (StopsPrinting old new))
       (v.entries == w.entries) differs is
 
-  other : (t : Bool) → (length (received_through q.line) - length (received_through p.line) == 1) ≡ t → (v.entries == w.entries) ≡ false → PrintsAll x w v old new
+  other : (t : Bool) → (length (datagrams_received q.line) - length (datagrams_received p.line) == 1) ≡ t → (v.entries == w.entries) ≡ false → PrintsAll x w v old new
   other true one differs =
-      let prints = by_true (HeardPrints x now p q w v old new) (FallsSilent old new) (length (received_through q.line) - length (received_through p.line) == 1) one (rest differs) in
+      let prints = by_true (HeardPrints x now p q w v old new) (StopsPrinting old new) (length (datagrams_received q.line) - length (datagrams_received p.line) == 1) one (rest differs) in
       shape_prints x now p q w v old prints.0 new h index
-      (shape_by strangers now p q w v result h ends (one_more_is (length (received_through q.line)) (length (received_through p.line)) one))
+      (shape_by strangers now p q w v result h ends (one_more_is (length (datagrams_received q.line)) (length (datagrams_received p.line)) one))
       (other_is v.entries w.entries differs) prints.1 prints.2
   other false none differs = λ before start es written printed. (
     wrote.entries,
     wrote_written before w v es wrote written,
     falls_silent start x es wrote.entries old new printed
-        (by_false (HeardPrints x now p q w v old new) (FallsSilent old new) (length (received_through q.line) - length (received_through p.line) == 1) none (rest differs)),
+        (by_false (HeardPrints x now p q w v old new) (StopsPrinting old new) (length (datagrams_received q.line) - length (datagrams_received p.line) == 1) none (rest differs)),
   )
 
   by : (t : Bool) → (v.entries == w.entries) ≡ t → PrintsAll x w v old new
   by true same =
       quiet x w v old new (λ before es written. wrote_none before w v es wrote (same_is v.entries w.entries same) written)
       (by_true (PrintsNothing old new)
-      (MatchBool (length (received_through q.line) - length (received_through p.line) == 1) (HeardPrints x now p q w v old new) (FallsSilent old new))
+      (MatchBool (length (datagrams_received q.line) - length (datagrams_received p.line) == 1) (HeardPrints x now p q w v old new) (StopsPrinting old new))
       (v.entries == w.entries) same is)
-  by false differs = other (length (received_through q.line) - length (received_through p.line) == 1) refl differs
+  by false differs = other (length (datagrams_received q.line) - length (datagrams_received p.line) == 1) refl differs
 
 -- by counts that are these
-pub at_turn_counts : {L : Type 0} (q : StationAtLine (NotingLine L)) (x r now k j m i l n : ℕ) (old new : Printing) → k ≡ i → j ≡ l → m ≡ n
+pub at_turn_counts : {L : Type 0} (q : StationAtLine (TracingLine L)) (x r now k j m i l n : ℕ) (old new : Printing) → k ≡ i → j ≡ l → m ≡ n
     → PrintsTurn q x r now k j m old new → PrintsTurn q x r now i l n old new
 at_turn_counts q x r now k j m i l n old new e f g is =
     subst (λ (t : ℕ). PrintsTurn q x r now t l n old new) e

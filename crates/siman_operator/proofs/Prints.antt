@@ -20,10 +20,10 @@ use Rattle.siman_lines.specs.AtLines.{OrdersAt, RepeatsAt, TellsAt, LeavesRefuse
 use Rattle.siman_lines.specs.KeptAtLine.{IsWritten}
 use Rattle.siman_lines.specs.LineDatagrams.{Datagrams, MayGrow}
 use Rattle.siman_lines.proofs.Offered.{written_one, written_none}
-use Rattle.siman_operator.specs.declared.noting.NotingLine.{NotingLine}
+use Rattle.siman_operator.specs.declared.logging.TracingLine.{TracingLine}
 use Rattle.siman_operator.specs.Noted.{last_of}
-use Rattle.siman_operator.specs.Noting.{sent_through, telling}
-use Rattle.siman_operator.specs.Printing.{Printing, line_of, IsPrinted, PrintsLine, PrintsNothing, FallsSilent}
+use Rattle.siman_operator.specs.Noting.{datagrams_sent, telling}
+use Rattle.siman_operator.specs.Printing.{Printing, line_of, IsPrinted, PrintsLine, PrintsNothing, StopsPrinting}
 use Rattle.siman_operator.specs.Deeds.{PrintsSent, PrintsAll}
 use Rattle.siman_operator.proofs.Lines.{prints_line, falls_silent, prints_nothing}
 use Rattle.siman_operator.proofs.NotedLemmas.{last_more}
@@ -85,65 +85,65 @@ shows_one x w v e old new stamped one line = λ before start es written printed.
     (e ∷ [], written_one before w v es e stamped written one, prints_line start x w.entries es e old new written.count printed line)
 
 -- an entry is recorded, and no more is printed
-pub hides_one : (x : ℕ) (w v : WriterState) (e : Entry) (old new : Printing) → is_stamped e ≡ true → WritesOne w e v → FallsSilent old new
+pub hides_one : (x : ℕ) (w v : WriterState) (e : Entry) (old new : Printing) → is_stamped e ≡ true → WritesOne w e v → StopsPrinting old new
     → PrintsAll x w v old new
 hides_one x w v e old new stamped one silent = λ before start es written printed.
     (e ∷ [], written_one before w v es e stamped written one, falls_silent start x es (e ∷ []) old new printed silent)
 
 -- Of what is sent.
 
-abbrev pub sent_line_of : {L : Type 0} → StationAtLine (NotingLine L) → (x now entries : ℕ) → List ℕ
-sent_line_of q x now entries = line_of x entries (Sent q.index now (last_of (sent_through q.line)))
+abbrev pub sent_line_of : {L : Type 0} → StationAtLine (TracingLine L) → (x now entries : ℕ) → List ℕ
+sent_line_of q x now entries = line_of x entries (Sent q.index now (last_of (datagrams_sent q.line)))
 
-abbrev pub sent_case : {L : Type 0} → StationAtLine (NotingLine L) → (x now entries sent : ℕ) → (old new : Printing) → Type 0
+abbrev pub sent_case : {L : Type 0} → StationAtLine (TracingLine L) → (x now entries sent : ℕ) → (old new : Printing) → Type 0
 sent_case q x now entries sent old new =
-    MatchBool (length (sent_through q.line) == sent) (FallsSilent old new)
-    (PrintsLine (line_of x entries (Sent q.index now (last_of (sent_through q.line)))) old new)
+    MatchBool (length (datagrams_sent q.line) == sent) (StopsPrinting old new)
+    (PrintsLine (line_of x entries (Sent q.index now (last_of (datagrams_sent q.line)))) old new)
 
-pub sent_line : {L : Type 0} (x now k : ℕ) (xs : Datagrams) (q : StationAtLine (NotingLine L)) (s : ℕ) (text : List ℕ) (old new : Printing) → q.index ≡ s
-    → sent_through q.line ≡ xs ++ text ∷ [] → sent_case q x now k (length xs) old new → PrintsLine (line_of x k (Sent s now text)) old new
+pub sent_line : {L : Type 0} (x now k : ℕ) (xs : Datagrams) (q : StationAtLine (TracingLine L)) (s : ℕ) (text : List ℕ) (old new : Printing) → q.index ≡ s
+    → datagrams_sent q.line ≡ xs ++ text ∷ [] → sent_case q x now k (length xs) old new → PrintsLine (line_of x k (Sent s now text)) old new
 sent_line x now k xs q s text old new index grown is =
-    let longer : length (sent_through q.line) ≡ length xs + 1 = ap length grown ∙ length-append xs (text ∷ []) in
-    let line = by_false (FallsSilent old new) (PrintsLine (sent_line_of q x now k) old new) (length (sent_through q.line) == length xs) (is_other (length (sent_through q.line)) (length xs) longer) is in
+    let longer : length (datagrams_sent q.line) ≡ length xs + 1 = ap length grown ∙ length-append xs (text ∷ []) in
+    let line = by_false (StopsPrinting old new) (PrintsLine (sent_line_of q x now k) old new) (length (datagrams_sent q.line) == length xs) (is_other (length (datagrams_sent q.line)) (length xs) longer) is in
     subst (λ (b : List ℕ). PrintsLine (line_of x k (Sent s now b)) old new) (ap last_of grown ∙ last_more xs text)
-    (subst (λ (i : ℕ). PrintsLine (line_of x k (Sent i now (last_of (sent_through q.line)))) old new) index line)
+    (subst (λ (i : ℕ). PrintsLine (line_of x k (Sent i now (last_of (datagrams_sent q.line)))) old new) index line)
 
-pub sent_prints : {L : Type 0} (x now : ℕ) (p q : StationAtLine (NotingLine L)) (w v : WriterState) (text : List ℕ) (old new : Printing) → now < 2 ^ 64
-    → q.index ≡ p.index → WritesOne w (Sent p.index now text) v → MayGrow (Some (sent_through p.line)) (Some (sent_through q.line)) text
-    → PrintsSent q x v.entries now w.entries (length (sent_through p.line)) old new → PrintsAll x w v old new
+pub sent_prints : {L : Type 0} (x now : ℕ) (p q : StationAtLine (TracingLine L)) (w v : WriterState) (text : List ℕ) (old new : Printing) → now < 2 ^ 64
+    → q.index ≡ p.index → WritesOne w (Sent p.index now text) v → MayGrow (Some (datagrams_sent p.line)) (Some (datagrams_sent q.line)) text
+    → PrintsSent q x v.entries now w.entries (length (datagrams_sent p.line)) old new → PrintsAll x w v old new
 sent_prints x now p q w v text old new h index one (inl grown) is =
     shows_one x w v (Sent p.index now text) old new (stamped now h) one
-    (sent_line x now w.entries (sent_through p.line) q p.index text old new index grown
-    (by_false (PrintsNothing old new) (sent_case q x now w.entries (length (sent_through p.line)) old new) (v.entries == w.entries)
+    (sent_line x now w.entries (datagrams_sent p.line) q p.index text old new index grown
+    (by_false (PrintsNothing old new) (sent_case q x now w.entries (length (datagrams_sent p.line)) old new) (v.entries == w.entries)
     (is_other v.entries w.entries one.adds.entries) is))
 sent_prints x now p q w v text old new h index one (inr same) is =
     hides_one x w v (Sent p.index now text) old new (stamped now h) one
-    (by_true (FallsSilent old new) (PrintsLine (sent_line_of q x now w.entries) old new) (length (sent_through q.line) == length (sent_through p.line))
-    (is_same (length (sent_through q.line)) (length (sent_through p.line)) (ap length same))
-    (by_false (PrintsNothing old new) (sent_case q x now w.entries (length (sent_through p.line)) old new) (v.entries == w.entries)
+    (by_true (StopsPrinting old new) (PrintsLine (sent_line_of q x now w.entries) old new) (length (datagrams_sent q.line) == length (datagrams_sent p.line))
+    (is_same (length (datagrams_sent q.line)) (length (datagrams_sent p.line)) (ap length same))
+    (by_false (PrintsNothing old new) (sent_case q x now w.entries (length (datagrams_sent p.line)) old new) (v.entries == w.entries)
     (is_other v.entries w.entries one.adds.entries) is))
 
 -- nothing was recorded
-pub unsent_prints : {L : Type 0} (x now k : ℕ) (q : StationAtLine (NotingLine L)) (w v : WriterState) (old new : Printing)
+pub unsent_prints : {L : Type 0} (x now k : ℕ) (q : StationAtLine (TracingLine L)) (w v : WriterState) (old new : Printing)
     → v.entries ≡ w.entries → ((before : Option (List ℕ)) (es : List Entry) → IsWritten before w es → IsWritten before v es)
     → PrintsSent q x v.entries now w.entries k old new → PrintsAll x w v old new
 unsent_prints x now k q w v old new same on is =
     quiet x w v old new on
     (by_true (PrintsNothing old new) (sent_case q x now w.entries k old new) (v.entries == w.entries) (is_same v.entries w.entries same) is)
 
-unwritten : {L : Type 0} (x now k : ℕ) (q : StationAtLine (NotingLine L)) (w v : WriterState) (e : Entry) (fault : WriterFault) (old new : Printing)
+unwritten : {L : Type 0} (x now k : ℕ) (q : StationAtLine (TracingLine L)) (w v : WriterState) (e : Entry) (fault : WriterFault) (old new : Printing)
     → is_stamped e ≡ true → WritesNone w e fault v → PrintsSent q x v.entries now w.entries k old new → PrintsAll x w v old new
 unwritten x now k q w v e fault old new good none is =
     unsent_prints x now k q w v old new (entries_none w v e fault none) (λ before es written. written_none before w v es e fault good written none) is
 
-resting : {L : Type 0} (x now k : ℕ) (q : StationAtLine (NotingLine L)) (w v : WriterState) (old new : Printing)
+resting : {L : Type 0} (x now k : ℕ) (q : StationAtLine (TracingLine L)) (w v : WriterState) (old new : Printing)
     → v ≡ w → PrintsSent q x v.entries now w.entries k old new → PrintsAll x w v old new
 resting x now k q w v old new e is = unsent_prints x now k q w v old new (ap (λ (u : WriterState). u.entries) e) (still w v e) is
 
-pub order_prints : {L : Type 0} (strangers : L → ℕ) (x now : ℕ) (order : Order) (p q : StationAtLine (NotingLine L)) (w v : WriterState)
+pub order_prints : {L : Type 0} (strangers : L → ℕ) (x now : ℕ) (order : Order) (p q : StationAtLine (TracingLine L)) (w v : WriterState)
     (done : Result (Unit {0}) AtLineFault) (old new : Printing) → now < 2 ^ 64 → q.index ≡ p.index
     → OrdersAt (telling strangers) now order p w q v done → IfErr done (LeavesRefused (telling strangers) p w q v)
-    → PrintsSent q x v.entries now w.entries (length (sent_through p.line)) old new → PrintsAll x w v old new
+    → PrintsSent q x v.entries now w.entries (length (datagrams_sent p.line)) old new → PrintsAll x w v old new
 order_prints strangers x now order p q w v (Ok u) old new h index ends refused is =
     sent_prints x now p q w v _ old new h index ends.1.goes.entry (inl ends.1.goes.sent_are) is
 order_prints strangers x now order p q w v (Err (faults.Station fault)) old new h index ends refused is =
@@ -157,10 +157,10 @@ order_prints strangers x now order p q w v (Err faults.Memory) old new h index (
 order_prints strangers x now order p q w v (Err faults.Memory) old new h index (inr ends) refused is =
     resting x now _ q w v old new ends.2.recorder is
 
-pub repeat_prints : {L : Type 0} (strangers : L → ℕ) (x now : ℕ) (p q : StationAtLine (NotingLine L)) (w v : WriterState)
+pub repeat_prints : {L : Type 0} (strangers : L → ℕ) (x now : ℕ) (p q : StationAtLine (TracingLine L)) (w v : WriterState)
     (done : Result (Unit {0}) AtLineFault) (old new : Printing) → now < 2 ^ 64 → q.index ≡ p.index
     → RepeatsAt (telling strangers) now p w q v done
-    → PrintsSent q x v.entries now w.entries (length (sent_through p.line)) old new → PrintsAll x w v old new
+    → PrintsSent q x v.entries now w.entries (length (datagrams_sent p.line)) old new → PrintsAll x w v old new
 repeat_prints strangers x now p q w v (Ok u) old new h index (true, ends) is =
     sent_prints x now p q w v _ old new h index ends.1.goes.entry (inl ends.1.goes.sent_are) is
 repeat_prints strangers x now p q w v (Ok u) old new h index (false, ends) is = resting x now _ q w v old new ends.2.recorder is
@@ -172,14 +172,14 @@ repeat_prints strangers x now p q w v (Err (faults.Record fault)) old new h inde
 repeat_prints strangers x now p q w v (Err faults.Memory) old new h index ends is = resting x now _ q w v old new ends.2.recorder is
 
 -- by counts that are these
-pub at_counts : {L : Type 0} (q : StationAtLine (NotingLine L)) (x r now k j i l : ℕ) (old new : Printing) → k ≡ i → j ≡ l
+pub at_counts : {L : Type 0} (q : StationAtLine (TracingLine L)) (x r now k j i l : ℕ) (old new : Printing) → k ≡ i → j ≡ l
     → PrintsSent q x r now k j old new → PrintsSent q x r now i l old new
 at_counts q x r now k j i l old new e f is =
     subst (λ (n : ℕ). PrintsSent q x r now n l old new) e (subst (λ (n : ℕ). PrintsSent q x r now k n old new) f is)
 
 -- Of what is told.
 
-pub tell_prints : {L : Type 0} (x k e : ℕ) (y : EntityState) (p : StationAtLine (NotingLine L)) (w v : WriterState) (old new : Printing)
+pub tell_prints : {L : Type 0} (x k e : ℕ) (y : EntityState) (p : StationAtLine (TracingLine L)) (w v : WriterState) (old new : Printing)
     → WritesOne w (Told p.index e (state_over p.node.application.outfit (came p.node.application) e)) v → k ≡ w.entries
     → y ≡ state_over p.node.application.outfit (came p.node.application) e → PrintsLine (line_of x k (Told p.index e y)) old new → PrintsAll x w v old new
 tell_prints x k e y p w v old new one count state line =
@@ -187,7 +187,7 @@ tell_prints x k e y p w v old new one count state line =
     (subst (λ (z : EntityState). PrintsLine (line_of x w.entries (Told p.index e z)) old new) state
     (subst (λ (n : ℕ). PrintsLine (line_of x n (Told p.index e y)) old new) count line))
 
-pub untold_prints : {L : Type 0} (strangers : L → ℕ) (x e : ℕ) (p : StationAtLine (NotingLine L)) (w v : WriterState) (fault : AtLineFault) (old : Printing)
+pub untold_prints : {L : Type 0} (strangers : L → ℕ) (x e : ℕ) (p : StationAtLine (TracingLine L)) (w v : WriterState) (fault : AtLineFault) (old : Printing)
     → TellsAt e p w v (Err fault) → LeavesRefused (telling strangers) p w p v fault → PrintsAll x w v old old
 untold_prints strangers x e p w v (faults.Station fault) old ends refused = quiet x w v old old (still w v refused.1.recorder) (nothing_new old)
 untold_prints strangers x e p w v faults.Line old ends refused = absurd ends

@@ -5,9 +5,10 @@ use Rattle.std.specs.List.{AllByRecursion}
 use Rattle.std.specs.Io.KnownBytes.{IsAtEnd}
 use Rattle.std.proofs.lemmas.Bool.{cases_lt}
 use Rattle.std.proofs.lemmas.Bool.Decides.{nat_tests}
-use Rattle.siman_scripts.specs.Text.{lines_of}
+use Rattle.byte_files.specs.Text.{lines_of}
 use Rattle.siman_operator.specs.declared.reading.TheConstants.{LONGEST_LINE}
-use Rattle.siman_operator.specs.Reading.{IsOneLine, ReadsLine, ReadsLines, HoldsLine, AreLines, AreFirstLines, said_by}
+use Rattle.byte_files.specs.Lines.{IsOneLine, ReadsLine, ReadsLines, HoldsLine, AreLines, AreFirstLines}
+use Rattle.siman_operator.specs.Reading.{said_by}
 
 pub reads-none : (a : Option (List ℕ)) → ReadsLines a a []
 reads-none None = tt

@@ -7,7 +7,7 @@ use Rattle.siman_lines.specs.AtLines.{Telling}
 use Rattle.siman_operator.specs.declared.turns.TheConstants.{MOST_TURNS}
 use Rattle.siman_operator.specs.declared.turns.Trouble.{Trouble}
 use Rattle.siman_operator.specs.Deeds.{ServesOnce}
-use Rattle.siman_operator.specs.Turns.{Turn, is_followed, is_lost, wants_memory, is_unrecorded, trouble_in, AreFollowed, Take, AreAllTurns, TakesTurns}
+use Rattle.siman_operator.specs.Turns.{Turn, is_followed, is_lost, is_out_of_memory, is_unrecorded, trouble_in, AreFollowed, Take, AreAllTurns, TakesTurns}
 
 pub record SoFar {L : Type 0} (told : Telling L) (now counter : ℕ) (p : StationAtLine L) (w : WriterState) (q : StationAtLine L) (v : WriterState)
     (trouble : Trouble) : Type 0 where
@@ -23,7 +23,7 @@ none_taken told now p w trouble none = record { turns = []; count = refl; follow
 
 abbrev pub trouble_after : Trouble → Turn → Trouble
 trouble_after a t =
-    record { line = is_lost t || a.line; memory = wants_memory t || a.memory; recorder = is_unrecorded t || a.recorder }
+    record { line = is_lost t || a.line; memory = is_out_of_memory t || a.memory; recorder = is_unrecorded t || a.recorder }
 
 failed_on : (a b : Trouble) (ts : List Turn) (t : Turn) → a ≡ trouble_in ts → b ≡ trouble_after a t → b ≡ trouble_in (t ∷ ts)
 failed_on a b ts t failed after = after ∙ ap (λ (c : Trouble). trouble_after c t) failed

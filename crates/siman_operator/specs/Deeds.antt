@@ -12,29 +12,29 @@ use Rattle.siman_lines.specs.AtLines.{Telling, state_at}
 use Rattle.siman_lines.specs.KeptAtLine.{IsWritten, IsKept}
 use Rattle.siman_lines.specs.LineDatagrams.{Datagrams}
 use Rattle.siman_lines.specs.Serving.{ServeEnds}
-use Rattle.siman_operator.specs.declared.noting.NotingLine.{NotingLine}
+use Rattle.siman_operator.specs.declared.logging.TracingLine.{TracingLine}
 use Rattle.siman_operator.specs.Noted.{last_of}
-use Rattle.siman_operator.specs.Noting.{sent_through, received_through}
-use Rattle.siman_operator.specs.Printing.{Printing, line_of, IsPrinted, PrintsLine, PrintsNothing, FallsSilent}
+use Rattle.siman_operator.specs.Noting.{datagrams_sent, datagrams_received}
+use Rattle.siman_operator.specs.Printing.{Printing, line_of, IsPrinted, PrintsLine, PrintsNothing, StopsPrinting}
 
 -- Printing.
 
 -- the printing of a sent datagram, if one was recorded since the recording had so many entries and the link had
 -- sent so many datagrams
-abbrev pub PrintsSent : {L : Type 0} → StationAtLine (NotingLine L) → (exercise recorded now entries sent : ℕ) → (old new : Printing) → Type 0
+abbrev pub PrintsSent : {L : Type 0} → StationAtLine (TracingLine L) → (exercise recorded now entries sent : ℕ) → (old new : Printing) → Type 0
 PrintsSent p x recorded now entries sent old new =
     MatchBool (recorded == entries) (PrintsNothing old new)
-    (MatchBool (length (sent_through p.line) == sent) (FallsSilent old new)
-    (PrintsLine (line_of x entries (Sent p.index now (last_of (sent_through p.line)))) old new))
+    (MatchBool (length (datagrams_sent p.line) == sent) (StopsPrinting old new)
+    (PrintsLine (line_of x entries (Sent p.index now (last_of (datagrams_sent p.line)))) old new))
 
 -- the printing of a turn, since the link had also returned so many datagrams
-abbrev pub PrintsTurn : {L : Type 0} → StationAtLine (NotingLine L) → (exercise recorded now entries received sent : ℕ) → (old new : Printing) → Type 0
+abbrev pub PrintsTurn : {L : Type 0} → StationAtLine (TracingLine L) → (exercise recorded now entries received sent : ℕ) → (old new : Printing) → Type 0
 PrintsTurn p x recorded now entries received sent old new =
     MatchBool (recorded == entries) (PrintsNothing old new)
-    (MatchBool (length (received_through p.line) - received == 1)
-    ((mid : Printing) × PrintsLine (line_of x entries (Received p.index now (last_of (received_through p.line)))) old mid
+    (MatchBool (length (datagrams_received p.line) - received == 1)
+    ((mid : Printing) × PrintsLine (line_of x entries (Received p.index now (last_of (datagrams_received p.line)))) old mid
     × PrintsSent p x recorded now (entries + 1) sent mid new)
-    (FallsSilent old new))
+    (StopsPrinting old new))
 
 -- The invariant.
 
@@ -53,7 +53,7 @@ pub record ServesOnce {L : Type 0} (told : Telling L) (now : ℕ) (p : StationAt
 
 -- the station of a post, with its recorder, its exercise and its printing
 pub record PostState (L : Type 0) : Type 0 where
-  pub station : StationAtLine (NotingLine L)
+  pub station : StationAtLine (TracingLine L)
   pub recorder : WriterState
   pub exercise : ℕ
   pub printing : Printing
@@ -75,5 +75,5 @@ PrintsAll x w v old new =
 pub record GoesOn {L : Type 0} (old new : PostState L) : Type 0 where
   pub index : new.station.index ≡ old.station.index
   pub exercise : new.exercise ≡ old.exercise
-  pub keeps : KeepsAll old.station.index old.station.node old.recorder (sent_through old.station.line) new.station.node new.recorder (sent_through new.station.line)
+  pub keeps : KeepsAll old.station.index old.station.node old.recorder (datagrams_sent old.station.line) new.station.node new.recorder (datagrams_sent new.station.line)
   pub prints : PrintsAll old.exercise old.recorder new.recorder old.printing new.printing

@@ -10,7 +10,7 @@ use Rattle.exercise_model.specs.Setting.{SettingData, IsSetting, must_have_sent}
 use Rattle.exercise_recording.specs.Writer.{Starts}
 use Rattle.siman_lines.specs.Calls.{IsFresh}
 use Rattle.siman_lines.specs.KeptAtLine.{IsWritten, IsKept}
-use Rattle.siman_operator.specs.Noting.{sent_through}
+use Rattle.siman_operator.specs.Noting.{datagrams_sent}
 use Rattle.siman_operator.specs.Printing.{IsPrinted}
 use Rattle.siman_operator.specs.Deeds.{PostState, GoesOn}
 
@@ -24,23 +24,23 @@ GoOn a (b ∷ bs) c = GoesOn a b × GoOn b bs c
 pub record IsStarted {L : Type 0} (before start : Option (List ℕ)) (w : SettingData) (a : PostState L) : Type 0 where
   pub setting : IsSetting w
   pub starts : Starts before w a.recorder
-  pub fresh : IsFresh a.station.index a.station.node w (Some (sent_through a.station.line))
+  pub fresh : IsFresh a.station.index a.station.node w (Some (datagrams_sent a.station.line))
   pub fault : a.printing.fault ≡ None
   pub out : Keeps start a.printing.out
 
 -- THE INVARIANT of the station holds, when these entries are written whole
-pub record IsKeptSo {L : Type 0} (before : Option (List ℕ)) (w : SettingData) (a : PostState L) (es : List Entry) : Type 0 where
+pub record InvariantHolds {L : Type 0} (before : Option (List ℕ)) (w : SettingData) (a : PostState L) (es : List Entry) : Type 0 where
   pub setting : a.recorder.setting ≡ w
   pub written : IsWritten before a.recorder es
-  pub kept : IsKept a.station.index a.station.node a.recorder es (Some (sent_through a.station.line))
+  pub kept : IsKept a.station.index a.station.node a.recorder es (Some (datagrams_sent a.station.line))
 
 -- THE ROWS OF THE ENTRIES that are written whole are printed, all or a prefix
-pub record IsPrintedSo {L : Type 0} (before start : Option (List ℕ)) (a : PostState L) (es : List Entry) : Type 0 where
+pub record AreRowsPrinted {L : Type 0} (before start : Option (List ℕ)) (a : PostState L) (es : List Entry) : Type 0 where
   pub written : IsWritten before a.recorder es
   pub printed : IsPrinted start a.exercise es a.printing
 
 abbrev pub Leaves : {L : Type 0} → (before start : Option (List ℕ)) → SettingData → PostState L → Type 0
-Leaves before start w a = ((es : List Entry) × IsKeptSo before w a es) × ((es : List Entry) × IsPrintedSo before start a es)
+Leaves before start w a = ((es : List Entry) × InvariantHolds before w a es) × ((es : List Entry) × AreRowsPrinted before start a es)
 
 -- no received datagram names a recorded station as its originator, except what was sent before
 abbrev pub HearsOwnSent : SettingData → History → Type 0

@@ -7,8 +7,8 @@ use Rattle.siman_scripts.specs.ReasonText.{command_text}
 use Rattle.siman_lines.specs.declared.trouble.LineTrouble.{LineTrouble}
 use Rattle.siman_lines.specs.Trouble.{line_trouble_text}
 use Rattle.siman_print.specs.Records.{line_end}
-use Rattle.siman_operator.specs.declared.explanation.Explanation.{Explanation}
-use Rattle.siman_operator.specs.declared.explanation.Explanation.TheVariants.{Words, Alone, Order, Line}
+use Rattle.siman_operator.specs.declared.explanation.SessionReason.{SessionReason}
+use Rattle.siman_operator.specs.declared.explanation.SessionReason.TheVariants.{Words, Alone, Order, Line}
 use Rattle.siman_operator.specs.declared.reason.BadReason.{BadReason}
 use Rattle.siman_operator.specs.declared.reason.BadReason.TheVariants as reasons
 
@@ -47,12 +47,12 @@ lost_text (Some trouble) = second (line_trouble_text trouble)
 
 -- Texts.
 
-abbrev pub explanation_text : Explanation → List ℕ
+abbrev pub explanation_text : SessionReason → List ℕ
 explanation_text (Words words) = words.now
 explanation_text (Alone site application) = alone_words site application
 explanation_text (Order reason) = command_text reason
 explanation_text (Line trouble) = line_trouble_text trouble
 
-abbrev pub second_line : Option Explanation → List ℕ
+abbrev pub second_line : Option SessionReason → List ℕ
 second_line None = []
 second_line (Some explanation) = second (explanation_text explanation)

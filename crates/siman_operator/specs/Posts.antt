@@ -7,13 +7,13 @@ use Rattle.siman_stations.specs.declared.turn.Node.{Node}
 use Rattle.siman_lines.specs.declared.station_at_line.StationAtLine.{StationAtLine}
 use Rattle.siman_lines.specs.AtLines.{Telling}
 use Rattle.siman_scripts.specs.declared.command.Command.{Command}
-use Rattle.siman_operator.specs.declared.noting.NotingLine.{NotingLine}
-use Rattle.siman_operator.specs.declared.obeying.Undone.{Undone}
-use Rattle.siman_operator.specs.declared.obeying.Undone.TheVariants as undone
-use Rattle.siman_operator.specs.declared.post.LineCame.{LineCame}
+use Rattle.siman_operator.specs.declared.logging.TracingLine.{TracingLine}
+use Rattle.siman_operator.specs.declared.obeying.Rejection.{Rejection}
+use Rattle.siman_operator.specs.declared.obeying.Rejection.TheVariants as undone
+use Rattle.siman_operator.specs.declared.post.LineResult.{LineResult}
 use Rattle.siman_operator.specs.declared.post.Post.{Post}
 use Rattle.siman_operator.specs.declared.turns.Trouble.{Trouble}
-use Rattle.siman_operator.specs.Noting.{sent_through, received_through}
+use Rattle.siman_operator.specs.Noting.{datagrams_sent, datagrams_received}
 use Rattle.siman_operator.specs.Obeying.{Obeys}
 use Rattle.siman_operator.specs.Turns.{TakesTurns}
 
@@ -22,8 +22,8 @@ use Rattle.siman_operator.specs.Turns.{TakesTurns}
 pub record IsBegun {L : Type 0} (exercise : ℕ) (address : Pair) (node : Node) (post : Post L) : Type 0 where
   pub index : post.station.index ≡ 0
   pub node_is : post.station.node ≡ node
-  pub sent : sent_through post.station.line ≡ []
-  pub received : received_through post.station.line ≡ []
+  pub sent : datagrams_sent post.station.line ≡ []
+  pub received : datagrams_received post.station.line ≡ []
   pub dropped : post.station.dropped ≡ 0
   pub exercise_is : post.printer.exercise ≡ exercise
   pub fault : post.printer.fault ≡ None
@@ -32,27 +32,27 @@ pub record IsBegun {L : Type 0} (exercise : ℕ) (address : Pair) (node : Node) 
 
 -- Results of lines.
 
-abbrev pub is_unrecorded : Result (Unit {0}) Undone → Bool
+abbrev pub is_unrecorded : Result (Unit {0}) Rejection → Bool
 is_unrecorded (Err undone.Record) = true
 is_unrecorded other = false
 
-abbrev pub is_unremembered : Result (Unit {0}) Undone → Bool
+abbrev pub is_unremembered : Result (Unit {0}) Rejection → Bool
 is_unremembered (Err undone.Memory) = true
 is_unremembered other = false
 
-abbrev pub is_undone : Result (Unit {0}) Undone → Bool
-is_undone (Ok x) = false
-is_undone (Err why) = true
+abbrev pub is_rejected : Result (Unit {0}) Rejection → Bool
+is_rejected (Ok x) = false
+is_rejected (Err why) = true
 
 -- an entry was not recorded
-abbrev pub is_over : LineCame → Bool
+abbrev pub is_over : LineResult → Bool
 is_over came = is_unrecorded came.done || came.trouble.recorder
 
 -- the exit status of a line
-abbrev pub worst : LineCame → ℕ
+abbrev pub worst : LineResult → ℕ
 worst came =
     if is_unremembered came.done || came.trouble.memory then 3
-    else if is_undone came.done || (came.trouble.line || came.trouble.recorder) then 2
+    else if is_rejected came.done || (came.trouble.line || came.trouble.recorder) then 2
     else 0
 
 abbrev pub no_trouble : Trouble
@@ -60,9 +60,9 @@ no_trouble = record { line = false; memory = false; recorder = false }
 
 -- THE EFFECT OF A LINE at a post: it does what the line asks for, and is then served, unless an entry was not
 -- recorded
-pub record TakesLine {L : Type 0} (told : Telling (NotingLine L)) (said : Option Command) (old : Post L) (w : WriterState) (new : Post L) (v : WriterState)
-    (came : LineCame) : Type 0 where
-  pub mid : StationAtLine (NotingLine L)
+pub record TakesLine {L : Type 0} (told : Telling (TracingLine L)) (said : Option Command) (old : Post L) (w : WriterState) (new : Post L) (v : WriterState)
+    (came : LineResult) : Type 0 where
+  pub mid : StationAtLine (TracingLine L)
   pub recorder : WriterState
   pub obeys : Obeys told old.address said old.clock new.clock old.station w mid recorder came.done
   pub address : new.address ≡ old.address

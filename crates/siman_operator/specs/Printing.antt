@@ -39,6 +39,6 @@ abbrev pub PrintsNothing : (old new : Printing) → Type 0
 PrintsNothing old new = (new.fault ≡ old.fault) × Keeps old.out new.out
 
 -- nothing is printed, and printing stops, since the entry is unknown
-abbrev pub FallsSilent : (old new : Printing) → Type 0
-FallsSilent old new =
+abbrev pub StopsPrinting : (old new : Printing) → Type 0
+StopsPrinting old new =
     MatchOption old.fault (new.fault ≡ Some faults.Memory) (λ fault. new.fault ≡ Some fault) × Keeps old.out new.out

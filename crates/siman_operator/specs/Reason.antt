@@ -2,8 +2,8 @@
 use Rattle.std.specs.Prelude.{◌≡◌, ◌≤◌, ◌⊎◌, ℕ, List, length, nat_le, Option, Some, None, Result, Err, if◌then◌else◌}
 use Rattle.std.specs.Option.{option_map}
 use Rattle.siman_scripts.specs.Reason.{command_reason}
-use Rattle.siman_operator.specs.declared.obeying.Undone.{Undone}
-use Rattle.siman_operator.specs.declared.obeying.Undone.TheVariants as undone
+use Rattle.siman_operator.specs.declared.obeying.Rejection.{Rejection}
+use Rattle.siman_operator.specs.declared.obeying.Rejection.TheVariants as undone
 use Rattle.siman_operator.specs.declared.reading.TheConstants.{LONGEST_LINE}
 use Rattle.siman_operator.specs.declared.reason.BadReason.{BadReason}
 use Rattle.siman_operator.specs.declared.reason.BadReason.TheVariants as reasons
@@ -17,6 +17,6 @@ abbrev pub IsReason : List ℕ → Option BadReason → Type 0
 IsReason line reason = (reason ≡ bad_reason line) ⊎ ((reason ≡ None) × (length line ≤ LONGEST_LINE))
 
 -- THE REASON FOR WHICH A LINE WAS REFUSED; none, if it was not refused as bad
-abbrev pub Reasons : List ℕ → Result (Unit {0}) Undone → Option BadReason → Type 0
+abbrev pub Reasons : List ℕ → Result (Unit {0}) Rejection → Option BadReason → Type 0
 Reasons line (Err undone.BadLine) reason = IsReason line reason
 Reasons line other reason = reason ≡ None

@@ -5,8 +5,8 @@ use Rattle.dis_records.specs.Address.{Pair}
 use Rattle.siman_print.specs.Records.{line_end}
 use Rattle.siman_scripts.specs.declared.command.Command.{Command}
 use Rattle.siman_scripts.specs.declared.command.Command.TheVariants as commands
-use Rattle.siman_scripts.specs.declared.command.Task.TheVariants as tasks
-use Rattle.siman_operator.specs.declared.obeying.Undone.{Undone}
+use Rattle.siman_scripts.specs.declared.command.StationTask.TheVariants as tasks
+use Rattle.siman_operator.specs.declared.obeying.Rejection.{Rejection}
 use Rattle.siman_operator.specs.declared.receiver.TheConstants.{EVERY}
 
 -- a station receives what is sent to this site and application: it has that address, or the application means all
@@ -23,14 +23,14 @@ abbrev pub missing : List Pair → (site application : ℕ) → Option (ℕ × �
 missing stations site application = if (site == EVERY) || is_got stations site application then None else Some (site, application)
 
 -- THE RECEIVER OF AN ORDER THAT NOBODY RECEIVES: its site and application
-abbrev pub nobody_of : List Pair → Option Command → Option (ℕ × ℕ)
-nobody_of stations (Some (commands.Asks a (tasks.Order order))) = missing stations order.target.site order.target.application
-nobody_of stations other = None
+abbrev pub absent_receiver : List Pair → Option Command → Option (ℕ × ℕ)
+absent_receiver stations (Some (commands.Asks a (tasks.Order order))) = missing stations order.target.site order.target.application
+absent_receiver stations other = None
 
 -- THE RECEIVER THAT A WARNING NAMES, of a line that was done; none, if memory ran out; always none of a line that
 -- was not done
-abbrev pub WarnsOf : List Pair → Option Command → Result (Unit {0}) Undone → Option (ℕ × ℕ) → Type 0
-WarnsOf stations said (Ok x) nobody = (nobody ≡ nobody_of stations said) ⊎ (nobody ≡ None)
+abbrev pub WarnsOf : List Pair → Option Command → Result (Unit {0}) Rejection → Option (ℕ × ℕ) → Type 0
+WarnsOf stations said (Ok x) nobody = (nobody ≡ absent_receiver stations said) ⊎ (nobody ≡ None)
 WarnsOf stations said (Err why) nobody = nobody ≡ None
 
 -- : the script has no station S:A: add it there, or see whether the address is right

@@ -11,17 +11,17 @@ use Rattle.exercise_model.specs.Run.{Explains}
 use Rattle.exercise_model.specs.Setting.{SettingData}
 use Rattle.exercise_recording.specs.Text.{head_text, recording_text}
 use Rattle.exercise_recording.specs.Writer.{WriterState, Starts}
-use Rattle.siman_application.specs.Outfit.{Outfit}
+use Rattle.siman_application.specs.AppProfile.{AppProfile}
 use Rattle.siman_application.specs.OwnLog.{AreOneOrder}
 use Rattle.siman_lines.specs.Calls.{IsFresh}
 use Rattle.siman_operator.specs.declared.post.Post.{Post}
 use Rattle.siman_operator.specs.declared.printing.PrintFault.TheVariants as prints
 use Rattle.siman_operator.specs.Explained.{HearsOwnSent}
-use Rattle.siman_operator.specs.Noting.{sent_through}
-use Rattle.siman_operator.specs.declared.recorded.Ready.{Ready}
-use Rattle.siman_operator.specs.declared.told.Told.{Told}
-use Rattle.siman_operator.specs.Sessions.{AtPost, Plays}
-use Rattle.siman_operator.specs.Told.{TellsMore, closed_text}
+use Rattle.siman_operator.specs.Noting.{datagrams_sent}
+use Rattle.siman_operator.specs.declared.recorded.ReadyStation.{ReadyStation}
+use Rattle.siman_operator.specs.declared.session_report.SessionReport.{SessionReport}
+use Rattle.siman_operator.specs.Sessions.{PrintedPost, Plays}
+use Rattle.siman_operator.specs.Told.{WritesMore, closed_text}
 
 -- the setting of the recording that a session writes: its station alone, in the second format, open
 abbrev pub open_setting : PlainRecording → SettingData
@@ -29,29 +29,29 @@ open_setting head = record { form = Open; exercise = head.setting.exercise; stat
 
 -- A STATION IN ITS INITIAL STATE: it is the only one of its recording, it has received nothing and made no order,
 -- its link has sent nothing, and printing has not failed
-pub record IsReady {L : Type 0} (ready : Ready L) : Type 0 where
+pub record IsReady {L : Type 0} (ready : ReadyStation L) : Type 0 where
   pub one : length ready.head.setting.stations ≡ 1
   pub index : ready.post.station.index ≡ 0
   pub fault : ready.post.printer.fault ≡ None
-  pub fresh : IsFresh 0 ready.post.station.node (open_setting ready.head) (Some (sent_through ready.post.station.line))
+  pub fresh : IsFresh 0 ready.post.station.node (open_setting ready.head) (Some (datagrams_sent ready.post.station.line))
 
 -- a post is played with a recorder; its file has what the recorder wrote
 abbrev pub RecordsBegun : {L : Type 0} → (stations : List Pair) → (strangers : L → ℕ) → (known : Option (List ℕ)) → Post L → WriterState → (out out_after errors errors_after : Option (List ℕ))
-    → (file : Option (List ℕ)) → Told → Type 0
+    → (file : Option (List ℕ)) → SessionReport → Type 0
 RecordsBegun {L} stations strangers known post w out out_after errors errors_after file told =
-    (after : AtPost L) × (after.out ≡ out_after) × (file ≡ after.recorder.contents)
-    × (let before : AtPost L = record { post = post; recorder = w; out = out } in Plays stations strangers known before after errors errors_after told)
+    (after : PrintedPost L) × (after.out ≡ out_after) × (file ≡ after.recorder.contents)
+    × (let before : PrintedPost L = record { post = post; recorder = w; out = out } in Plays stations strangers known before after errors errors_after told)
 
 -- the head was not written whole: this is reported, and no line is read
-pub record RecordsNone (w : SettingData) (file file_after out out_after errors errors_after : Option (List ℕ)) (told : Told) : Type 0 where
+pub record RecordsNone (w : SettingData) (file file_after out out_after errors errors_after : Option (List ℕ)) (told : SessionReport) : Type 0 where
   pub head : WritesPart file file_after (head_text w)
   pub out_is : out_after ≡ out
   pub status : told.status ≡ 2
-  pub tells : TellsMore (Ok tt) told.written errors errors_after (closed_text (Err prints.Write))
+  pub tells : WritesMore (Ok tt) told.written errors errors_after (closed_text (Err prints.Write))
 
 -- A SESSION IS RECORDED: the head is written, and then the post is played
-abbrev pub Records : {L : Type 0} → (strangers : L → ℕ) → (known : Option (List ℕ)) → Ready L → (file file_after out out_after errors errors_after : Option (List ℕ))
-    → Told → Type 0
+abbrev pub Records : {L : Type 0} → (strangers : L → ℕ) → (known : Option (List ℕ)) → ReadyStation L → (file file_after out out_after errors errors_after : Option (List ℕ))
+    → SessionReport → Type 0
 Records strangers known ready file file_after out out_after errors errors_after told =
     RecordsNone (open_setting ready.head) file file_after out out_after errors errors_after told
     ⊎ ((w : WriterState) × Starts file (open_setting ready.head) w × RecordsBegun ready.stations.items strangers known ready.post w out out_after errors errors_after file_after told)
@@ -60,7 +60,7 @@ Records strangers known ready file file_after out out_after errors errors_after 
 -- the whole text with these entries. What the station recorded is explained: each prefix of the entries is a run in
 -- the order of the file, if no received datagram names the station as its originator except what it had sent
 -- before, and if no site and application used one request identifier for two orders
-pub record IsLeft (w : SettingData) (outfit : Outfit) (status : ℕ) (file file_after : Option (List ℕ)) : Type 0 where
+pub record IsLeft (w : SettingData) (outfit : AppProfile) (status : ℕ) (file file_after : Option (List ℕ)) : Type 0 where
   pub entries : List Entry
   pub torn : List Entry
   pub few : length torn ≤ 1

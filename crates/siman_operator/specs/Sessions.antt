@@ -5,7 +5,7 @@ use Rattle.byte_files.specs.Writing.{Writes}
 use Rattle.dis_records.specs.Address.{Pair}
 use Rattle.exercise_recording.specs.Writer.{WriterState}
 use Rattle.siman_lines.specs.AtLines.{Telling}
-use Rattle.siman_operator.specs.declared.noting.NotingLine.{NotingLine}
+use Rattle.siman_operator.specs.declared.logging.TracingLine.{TracingLine}
 use Rattle.siman_operator.specs.declared.post.Post.{Post}
 use Rattle.siman_operator.specs.declared.printing.PrintFault.{PrintFault}
 use Rattle.siman_operator.specs.Deeds.{PostState, GoesOn}
@@ -15,24 +15,25 @@ use Rattle.siman_operator.specs.declared.came.Came.{Came}
 use Rattle.siman_operator.specs.declared.playing.Played.{Played}
 use Rattle.siman_operator.specs.declared.playing.Stop.{Stop}
 use Rattle.siman_operator.specs.declared.playing.Stop.TheVariants as stops
-use Rattle.siman_operator.specs.declared.told.Told.{Told}
-use Rattle.siman_operator.specs.Came.{status_of, told_of}
+use Rattle.siman_operator.specs.declared.session_report.SessionReport.{SessionReport}
+use Rattle.siman_operator.specs.Came.{status_of, result_of}
 use Rattle.siman_operator.specs.Closing.{Closes}
-use Rattle.siman_operator.specs.Reading.{said_by, AreLines, AreFirstLines}
+use Rattle.byte_files.specs.Lines.{AreLines, AreFirstLines}
+use Rattle.siman_operator.specs.Reading.{said_by}
 use Rattle.siman_operator.specs.Reason.{Reasons}
 use Rattle.siman_operator.specs.Receiver.{WarnsOf}
-use Rattle.siman_operator.specs.Told.{TellsMore, closed_status, closed_text, unread_text}
+use Rattle.siman_operator.specs.Told.{WritesMore, closed_status, closed_text, unread_text}
 use Rattle.std.specs.Prelude.{Result}
 
 -- Lines.
 
 -- why printing stopped at this line; none, if it goes on or had stopped before
-abbrev pub silenced_by : (before after : Option PrintFault) → Option PrintFault
-silenced_by None after = after
-silenced_by (Some fault) after = None
+abbrev pub print_stop_at : (before after : Option PrintFault) → Option PrintFault
+print_stop_at None after = after
+print_stop_at (Some fault) after = None
 
 -- a post with its recorder
-pub record AtRecorder (L : Type 0) : Type 0 where
+pub record RecordedPost (L : Type 0) : Type 0 where
   pub post : Post L
   pub recorder : WriterState
 
@@ -43,18 +44,18 @@ pub record Taken : Type 0 where
 
 -- A LINE IS TAKEN as the command that it says; a bad line has its reason in the result, and an order that no
 -- station of the script receives has its receiver there
-pub record TakesOne {L : Type 0} (stations : List Pair) (told : Telling (NotingLine L)) (t : Taken) (old new : AtRecorder L) : Type 0 where
+pub record TakesOne {L : Type 0} (stations : List Pair) (told : Telling (TracingLine L)) (t : Taken) (old new : RecordedPost L) : Type 0 where
   pub takes : TakesLine told (said_by t.line) old.post old.recorder new.post new.recorder t.came.line
-  pub silenced : t.came.silenced ≡ silenced_by old.post.printer.fault new.post.printer.fault
+  pub print_stop : t.came.print_stop ≡ print_stop_at old.post.printer.fault new.post.printer.fault
   pub site : t.came.site ≡ old.post.address.site
   pub application : t.came.application ≡ old.post.address.application
   pub reason : Reasons t.line t.came.line.done t.came.reason
   pub nobody : WarnsOf stations (said_by t.line) t.came.line.done t.came.nobody
 
 -- LINES ARE TAKEN, one after the other
-abbrev pub TakesAll : {L : Type 0} → (stations : List Pair) → Telling (NotingLine L) → List Taken → (old new : AtRecorder L) → Type 0
+abbrev pub TakesAll : {L : Type 0} → (stations : List Pair) → Telling (TracingLine L) → List Taken → (old new : RecordedPost L) → Type 0
 TakesAll stations told [] old new = new ≡ old
-TakesAll {L} stations told (t ∷ ts) old new = (mid : AtRecorder L) × TakesOne stations told t old mid × TakesAll stations told ts mid new
+TakesAll {L} stations told (t ∷ ts) old new = (mid : RecordedPost L) × TakesOne stations told t old mid × TakesAll stations told ts mid new
 
 abbrev pub lines_in : List Taken → List (List ℕ)
 lines_in ts = map (λ t. t.line) ts
@@ -62,7 +63,7 @@ lines_in ts = map (λ t. t.line) ts
 -- THE REPORT OF LINES, given the number of the first
 abbrev pub told_from : (number : ℕ) → List Taken → List ℕ
 told_from n [] = []
-told_from n (t ∷ ts) = told_of n t.came ++ told_from (n + 1) ts
+told_from n (t ∷ ts) = result_of n t.came ++ told_from (n + 1) ts
 
 -- the worst exit status of lines
 abbrev pub worst_of : List Taken → ℕ
@@ -87,7 +88,7 @@ Stops known stops.Unread ts = MayGoOn ts × AreFirstLines known (lines_in ts)
 Stops known stops.Unrecorded ts = IsOver ts × AreFirstLines known (lines_in ts)
 
 -- THE LINES OF A TEXT ARE PLAYED: taken up to the stop, and reported, with their worst status
-pub record PlaysLines {L : Type 0} (stations : List Pair) (told : Telling (NotingLine L)) (known : Option (List ℕ)) (old new : AtRecorder L)
+pub record PlaysLines {L : Type 0} (stations : List Pair) (told : Telling (TracingLine L)) (known : Option (List ℕ)) (old new : RecordedPost L)
     (errors errors_after : Option (List ℕ)) (played : Played) : Type 0 where
   pub taken : List Taken
   pub takes : TakesAll stations told taken old new
@@ -98,13 +99,13 @@ pub record PlaysLines {L : Type 0} (stations : List Pair) (told : Telling (Notin
 -- The whole session.
 
 -- a post with its recorder, and the output of its entries
-pub record AtPost (L : Type 0) : Type 0 where
+pub record PrintedPost (L : Type 0) : Type 0 where
   pub post : Post L
   pub recorder : WriterState
   pub out : Option (List ℕ)
 
 -- the state of the post in it
-abbrev pub going : {L : Type 0} → AtPost L → PostState L
+abbrev pub going : {L : Type 0} → PrintedPost L → PostState L
 going a = record {
   station = a.post.station;
   recorder = a.recorder;
@@ -113,39 +114,39 @@ going a = record {
 }
 
 -- the recording is ended and its counts are printed, and a failure of either is reported
-pub record ClosesAt {L : Type 0} (strangers : L → ℕ) (post : Post L) (w v : WriterState) (out out_after : Option (List ℕ)) (before after : Told)
+pub record ClosesAt {L : Type 0} (strangers : L → ℕ) (post : Post L) (w v : WriterState) (out out_after : Option (List ℕ)) (before after : SessionReport)
     (errors errors_after : Option (List ℕ)) : Type 0 where
   pub closed : Result (Unit {0}) PrintFault
   pub closes : Closes strangers post w v out out_after closed
   pub status : after.status ≡ max before.status (closed_status closed)
-  pub tells : TellsMore before.written after.written errors errors_after (closed_text closed)
+  pub tells : WritesMore before.written after.written errors errors_after (closed_text closed)
 
 -- a failed read is reported
-pub record TellsUnread (before after : Told) (errors errors_after : Option (List ℕ)) : Type 0 where
+pub record ReportsUnread (before after : SessionReport) (errors errors_after : Option (List ℕ)) : Type 0 where
   pub status : after.status ≡ max before.status 2
-  pub tells : TellsMore before.written after.written errors errors_after unread_text
+  pub tells : WritesMore before.written after.written errors errors_after unread_text
 
 -- THE END OF A SESSION, by why its lines stopped: at the end of the text, or after a failed read, the recording is
 -- ended; if an entry was not recorded, nothing more is done
-abbrev pub EndsSession : {L : Type 0} → (strangers : L → ℕ) → Post L → Stop → (w v : WriterState) → (out out_after : Option (List ℕ)) → (before after : Told)
+abbrev pub EndsSession : {L : Type 0} → (strangers : L → ℕ) → Post L → Stop → (w v : WriterState) → (out out_after : Option (List ℕ)) → (before after : SessionReport)
     → (errors errors_after : Option (List ℕ)) → Type 0
 EndsSession strangers post stops.End w v out out_after before after errors errors_after =
     ClosesAt strangers post w v out out_after before after errors errors_after
 EndsSession strangers post stops.Unread w v out out_after before after errors errors_after =
-    (told : Told) × (mid : Option (List ℕ)) × TellsUnread before told errors mid × ClosesAt strangers post w v out out_after told after mid errors_after
+    (told : SessionReport) × (mid : Option (List ℕ)) × ReportsUnread before told errors mid × ClosesAt strangers post w v out out_after told after mid errors_after
 EndsSession strangers post stops.Unrecorded w v out out_after before after errors errors_after =
     (v ≡ w) × (out_after ≡ out) × (after ≡ before) × (errors_after ≡ errors)
 
 -- A POST IS PLAYED by the lines of a text, to the end, with these stations in its script
-pub record Plays {L : Type 0} (stations : List Pair) (strangers : L → ℕ) (known : Option (List ℕ)) (old new : AtPost L) (errors errors_after : Option (List ℕ)) (told : Told) : Type 0 where
+pub record Plays {L : Type 0} (stations : List Pair) (strangers : L → ℕ) (known : Option (List ℕ)) (old new : PrintedPost L) (errors errors_after : Option (List ℕ)) (told : SessionReport) : Type 0 where
   -- the post after the lines is the post at the end; intermediate values are its recorder, the output and the
   -- reports
   pub recorder : WriterState
   pub out : Option (List ℕ)
-  pub told_so_far : Option (List ℕ)
+  pub errors_so_far : Option (List ℕ)
   pub played : Played
-  pub lines : let before : AtRecorder L = record { post = old.post; recorder = old.recorder } in
-      let after : AtRecorder L = record { post = new.post; recorder = recorder } in
-      PlaysLines stations (telling strangers) known before after errors told_so_far played
-  pub goes : let after : AtPost L = record { post = new.post; recorder = recorder; out = out } in GoesOn (going old) (going after)
-  pub ends : EndsSession strangers new.post played.stop recorder new.recorder out new.out played.told told told_so_far errors_after
+  pub lines : let before : RecordedPost L = record { post = old.post; recorder = old.recorder } in
+      let after : RecordedPost L = record { post = new.post; recorder = recorder } in
+      PlaysLines stations (telling strangers) known before after errors errors_so_far played
+  pub goes : let after : PrintedPost L = record { post = new.post; recorder = recorder; out = out } in GoesOn (going old) (going after)
+  pub ends : EndsSession strangers new.post played.stop recorder new.recorder out new.out played.told told errors_so_far errors_after

@@ -12,9 +12,9 @@ abbrev pub Wrote : Type 0
 Wrote = Result (Unit {0}) WriteFailed
 
 -- a report is written behind the ones before, or a prefix of it; nothing, if an earlier one was not written whole
-abbrev pub TellsMore : (before after : Wrote) → (old new : Option (List ℕ)) → List ℕ → Type 0
-TellsMore (Ok x) after old new text = Writes after old new text
-TellsMore (Err failed) after old new text = (after ≡ Err failed) × Keeps old new
+abbrev pub WritesMore : (before after : Wrote) → (old new : Option (List ℕ)) → List ℕ → Type 0
+WritesMore (Ok x) after old new text = Writes after old new text
+WritesMore (Err failed) after old new text = (after ≡ Err failed) × Keeps old new
 
 -- the report that the text of the lines was not read to its end
 abbrev pub unread_text : List ℕ

@@ -30,12 +30,12 @@ is_lost (Err faults.Send) = true
 is_lost (Err (faults.Record fault)) = false
 is_lost (Err faults.Memory) = false
 
-abbrev pub wants_memory : Turn → Bool
-wants_memory (Ok served) = false
-wants_memory (Err faults.Receive) = false
-wants_memory (Err faults.Send) = false
-wants_memory (Err (faults.Record fault)) = false
-wants_memory (Err faults.Memory) = true
+abbrev pub is_out_of_memory : Turn → Bool
+is_out_of_memory (Ok served) = false
+is_out_of_memory (Err faults.Receive) = false
+is_out_of_memory (Err faults.Send) = false
+is_out_of_memory (Err (faults.Record fault)) = false
+is_out_of_memory (Err faults.Memory) = true
 
 abbrev pub is_unrecorded : Turn → Bool
 is_unrecorded (Ok served) = false
@@ -47,22 +47,22 @@ is_unrecorded (Err faults.Memory) = false
 -- what failed in turns
 abbrev pub trouble_in : List Turn → Trouble
 trouble_in [] = record { line = false; memory = false; recorder = false }
-trouble_in (t ∷ ts) = record { line = is_lost t || (trouble_in ts).line; memory = wants_memory t || (trouble_in ts).memory; recorder = is_unrecorded t || (trouble_in ts).recorder }
+trouble_in (t ∷ ts) = record { line = is_lost t || (trouble_in ts).line; memory = is_out_of_memory t || (trouble_in ts).memory; recorder = is_unrecorded t || (trouble_in ts).recorder }
 
 abbrev pub AreFollowed : List Turn → Type 0
 AreFollowed [] = Unit {0}
 AreFollowed (t ∷ ts) = (is_followed t ≡ true) × AreFollowed ts
 
 -- a station with its recorder
-pub record AtRecorder (L : Type 0) : Type 0 where
+pub record RecordedPost (L : Type 0) : Type 0 where
   pub station : StationAtLine L
   pub recorder : WriterState
 
 -- turns with these results, one after the other
-abbrev pub Take : {L : Type 0} → Telling L → (now : ℕ) → List Turn → (old new : AtRecorder L) → Type 0
+abbrev pub Take : {L : Type 0} → Telling L → (now : ℕ) → List Turn → (old new : RecordedPost L) → Type 0
 Take told now [] old new = new ≡ old
 Take {L} told now (t ∷ ts) old new =
-    (mid : AtRecorder L) × Take told now ts old mid × ServesOnce told now mid.station mid.recorder new.station new.recorder t
+    (mid : RecordedPost L) × Take told now ts old mid × ServesOnce told now mid.station mid.recorder new.station new.recorder t
 
 -- the turns end with the first that no other follows, or with the greatest number of them
 abbrev pub AreAllTurns : List Turn → Type 0
@@ -75,6 +75,6 @@ pub record TakesTurns {L : Type 0} (told : Telling L) (now : ℕ) (p : StationAt
     (trouble : Trouble) : Type 0 where
   pub turns : List Turn
   pub most : length turns ≤ MOST_TURNS
-  pub made : let old : AtRecorder L = record { station = p; recorder = w } in let new : AtRecorder L = record { station = q; recorder = v } in Take told now turns old new
+  pub made : let old : RecordedPost L = record { station = p; recorder = w } in let new : RecordedPost L = record { station = q; recorder = v } in Take told now turns old new
   pub all : AreAllTurns turns
   pub failed : trouble ≡ trouble_in turns

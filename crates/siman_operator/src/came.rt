@@ -4,12 +4,12 @@ ghost use Rattle.std.specs.Prelude.{◌≡◌, ◌++◌, decimal};
 ghost use Rattle.byte_files.specs.Writing.{Writes};
 ghost use Rattle.siman_operator.specs.Explanation.{second_line};
 ghost use Rattle.siman_operator.specs.Receiver.{nobody_text};
-ghost use Rattle.siman_operator.specs.Came.{station_fault_name, at_line, named, told_line, why_text, refused_text, line_text, memory_text, output_text, wants_text, undone_text, failed_text, warned_line, warning_text, told_of, is_lost, wants_memory, is_unwritten, status_of};
+ghost use Rattle.siman_operator.specs.Came.{station_fault_name, at_line, named, result_line, why_text, refused_text, line_text, memory_text, output_text, shortage_text, rejection_text, failed_text, warned_line, warning_text, result_of, is_lost, is_out_of_memory, is_unwritten, status_of};
 
-use crate::explanation::{Explanation, of_bad, of_lost, of_other, of_station, put_second};
+use crate::explanation::{SessionReason, of_bad, of_lost, of_other, of_station, put_second};
 use crate::reason::BadReason;
 use crate::receiver::put_nobody;
-use crate::{LineCame, PrintFault, Undone};
+use crate::{LineResult, PrintFault, Rejection};
 use byte_files::{WriteFailed, put, put_both};
 use itoa::Buffer;
 use siman_lines::LineTrouble;
@@ -21,9 +21,9 @@ use std::io::Write;
 #[derive(Clone, Copy)]
 pub struct Came {
     /// Result from the post.
-    pub line: LineCame,
+    pub line: LineResult,
     /// Why printing of entries stopped, on the first line affected; later lines have `None`.
-    pub silenced: Option<PrintFault>,
+    pub print_stop: Option<PrintFault>,
     /// Site of the station that the session plays.
     pub site: u16,
     /// Application of that station.
@@ -43,22 +43,22 @@ impl Came {
     fn is_lost(self) -> bool
         ensures { result ≡ is_lost self }
     {
-        self.line.done == Err(Undone::Line) || self.line.trouble.line
+        self.line.done == Err(Rejection::Line) || self.line.trouble.line
     }
 
     /// Whether memory ran out.
-    fn wants_memory(self) -> bool
-        ensures { result ≡ wants_memory self }
+    fn is_out_of_memory(self) -> bool
+        ensures { result ≡ is_out_of_memory self }
     {
-        let memory = self.line.done == Err(Undone::Memory) || self.line.trouble.memory;
-        memory || self.silenced == Some(PrintFault::Memory)
+        let memory = self.line.done == Err(Rejection::Memory) || self.line.trouble.memory;
+        memory || self.print_stop == Some(PrintFault::Memory)
     }
 
     /// Whether an entry was not recorded, or not printed since a write failed.
     fn is_unwritten(self) -> bool
         ensures { result ≡ is_unwritten self }
     {
-        self.line.is_over() || self.silenced == Some(PrintFault::Write)
+        self.line.is_over() || self.print_stop == Some(PrintFault::Write)
     }
 
     /// Exit status of the line: 3 if memory ran out, else 2 if anything failed or was not done,
@@ -66,7 +66,7 @@ impl Came {
     pub fn status(self) -> u8
         ensures { result ≡ status_of self }
     {
-        if self.wants_memory() {
+        if self.is_out_of_memory() {
             return 3;
         }
         let failed = self.is_lost() || self.is_unwritten();
@@ -109,7 +109,7 @@ fn put_name<E: Write>(errors: &mut E, name: &str) -> Result<(), WriteFailed>
 
 /// Writes the fault of a line of text: `line N: NAME`.
 fn put_at_line<E: Write>(errors: &mut E, number: u64, name: &str) -> Result<(), WriteFailed>
-    ensures { Writes result (E.contents errors.old) (E.contents errors.new) (told_line number name.now) }
+    ensures { Writes result (E.contents errors.old) (E.contents errors.new) (result_line number name.now) }
 {
     put_number(errors, number)?;
     put_name(errors, name)
@@ -120,9 +120,9 @@ fn put_told<E: Write>(
     errors: &mut E,
     number: u64,
     name: &str,
-    explanation: Option<Explanation>,
+    explanation: Option<SessionReason>,
 ) -> Result<(), WriteFailed>
-    ensures { Writes result (E.contents errors.old) (E.contents errors.new) (told_line number name.now ++ second_line explanation) }
+    ensures { Writes result (E.contents errors.old) (E.contents errors.new) (result_line number name.now ++ second_line explanation) }
 {
     put_at_line(errors, number, name)?;
     put_second(errors, explanation)
@@ -130,18 +130,18 @@ fn put_told<E: Write>(
 
 /// Reports why a line was refused. Writes nothing for failures of the link, the recorder or memory,
 /// which have reports of their own.
-fn tell_why<E: Write>(
+fn put_why_refused<E: Write>(
     errors: &mut E,
     number: u64,
     came: Came,
-    why: Undone,
+    why: Rejection,
 ) -> Result<(), WriteFailed>
     ensures { Writes result (E.contents errors.old) (E.contents errors.new) (why_text number came why) }
 {
     let (site, application) = (came.site, came.application);
     match why {
-        Undone::BadLine => put_told(errors, number, "bad-line", of_bad(came.reason)),
-        Undone::UnknownStation => {
+        Rejection::BadLine => put_told(errors, number, "bad-line", of_bad(came.reason)),
+        Rejection::UnknownStation => {
             put_told(
                 errors,
                 number,
@@ -149,25 +149,25 @@ fn tell_why<E: Write>(
                 of_other(site, application),
             )
         }
-        Undone::Station(fault) => {
+        Rejection::Station(fault) => {
             put_told(errors, number, station_fault_name(fault), of_station(fault))
         }
-        Undone::Line | Undone::Record | Undone::Memory => Ok(()),
+        Rejection::Line | Rejection::Record | Rejection::Memory => Ok(()),
     }
 }
 
 /// Reports why a line was not done, if it was not.
-fn tell_refused<E: Write>(errors: &mut E, number: u64, came: Came) -> Result<(), WriteFailed>
+fn put_refused<E: Write>(errors: &mut E, number: u64, came: Came) -> Result<(), WriteFailed>
     ensures { Writes result (E.contents errors.old) (E.contents errors.new) (refused_text number came came.line.done) }
 {
     match came.line.done {
         Ok(()) => Ok(()),
-        Err(why) => tell_why(errors, number, came, why),
+        Err(why) => put_why_refused(errors, number, came, why),
     }
 }
 
 /// Reports a failed send or receive at a line of text, if `lost`.
-fn tell_lost<E: Write>(
+fn put_lost<E: Write>(
     errors: &mut E,
     number: u64,
     lost: bool,
@@ -182,7 +182,7 @@ fn tell_lost<E: Write>(
 }
 
 /// Reports that memory ran out, if it did.
-fn tell_memory<E: Write>(errors: &mut E, memory: bool) -> Result<(), WriteFailed>
+fn put_memory<E: Write>(errors: &mut E, memory: bool) -> Result<(), WriteFailed>
     ensures { Writes result (E.contents errors.old) (E.contents errors.new) (memory_text memory) }
 {
     if memory {
@@ -192,7 +192,7 @@ fn tell_memory<E: Write>(errors: &mut E, memory: bool) -> Result<(), WriteFailed
 }
 
 /// Reports a failure to record or to print, if `failed`.
-fn tell_output<E: Write>(errors: &mut E, failed: bool) -> Result<(), WriteFailed>
+fn put_output<E: Write>(errors: &mut E, failed: bool) -> Result<(), WriteFailed>
     ensures { Writes result (E.contents errors.old) (E.contents errors.new) (output_text failed) }
 {
     if failed {
@@ -202,27 +202,27 @@ fn tell_output<E: Write>(errors: &mut E, failed: bool) -> Result<(), WriteFailed
 }
 
 /// Reports that memory ran out, and a failure to record or to print, where these happened.
-fn tell_wants<E: Write>(errors: &mut E, memory: bool, failed: bool) -> Result<(), WriteFailed>
-    ensures { Writes result (E.contents errors.old) (E.contents errors.new) (wants_text memory failed) }
+fn put_wants<E: Write>(errors: &mut E, memory: bool, failed: bool) -> Result<(), WriteFailed>
+    ensures { Writes result (E.contents errors.old) (E.contents errors.new) (shortage_text memory failed) }
 {
-    tell_memory(errors, memory)?;
-    tell_output(errors, failed)
+    put_memory(errors, memory)?;
+    put_output(errors, failed)
 }
 
 /// Reports why a line of text was not done, and a failed send or receive.
-fn tell_undone<E: Write>(errors: &mut E, number: u64, came: Came) -> Result<(), WriteFailed>
-    ensures { Writes result (E.contents errors.old) (E.contents errors.new) (undone_text number came) }
+fn put_undone<E: Write>(errors: &mut E, number: u64, came: Came) -> Result<(), WriteFailed>
+    ensures { Writes result (E.contents errors.old) (E.contents errors.new) (rejection_text number came) }
 {
-    tell_refused(errors, number, came)?;
-    tell_lost(errors, number, came.is_lost(), came.trouble)
+    put_refused(errors, number, came)?;
+    put_lost(errors, number, came.is_lost(), came.trouble)
 }
 
 /// Reports all faults of a line of text.
-fn tell_failed<E: Write>(errors: &mut E, number: u64, came: Came) -> Result<(), WriteFailed>
+fn put_failed<E: Write>(errors: &mut E, number: u64, came: Came) -> Result<(), WriteFailed>
     ensures { Writes result (E.contents errors.old) (E.contents errors.new) (failed_text number came) }
 {
-    tell_undone(errors, number, came)?;
-    tell_wants(errors, came.wants_memory(), came.is_unwritten())
+    put_undone(errors, number, came)?;
+    put_wants(errors, came.is_out_of_memory(), came.is_unwritten())
 }
 
 /// Writes the number of a line whose order is for a station that the script lacks, and the address.
@@ -252,7 +252,7 @@ fn put_warning<E: Write>(
 }
 
 /// Writes a warning if the order of a line is for a station that the script lacks.
-fn tell_warning<E: Write>(
+fn put_any_warning<E: Write>(
     errors: &mut E,
     number: u64,
     nobody: Option<(u16, u16)>,
@@ -266,13 +266,13 @@ fn tell_warning<E: Write>(
 }
 
 /// Reports all faults and warnings of a line of text.
-pub(crate) fn tell_came<E: Write>(
+pub(crate) fn put_report<E: Write>(
     errors: &mut E,
     number: u64,
     came: Came,
 ) -> Result<(), WriteFailed>
-    ensures { Writes result (E.contents errors.old) (E.contents errors.new) (told_of number came) }
+    ensures { Writes result (E.contents errors.old) (E.contents errors.new) (result_of number came) }
 {
-    tell_failed(errors, number, came)?;
-    tell_warning(errors, number, came.nobody)
+    put_failed(errors, number, came)?;
+    put_any_warning(errors, number, came.nobody)
 }

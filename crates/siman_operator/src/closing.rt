@@ -9,7 +9,7 @@ use crate::{Post, PrintFault};
 use byte_files::put;
 use exercise_recording::RecordingWriter;
 use siman_lines::Line;
-use siman_print::{Field, Line as Said, Spelling, Value, put_line};
+use siman_print::{Field, PrintedRow as Said, Spelling, Value, put_line};
 use std::alloc::{AllocError, Global};
 use std::io::Write;
 

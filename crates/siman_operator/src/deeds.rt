@@ -4,11 +4,11 @@ ghost use Rattle.std.specs.Prelude.{◌≡◌, ◌≤◌, Some};
 ghost use Rattle.exercise_model.specs.declared.recording.TheConstants.{MOST_ENTRIES};
 ghost use Rattle.siman_lines.specs.AtLines.{OrdersAt, RepeatsAt, TellsAt};
 ghost use Rattle.siman_lines.specs.KeptAtLine.{Keeps};
-ghost use Rattle.siman_operator.specs.Noting.{telling, sent_through};
+ghost use Rattle.siman_operator.specs.Noting.{telling, datagrams_sent};
 ghost use Rattle.siman_operator.specs.Printing.{Printing};
 ghost use Rattle.siman_operator.specs.Deeds.{PostState, PrintsSent, PrintsTurn, ServesOnce, GoesOn};
 
-use crate::noting::NotingLine;
+use crate::logging::TracingLine;
 use crate::printing::EntryPrinter;
 use exercise_model::EntryView;
 use exercise_recording::RecordingWriter;
@@ -23,7 +23,7 @@ use std::io::Write;
 /// entries and the link had sent `sent` datagrams. If the link has sent none since, the datagram is
 /// unknown, and nothing further is printed.
 fn print_sent<L: Line + Drop, W: Write, O: Write>(
-    station: &StationAtLine<NotingLine<L>>,
+    station: &StationAtLine<TracingLine<L>>,
     printer: &mut EntryPrinter,
     recorder: &RecordingWriter<'_, W>,
     out: &mut O,
@@ -40,7 +40,7 @@ fn print_sent<L: Line + Drop, W: Write, O: Write>(
         return;
     }
     if station.line.sent_count() == sent {
-        printer.silence();
+        printer.stop_printing();
         return;
     }
     let entry = EntryView::Sent {
@@ -56,7 +56,7 @@ fn print_sent<L: Line + Drop, W: Write, O: Write>(
 /// datagrams and sent `sent`. If the link has not returned exactly one since, nothing further is
 /// printed.
 fn print_turn<L: Line + Drop, W: Write, O: Write>(
-    station: &StationAtLine<NotingLine<L>>,
+    station: &StationAtLine<TracingLine<L>>,
     printer: &mut EntryPrinter,
     recorder: &RecordingWriter<'_, W>,
     out: &mut O,
@@ -75,7 +75,7 @@ fn print_turn<L: Line + Drop, W: Write, O: Write>(
         return;
     }
     if station.line.received_count().saturating_sub(received) != 1 {
-        printer.silence();
+        printer.stop_printing();
         return;
     }
     let entry = EntryView::Received {
@@ -90,7 +90,7 @@ fn print_turn<L: Line + Drop, W: Write, O: Write>(
 /// Records and sends a new order, as [`order_at`] does, and prints the row of its entry.
 pub(crate) fn order_at_post<L: Line + Drop, W: Write, O: Write>(
     alloc: Global,
-    station: &mut StationAtLine<NotingLine<L>>,
+    station: &mut StationAtLine<TracingLine<L>>,
     printer: &mut EntryPrinter,
     recorder: &mut RecordingWriter<'_, W>,
     out: &mut O,
@@ -113,7 +113,7 @@ pub(crate) fn order_at_post<L: Line + Drop, W: Write, O: Write>(
 /// its entry.
 pub(crate) fn repeat_at_post<L: Line + Drop, W: Write, O: Write>(
     alloc: Global,
-    station: &mut StationAtLine<NotingLine<L>>,
+    station: &mut StationAtLine<TracingLine<L>>,
     printer: &mut EntryPrinter,
     recorder: &mut RecordingWriter<'_, W>,
     out: &mut O,
@@ -133,7 +133,7 @@ pub(crate) fn repeat_at_post<L: Line + Drop, W: Write, O: Write>(
 
 /// Records the state of an entity as told, as [`tell_at`] does, and prints the row of its entry.
 pub(crate) fn tell_at_post<L: Line + Drop, W: Write, O: Write>(
-    station: &StationAtLine<NotingLine<L>>,
+    station: &StationAtLine<TracingLine<L>>,
     printer: &mut EntryPrinter,
     recorder: &mut RecordingWriter<'_, W>,
     out: &mut O,
@@ -160,12 +160,12 @@ pub(crate) fn tell_at_post<L: Line + Drop, W: Write, O: Write>(
 /// Serves a station for one receive, as [`serve`] does, and counts a datagram that it dropped.
 fn serve_counting<L: Line + Drop, W: Write>(
     alloc: Global,
-    station: &mut StationAtLine<NotingLine<L>>,
+    station: &mut StationAtLine<TracingLine<L>>,
     recorder: &mut RecordingWriter<'_, W>,
     now: u64,
 ) -> Result<Served, ServeFault>
     ensures ends { ServesOnce (telling L.strangers) now station.old recorder.old station.new recorder.new result }
-    ensures keeps { Keeps station.old.index station.old.node recorder.old (Some (sent_through station.old.line)) station.new.node recorder.new (Some (sent_through station.new.line)) }
+    ensures keeps { Keeps station.old.index station.old.node recorder.old (Some (datagrams_sent station.old.line)) station.new.node recorder.new (Some (datagrams_sent station.new.line)) }
 {
     let StationAtLine {
         index,
@@ -187,7 +187,7 @@ fn serve_counting<L: Line + Drop, W: Write>(
 /// prints the rows of what it recorded.
 pub(crate) fn serve_at_post<L: Line + Drop, W: Write, O: Write>(
     alloc: Global,
-    station: &mut StationAtLine<NotingLine<L>>,
+    station: &mut StationAtLine<TracingLine<L>>,
     printer: &mut EntryPrinter,
     recorder: &mut RecordingWriter<'_, W>,
     out: &mut O,

@@ -5,7 +5,7 @@ ghost use Rattle.byte_files.specs.Writing.{Writes};
 ghost use Rattle.siman_print.specs.Records.{line_end};
 ghost use Rattle.siman_operator.specs.Explanation.{station_words, explanation_text, second_line, bad_text, alone_text, station_text, lost_text};
 
-use self::Explanation::{Alone, Line, Order, Words};
+use self::SessionReason::{Alone, Line, Order, Words};
 use crate::reason::BadReason;
 use byte_files::{WriteFailed, put, put_both};
 use itoa::Buffer;
@@ -17,7 +17,7 @@ use std::io::Write;
 
 /// Text of a second line.
 #[derive(Clone, Copy)]
-pub(crate) enum Explanation {
+pub(crate) enum SessionReason {
     /// Fixed words.
     Words(&'static str),
     /// Site and application of the only station that the session plays.
@@ -29,7 +29,7 @@ pub(crate) enum Explanation {
 }
 
 /// Explanation of a bad line, if the reason is known.
-pub(crate) fn of_bad(reason: Option<BadReason>) -> Option<Explanation>
+pub(crate) fn of_bad(reason: Option<BadReason>) -> Option<SessionReason>
     ensures { second_line result ≡ bad_text reason }
 {
     match reason {
@@ -40,7 +40,7 @@ pub(crate) fn of_bad(reason: Option<BadReason>) -> Option<Explanation>
 }
 
 /// Explanation that the session plays only the station of this site and application.
-pub(crate) fn of_other(site: u16, application: u16) -> Option<Explanation>
+pub(crate) fn of_other(site: u16, application: u16) -> Option<SessionReason>
     ensures { second_line result ≡ alone_text site application }
 {
     Some(Alone(site, application))
@@ -67,14 +67,14 @@ fn station_words(fault: StationFault) -> &'static str
 }
 
 /// Explanation of a station fault.
-pub(crate) fn of_station(fault: StationFault) -> Option<Explanation>
+pub(crate) fn of_station(fault: StationFault) -> Option<SessionReason>
     ensures { second_line result ≡ station_text fault }
 {
     Some(Words(station_words(fault)))
 }
 
 /// Explanation of a failed call of a link, if it is known.
-pub(crate) fn of_lost(trouble: Option<LineTrouble>) -> Option<Explanation>
+pub(crate) fn of_lost(trouble: Option<LineTrouble>) -> Option<SessionReason>
     ensures { second_line result ≡ lost_text trouble }
 {
     match trouble {
@@ -111,7 +111,7 @@ fn put_alone<E: Write>(errors: &mut E, site: u16, application: u16) -> Result<()
     put_application(errors, application)
 }
 
-fn put_explanation<E: Write>(errors: &mut E, explanation: Explanation) -> Result<(), WriteFailed>
+fn put_explanation<E: Write>(errors: &mut E, explanation: SessionReason) -> Result<(), WriteFailed>
     ensures { Writes result (E.contents errors.old) (E.contents errors.new) (explanation_text explanation) }
 {
     match explanation {
@@ -123,7 +123,7 @@ fn put_explanation<E: Write>(errors: &mut E, explanation: Explanation) -> Result
 }
 
 /// Writes an explanation and a line end.
-fn put_ended<E: Write>(errors: &mut E, explanation: Explanation) -> Result<(), WriteFailed>
+fn put_ended<E: Write>(errors: &mut E, explanation: SessionReason) -> Result<(), WriteFailed>
     ensures { Writes result (E.contents errors.old) (E.contents errors.new) (explanation_text explanation ++ line_end) }
 {
     put_explanation(errors, explanation)?;
@@ -131,7 +131,7 @@ fn put_ended<E: Write>(errors: &mut E, explanation: Explanation) -> Result<(), W
 }
 
 /// Writes an explanation on a line of its own, indented by two blanks.
-fn put_line<E: Write>(errors: &mut E, explanation: Explanation) -> Result<(), WriteFailed>
+fn put_line<E: Write>(errors: &mut E, explanation: SessionReason) -> Result<(), WriteFailed>
     ensures { Writes result (E.contents errors.old) (E.contents errors.new) (codes "  " ++ (explanation_text explanation ++ line_end)) }
 {
     put(errors, b"  ")?;
@@ -141,7 +141,7 @@ fn put_line<E: Write>(errors: &mut E, explanation: Explanation) -> Result<(), Wr
 /// Writes the second line, if any.
 pub(crate) fn put_second<E: Write>(
     errors: &mut E,
-    explanation: Option<Explanation>,
+    explanation: Option<SessionReason>,
 ) -> Result<(), WriteFailed>
     ensures { Writes result (E.contents errors.old) (E.contents errors.new) (second_line explanation) }
 {

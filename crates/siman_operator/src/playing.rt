@@ -8,14 +8,15 @@ ghost use Rattle.siman_operator.specs.declared.reading.TheConstants.{LONGEST_LIN
 ghost use Rattle.siman_operator.specs.Reading.{said_by};
 ghost use Rattle.siman_operator.specs.Reason.{Reasons};
 ghost use Rattle.siman_operator.specs.Receiver.{WarnsOf};
-ghost use Rattle.siman_operator.specs.Sessions.{silenced_by, AtRecorder, PlaysLines};
+ghost use Rattle.siman_operator.specs.Sessions.{print_stop_at, RecordedPost, PlaysLines};
 
 use crate::came::Came;
-use crate::reading::{LONGEST_LINE, handed, read_line};
+use crate::reading::{LONGEST_LINE, line_or_placeholder};
 use crate::reason::reason_of;
-use crate::receiver::warned_of;
-use crate::told::Told;
+use crate::receiver::warned_receiver;
+use crate::session_report::SessionReport;
 use crate::{Post, PrintFault};
+use byte_files::read_line;
 use dis_records::Address;
 use exercise_recording::RecordingWriter;
 use siman_lines::Line;
@@ -36,20 +37,20 @@ pub enum Stop {
 /// Result of the lines of a text.
 #[derive(Clone, Copy)]
 pub(crate) struct Played {
-    pub(crate) told: Told,
+    pub(crate) told: SessionReport,
     pub(crate) stop: Stop,
 }
 
 /// Why printing stopped at this line; `None` if it goes on or had stopped before.
-fn silenced_by(before: Option<PrintFault>, after: Option<PrintFault>) -> Option<PrintFault>
-    ensures { result ≡ silenced_by before after }
+fn print_stop_at(before: Option<PrintFault>, after: Option<PrintFault>) -> Option<PrintFault>
+    ensures { result ≡ print_stop_at before after }
 {
     if before.is_some() { None } else { after }
 }
 
 /// Takes a line in a session of a script with these stations. `held` is the line, or its beginning
 /// if it is longer than the buffer.
-fn take_held<L: Line + Drop, W: Write, O: Write>(
+fn take_buffered_line<L: Line + Drop, W: Write, O: Write>(
     alloc: Global,
     stations: &[Address],
     post: &mut Post<L>,
@@ -58,7 +59,7 @@ fn take_held<L: Line + Drop, W: Write, O: Write>(
     held: &[u8],
 ) -> Came
     ensures takes { TakesLine (telling L.strangers) (said_by held.now) post.old recorder.old post.new recorder.new result.line }
-    ensures silenced { result.silenced ≡ silenced_by post.old.printer.fault post.new.printer.fault }
+    ensures print_stop { result.print_stop ≡ print_stop_at post.old.printer.fault post.new.printer.fault }
     ensures site { result.site ≡ post.old.address.site }
     ensures application { result.application ≡ post.old.address.application }
     ensures reason { Reasons held.now result.line.done result.reason }
@@ -69,15 +70,15 @@ fn take_held<L: Line + Drop, W: Write, O: Write>(
 {
     let before = post.print_fault();
     let own = post.address();
-    let line = post.take_line(alloc, recorder, out, handed(held));
+    let line = post.take_line(alloc, recorder, out, line_or_placeholder(held));
     Came {
         line,
-        silenced: silenced_by(before, post.print_fault()),
+        print_stop: print_stop_at(before, post.print_fault()),
         site: own.site(),
         application: own.application(),
         reason: reason_of(alloc, held, line.done),
         trouble: post.line_trouble(),
-        nobody: warned_of(alloc, stations, held, line.done),
+        nobody: warned_receiver(alloc, stations, held, line.done),
     }
 }
 
@@ -95,14 +96,14 @@ pub(crate) fn play_lines<L: Line + Drop, R: Read, W: Write, O: Write, E: Write>(
     errors: &mut E,
 ) -> Played
     requires { length buffer.old ≡ LONGEST_LINE + 1 }
-    ensures plays { let old : AtRecorder L = record { post = post.old; recorder = recorder.old } in
-        let new : AtRecorder L = record { post = post.new; recorder = recorder.new } in
+    ensures plays { let old : RecordedPost L = record { post = post.old; recorder = recorder.old } in
+        let new : RecordedPost L = record { post = post.new; recorder = recorder.new } in
         PlaysLines stations.now (telling L.strangers) (R.remaining reader.old) old new (E.contents errors.old) (E.contents errors.new) result }
     ensures goes { let old : PostState L = record { station = post.old.station; recorder = recorder.old; exercise = post.old.printer.exercise; printing = record { out = O.contents out.old; fault = post.old.printer.fault } } in
         let new : PostState L = record { station = post.new.station; recorder = recorder.new; exercise = post.new.printer.exercise; printing = record { out = O.contents out.new; fault = post.new.printer.fault } } in
         GoesOn old new }
 {
-    let mut told = Told::nothing();
+    let mut told = SessionReport::nothing();
     for number in 1..u64::MAX {
         let held = match read_line(reader, buffer) {
             Ok(Some(held)) => held,
@@ -119,8 +120,8 @@ pub(crate) fn play_lines<L: Line + Drop, R: Read, W: Write, O: Write, E: Write>(
                 };
             }
         };
-        let came = take_held(alloc, stations, post, recorder, out, &buffer[..held]);
-        told = told.and_came(errors, number, came);
+        let came = take_buffered_line(alloc, stations, post, recorder, out, &buffer[..held]);
+        told = told.and_line(errors, number, came);
         if came.line.is_over() {
             return Played {
                 told,

@@ -3,12 +3,12 @@
 
 ghost use Rattle.std.specs.Prelude.{◌≡◌, None, [], IfOk};
 ghost use Rattle.siman_scripts.specs.Command.{command_of};
-ghost use Rattle.siman_operator.specs.Noting.{telling, sent_through};
+ghost use Rattle.siman_operator.specs.Noting.{telling, datagrams_sent};
 ghost use Rattle.siman_operator.specs.Deeds.{PostState, GoesOn};
 ghost use Rattle.siman_operator.specs.Posts.{IsBegun, is_unrecorded, is_over, worst, TakesLine};
 
-use crate::noting::NotingLine;
-use crate::obeying::{Undone, obey};
+use crate::logging::TracingLine;
+use crate::obeying::{Rejection, obey};
 use crate::printing::{EntryPrinter, PrintFault};
 use crate::turns::{Trouble, take_turns};
 use dis_records::Address;
@@ -22,7 +22,7 @@ use std::io::Write;
 /// shows 0 before the first line that sets it.
 #[derive(Drop)]
 pub struct Post<L: Line + Drop> {
-    station: StationAtLine<NotingLine<L>>,
+    station: StationAtLine<TracingLine<L>>,
     printer: EntryPrinter,
     address: Address,
     clock: u64,
@@ -30,19 +30,19 @@ pub struct Post<L: Line + Drop> {
 
 /// Result of a line of text.
 #[derive(Clone, Copy)]
-pub struct LineCame {
+pub struct LineResult {
     /// Whether the line was done, or why not.
-    pub done: Result<(), Undone>,
+    pub done: Result<(), Rejection>,
     /// What failed in the turns after it. There are no turns if an entry was not recorded before.
     pub trouble: Trouble,
 }
 
-impl LineCame {
+impl LineResult {
     /// Whether an entry was not recorded, so that no further line is to be taken.
     pub fn is_over(self) -> bool
         ensures { result ≡ is_over self }
     {
-        self.done == Err(Undone::Record) || self.trouble.recorder
+        self.done == Err(Rejection::Record) || self.trouble.recorder
     }
 
     /// Exit status of the line: 3 if memory ran out, else 2 if anything failed or was not done,
@@ -50,7 +50,7 @@ impl LineCame {
     pub fn status(self) -> u8
         ensures { result ≡ worst self }
     {
-        if self.done == Err(Undone::Memory) || self.trouble.memory {
+        if self.done == Err(Rejection::Memory) || self.trouble.memory {
             return 3;
         }
         let trouble = self.trouble.line || self.trouble.recorder;
@@ -59,10 +59,10 @@ impl LineCame {
 }
 
 /// Whether an entry was not recorded.
-fn is_unrecorded(done: Result<(), Undone>) -> bool
+fn is_unrecorded(done: Result<(), Rejection>) -> bool
     ensures { result ≡ is_unrecorded done }
 {
-    matches!(done, Err(Undone::Record))
+    matches!(done, Err(Rejection::Record))
 }
 
 impl<L: Line + Drop> Post<L> {
@@ -77,7 +77,7 @@ impl<L: Line + Drop> Post<L> {
         ensures begun { IfOk result (IsBegun exercise address node) }
         ensures line { IfOk result (λ post. post.station.line.line ≡ line) }
     {
-        let line = match NotingLine::over(alloc, line) {
+        let line = match TracingLine::over(alloc, line) {
             Ok(line) => line,
             Err(memory) => {
                 drop(node);
@@ -110,7 +110,7 @@ impl<L: Line + Drop> Post<L> {
         recorder: &mut RecordingWriter<'_, W>,
         out: &mut O,
         line: &[u8],
-    ) -> LineCame
+    ) -> LineResult
         ensures ends { TakesLine (telling L.strangers) (command_of line.now) self.old recorder.old self.new recorder.new result }
         ensures goes { let old : PostState L = record { station = self.old.station; recorder = recorder.old; exercise = self.old.printer.exercise; printing = record { out = O.contents out.old; fault = self.old.printer.fault } } in
             let new : PostState L = record { station = self.new.station; recorder = recorder.new; exercise = self.new.printer.exercise; printing = record { out = O.contents out.new; fault = self.new.printer.fault } } in
@@ -126,14 +126,14 @@ impl<L: Line + Drop> Post<L> {
             alloc, station, printer, recorder, out, *address, clock, line,
         );
         if is_unrecorded(done) {
-            return LineCame {
+            return LineResult {
                 done,
                 trouble: Trouble::none(),
             };
         }
         let now = *clock;
         let trouble = take_turns(alloc, station, printer, recorder, out, now);
-        LineCame { done, trouble }
+        LineResult { done, trouble }
     }
 
     /// Number of datagrams of over 8192 bytes that it dropped; saturates at the greatest `u64`.

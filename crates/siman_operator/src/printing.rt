@@ -97,7 +97,7 @@ impl EntryPrinter {
     }
 
     /// Stops the printing, since an entry is unknown.
-    pub(crate) fn silence(&mut self)
+    pub(crate) fn stop_printing(&mut self)
         ensures exercise { self.new.exercise ≡ self.old.exercise }
         ensures fault { MatchOption self.old.fault (self.new.fault ≡ Some PrintFault.Memory) (λ fault. self.new.fault ≡ Some fault) }
     {

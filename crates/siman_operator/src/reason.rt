@@ -2,7 +2,7 @@
 
 ghost use Rattle.siman_operator.specs.Reason.{IsReason, Reasons};
 
-use crate::Undone;
+use crate::Rejection;
 use crate::reading::LONGEST_LINE;
 use siman_scripts::{CommandReason, reason_of_command};
 use std::alloc::Global;
@@ -30,11 +30,15 @@ fn bad_reason(alloc: Global, held: &[u8]) -> Option<BadReason>
 }
 
 /// Why a line was refused as bad. `None` if it was not, or if memory ran out.
-pub(crate) fn reason_of(alloc: Global, held: &[u8], done: Result<(), Undone>) -> Option<BadReason>
+pub(crate) fn reason_of(
+    alloc: Global,
+    held: &[u8],
+    done: Result<(), Rejection>,
+) -> Option<BadReason>
     ensures { Reasons held.now done result }
 {
     match done {
-        Err(Undone::BadLine) => bad_reason(alloc, held),
+        Err(Rejection::BadLine) => bad_reason(alloc, held),
         _ => None,
     }
 }

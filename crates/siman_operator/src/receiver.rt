@@ -4,14 +4,14 @@ ghost use Rattle.std.specs.Prelude.{◌≡◌, ◌++◌, codes, decimal};
 ghost use Rattle.byte_files.specs.Writing.{Writes};
 ghost use Rattle.siman_print.specs.Records.{line_end};
 ghost use Rattle.siman_operator.specs.Reading.{said_by};
-ghost use Rattle.siman_operator.specs.Receiver.{gets, is_got, missing, nobody_of, WarnsOf, nobody_text};
+ghost use Rattle.siman_operator.specs.Receiver.{gets, is_got, missing, absent_receiver, WarnsOf, nobody_text};
 
-use crate::Undone;
+use crate::Rejection;
 use crate::explanation::put_behind;
-use crate::reading::handed;
+use crate::reading::line_or_placeholder;
 use byte_files::{WriteFailed, put};
 use dis_records::Address;
-use siman_scripts::{Command, Task, read_command};
+use siman_scripts::{Command, StationTask, read_command};
 use std::alloc::Global;
 use std::io::Write;
 
@@ -45,13 +45,13 @@ fn missing(stations: &[Address], site: u16, application: u16) -> Option<(u16, u1
 }
 
 /// Receiver of a line's order, if none of these stations receives it.
-fn nobody_of(stations: &[Address], said: &Option<Command>) -> Option<(u16, u16)>
-    ensures { result ≡ nobody_of stations.now said.now }
+fn absent_receiver(stations: &[Address], said: &Option<Command>) -> Option<(u16, u16)>
+    ensures { result ≡ absent_receiver stations.now said.now }
 {
     match said {
         Some(
             Command::Asks {
-                task: Task::Order(order),
+                task: StationTask::Order(order),
                 ..
             },
         ) => missing(stations, order.target.site, order.target.application),
@@ -61,19 +61,19 @@ fn nobody_of(stations: &[Address], said: &Option<Command>) -> Option<(u16, u16)>
 
 /// Receiver of a line's order, if the line was done and none of these stations receives it. `None`
 /// if memory ran out.
-pub(crate) fn warned_of(
+pub(crate) fn warned_receiver(
     alloc: Global,
     stations: &[Address],
     held: &[u8],
-    done: Result<(), Undone>,
+    done: Result<(), Rejection>,
 ) -> Option<(u16, u16)>
     ensures { WarnsOf stations.now (said_by held.now) done result }
 {
     if done.is_err() {
         return None;
     }
-    match read_command(alloc, handed(held)) {
-        Ok(said) => nobody_of(stations, &said),
+    match read_command(alloc, line_or_placeholder(held)) {
+        Ok(said) => absent_receiver(stations, &said),
         Err(_) => None,
     }
 }

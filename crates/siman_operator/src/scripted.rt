@@ -8,7 +8,7 @@ ghost use Rattle.siman_operator.specs.Scripted.{station_at, addresses_of, SetsUp
 use dis_records::Address;
 use exercise_model::Recording;
 use siman_scripts::{Script, WorldStation};
-use siman_stations::{Beginning, Node, WorldFault, begin_world};
+use siman_stations::{InitialWorld, Node, WorldFault, begin_world};
 use std::alloc::{AllocError, AllocFailed, Global};
 
 /// A configured station of a script, in its initial state.
@@ -105,7 +105,7 @@ fn set_up_one(
 {
     let mut stations = Vec::new(alloc);
     stations.push(station)?;
-    let Beginning {
+    let InitialWorld {
         recording,
         mut nodes,
     } = match begin_world(alloc, exercise, stations) {

@@ -3,13 +3,13 @@
 ghost use Rattle.std.specs.Prelude.{◌≡◌, ◌+◌, length};
 ghost use Rattle.siman_operator.specs.Noting.{telling};
 ghost use Rattle.siman_operator.specs.declared.reading.TheConstants.{LONGEST_LINE};
-ghost use Rattle.siman_operator.specs.Sessions.{AtPost, ClosesAt, EndsSession, Plays};
+ghost use Rattle.siman_operator.specs.Sessions.{PrintedPost, ClosesAt, EndsSession, Plays};
 
 use crate::Post;
 use crate::closing::close;
 use crate::playing::{Played, Stop, play_lines};
 use crate::reading::LONGEST_LINE;
-use crate::told::Told;
+use crate::session_report::SessionReport;
 use dis_records::Address;
 use exercise_recording::RecordingWriter;
 use siman_lines::Line;
@@ -21,10 +21,10 @@ fn close_session<L: Line + Drop, W: Write, O: Write, E: Write>(
     alloc: Global,
     post: &Post<L>,
     recorder: &mut RecordingWriter<'_, W>,
-    told: Told,
+    told: SessionReport,
     out: &mut O,
     errors: &mut E,
-) -> Told
+) -> SessionReport
     ensures { ClosesAt L.strangers post.now recorder.old recorder.new (O.contents out.old) (O.contents out.new) told result (E.contents errors.old) (E.contents errors.new) }
 {
     let closed = close(alloc, post, recorder, out);
@@ -40,7 +40,7 @@ fn end_session<L: Line + Drop, W: Write, O: Write, E: Write>(
     played: Played,
     out: &mut O,
     errors: &mut E,
-) -> Told
+) -> SessionReport
     ensures { EndsSession L.strangers post.now played.stop recorder.old recorder.new (O.contents out.old) (O.contents out.new) played.told result (E.contents errors.old) (E.contents errors.new) }
 {
     let told = played.told;
@@ -78,10 +78,10 @@ pub fn play<L: Line + Drop, R: Read, W: Write, O: Write, E: Write>(
     buffer: &mut [u8],
     out: &mut O,
     errors: &mut E,
-) -> Told
+) -> SessionReport
     requires { length buffer.old ≡ LONGEST_LINE + 1 }
-    ensures { let old : AtPost L = record { post = post.old; recorder = recorder.old; out = O.contents out.old } in
-        let new : AtPost L = record { post = post.new; recorder = recorder.new; out = O.contents out.new } in
+    ensures { let old : PrintedPost L = record { post = post.old; recorder = recorder.old; out = O.contents out.old } in
+        let new : PrintedPost L = record { post = post.new; recorder = recorder.new; out = O.contents out.new } in
         Plays stations.now L.strangers (R.remaining reader.old) old new (E.contents errors.old) (E.contents errors.new) result }
 {
     let played = play_lines(alloc, stations, post, recorder, reader, buffer, out, errors);

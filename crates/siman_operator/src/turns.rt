@@ -3,10 +3,10 @@
 ghost use Rattle.std.specs.Prelude.{◌≡◌, ◌||◌, false};
 ghost use Rattle.siman_operator.specs.Noting.{telling};
 ghost use Rattle.siman_operator.specs.Deeds.{PostState, GoesOn};
-ghost use Rattle.siman_operator.specs.Turns.{is_followed, is_lost, wants_memory, is_unrecorded, TakesTurns};
+ghost use Rattle.siman_operator.specs.Turns.{is_followed, is_lost, is_out_of_memory, is_unrecorded, TakesTurns};
 
 use crate::deeds::serve_at_post;
-use crate::noting::NotingLine;
+use crate::logging::TracingLine;
 use crate::printing::EntryPrinter;
 use exercise_recording::RecordingWriter;
 use siman_lines::{Line, ServeFault, Served, StationAtLine};
@@ -41,7 +41,7 @@ impl Trouble {
 
     /// What failed, after one more turn.
     fn after(self, turn: Result<Served, ServeFault>) -> Trouble
-        ensures { result ≡ record { line = is_lost turn || self.line; memory = wants_memory turn || self.memory; recorder = is_unrecorded turn || self.recorder } }
+        ensures { result ≡ record { line = is_lost turn || self.line; memory = is_out_of_memory turn || self.memory; recorder = is_unrecorded turn || self.recorder } }
     {
         let Trouble {
             line,
@@ -84,7 +84,7 @@ fn is_followed(turn: Result<Served, ServeFault>) -> bool
 /// send fails or memory runs out; ends if an entry is not recorded. Returns what failed.
 pub(crate) fn take_turns<L: Line + Drop, W: Write, O: Write>(
     alloc: Global,
-    station: &mut StationAtLine<NotingLine<L>>,
+    station: &mut StationAtLine<TracingLine<L>>,
     printer: &mut EntryPrinter,
     recorder: &mut RecordingWriter<'_, W>,
     out: &mut O,

@@ -5,7 +5,7 @@ use Rattle.std.proofs.lemmas.Option.{get_or_from_slice_get, same_Some}
 use Rattle.std.specs.Prelude.{is_some}
 use Rattle.exercise_model.specs.Entry.{Entry, Sent, Received, Told}
 use Rattle.exercise_model.specs.Meaning.{meaning}
-use Rattle.siman_outside.specs.Notes.{entry_count, both, nothing_in}
+use Rattle.siman_outside.specs.Notes.{entry_count, both, meaningless_count}
 
 none-left : (n : Option ℕ) → both (Some 0) n ≡ n
 none-left None = refl
@@ -18,33 +18,33 @@ assoc (Some m) (Some n) None = refl
 assoc (Some m) (Some n) (Some k) = ap Some (omega arith)
 
 -- entries behind others
-in-append : (x : ℕ) (es fs : List Entry) → nothing_in x (es ++ fs) ≡ both (nothing_in x es) (nothing_in x fs)
-in-append x [] fs = sym (none-left (nothing_in x fs))
-in-append x (e ∷ es) fs = ap (both (entry_count x e)) (in-append x es fs) ∙ sym (assoc (entry_count x e) (nothing_in x es) (nothing_in x fs))
+in-append : (x : ℕ) (es fs : List Entry) → meaningless_count x (es ++ fs) ≡ both (meaningless_count x es) (meaningless_count x fs)
+in-append x [] fs = sym (none-left (meaningless_count x fs))
+in-append x (e ∷ es) fs = ap (both (entry_count x e)) (in-append x es fs) ∙ sym (assoc (entry_count x e) (meaningless_count x es) (meaningless_count x fs))
 
 longer : (es : List Entry) (i : ℕ) (e : Entry) → i < length es → slice_get es i ≡ Some e → take (i + 1) es ≡ take i es ++ e ∷ []
 longer es i e below there = take_more es i e below ∙ ap (λ (y : Entry). take i es ++ y ∷ []) (get_or_from_slice_get es i e e there)
 
 joined : (x : ℕ) (es : List Entry) (i : ℕ) (e : Entry) → i < length es → slice_get es i ≡ Some e
-    → nothing_in x (take (i + 1) es) ≡ both (nothing_in x (take i es)) (both (entry_count x e) (Some 0))
-joined x es i e below there = ap (nothing_in x) (longer es i e below there) ∙ in-append x (take i es) (e ∷ [])
+    → meaningless_count x (take (i + 1) es) ≡ both (meaningless_count x (take i es)) (both (entry_count x e) (Some 0))
+joined x es i e below there = ap (meaningless_count x) (longer es i e below there) ∙ in-append x (take i es) (e ∷ [])
 
 added : (m n : ℕ) → both (Some m) (both (Some n) (Some 0)) ≡ Some (m + n)
 added m n = ap Some (omega arith)
 
 -- one more entry is counted
 pub one_more : (x : ℕ) (es : List Entry) (i : ℕ) (e : Entry) (m n : ℕ) → i < length es → slice_get es i ≡ Some e
-    → nothing_in x (take i es) ≡ Some m → entry_count x e ≡ Some n → nothing_in x (take (i + 1) es) ≡ Some (m + n)
+    → meaningless_count x (take i es) ≡ Some m → entry_count x e ≡ Some n → meaningless_count x (take (i + 1) es) ≡ Some (m + n)
 one_more x es i e m n below there before count =
     joined x es i e below there ∙ ap (λ (a : Option ℕ). both a (both (entry_count x e) (Some 0))) before ∙ ap (λ (b : Option ℕ). both (Some m) (both b (Some 0))) count ∙ added m n
 
 -- an entry has a datagram that means something
 pub one_means : (x : ℕ) (es : List Entry) (i : ℕ) (e : Entry) (m : ℕ) → i < length es → slice_get es i ≡ Some e
-    → nothing_in x (take i es) ≡ Some m → entry_count x e ≡ None → nothing_in x es ≡ None
+    → meaningless_count x (take i es) ≡ Some m → entry_count x e ≡ None → meaningless_count x es ≡ None
 one_means x es i e m below there before count =
-    let front : nothing_in x (take (i + 1) es) ≡ None = joined x es i e below there ∙ ap (λ (a : Option ℕ). both a (both (entry_count x e) (Some 0))) before ∙ ap
+    let front : meaningless_count x (take (i + 1) es) ≡ None = joined x es i e below there ∙ ap (λ (a : Option ℕ). both a (both (entry_count x e) (Some 0))) before ∙ ap
     (λ (b : Option ℕ). both (Some m) (both b (Some 0))) count in
-    ap (nothing_in x) (sym (take-append-drop (i + 1) es)) ∙ in-append x (take (i + 1) es) (drop (i + 1) es) ∙ ap (λ (a : Option ℕ). both a (nothing_in x (drop (i + 1) es))) front
+    ap (meaningless_count x) (sym (take-append-drop (i + 1) es)) ∙ in-append x (take (i + 1) es) (drop (i + 1) es) ∙ ap (λ (a : Option ℕ). both a (meaningless_count x (drop (i + 1) es))) front
 
 one_at_most : (means : Bool) (n : ℕ) → (if means then None else Some 1) ≡ Some n → n < 2
 one_at_most true n is = absurd cc

@@ -28,8 +28,8 @@ use Rattle.siman_stations.specs.declared.world_fault.WorldFault.TheVariants as w
 use Rattle.siman_outside.specs.declared.place.Place.{Place}
 use Rattle.siman_outside.specs.declared.place.Place.TheVariants as places
 use Rattle.siman_outside.specs.declared.place.Place.TheVariants.{Offset, Line, Move, PieceOffset, PieceStation, Unopened}
-use Rattle.siman_outside.specs.declared.reason.Reason.{Reason}
-use Rattle.siman_outside.specs.declared.reason.Reason.TheVariants.{Missing, Denied, Directory, Other}
+use Rattle.siman_outside.specs.declared.reason.OpenFault.{OpenFault}
+use Rattle.siman_outside.specs.declared.reason.OpenFault.TheVariants.{Missing, Denied, Directory, Other}
 use Rattle.siman_outside.specs.declared.join_limit.JoinLimit.{JoinLimit}
 use Rattle.siman_outside.specs.declared.join_limit.JoinLimit.TheVariants as limits
 use Rattle.siman_outside.specs.declared.fault.Fault.{Fault}
@@ -61,56 +61,56 @@ limit_name limits.Records = codes "records"
 limit_name limits.Size = codes "size"
 
 -- the reason why a file could not be opened, by the kind of the error, and its text
-abbrev pub reason_of : ErrorKind → Reason
+abbrev pub reason_of : ErrorKind → OpenFault
 reason_of NotFound = Missing
 reason_of PermissionDenied = Denied
 reason_of IsADirectory = Directory
 reason_of _ = Other
 
-abbrev pub reason_text : Reason → List ℕ
+abbrev pub reason_text : OpenFault → List ℕ
 reason_text Missing = codes "no such file"
 reason_text Denied = codes "permission denied"
 reason_text Directory = codes "is a directory"
 reason_text Other = codes "cannot be opened"
 
 -- THE TABLE OF FAULTS: subject, name and place of each. A place is the offset of a field in bytes from 0, a line of a script or of hex texts from 1, a move of a world from 0, or a piece by its name; for a file that could not be opened, the reason takes its position.
-abbrev pub told_as : Fault → List ℕ × List ℕ × Option Place
-told_as NotBytePairs = (codes "hex: ", codes "not byte pairs", None)
-told_as (HexLine number) = (codes "hex: ", codes "not byte pairs", Some (Line number))
-told_as Input = (codes "file: ", codes "-", None)
-told_as (File name reason) = (codes "file: ", name.now, Some (Unopened reason))
-told_as Words = (codes "words: ", codes "not UTF-8", None)
-told_as (Recording (recordings.Format f)) = (codes "recording: ", recording_texts.name_of f, Some (Offset (recording_texts.place_of f)))
-told_as (Recording recordings.Read) = (codes "recording: ", codes "read", None)
-told_as (Recording recordings.Memory) = (codes "recording: ", codes "memory", None)
-told_as Already = (codes "recording: ", codes "already", None)
-told_as (Piece (recordings.Format f) name) = (codes "recording: ", recording_texts.name_of f, Some (PieceOffset (recording_texts.place_of f) name))
-told_as (Piece recordings.Read name) = (codes "recording: ", codes "read", Some (places.Piece name))
-told_as (Piece recordings.Memory name) = (codes "recording: ", codes "memory", Some (places.Piece name))
-told_as (OtherExercise name) = (codes "join: ", codes "exercise", Some (places.Piece name))
-told_as (StationTwice site application name) = (codes "join: ", codes "station", Some (PieceStation site application name))
-told_as (Joined limit) = (codes "join: ", limit_name limit, None)
-told_as (Certificate (certificates.Format f)) = (codes "certificate: ", certificate_texts.name_of f, Some (Offset (certificate_texts.place_of f)))
-told_as (Certificate certificates.Read) = (codes "certificate: ", codes "read", None)
-told_as (Certificate certificates.Memory) = (codes "certificate: ", codes "memory", None)
-told_as (Script (scripts.BadLine line) why) = (codes "script: ", codes "bad-line", Some (Line line))
-told_as (Script (scripts.UnknownStation line) why) = (codes "script: ", codes "unknown-station", Some (Line line))
-told_as (Script scripts.Memory why) = (codes "script: ", codes "memory", None)
-told_as (ScriptRead failed) = (codes "script: ", codes "read", None)
-told_as (World worlds.Stations there) = (codes "world: ", codes "stations", None)
-told_as (World (worlds.Move number fault) there) = (codes "world: ", move_fault_name fault, Some (Move number))
-told_as (World worlds.Memory there) = (codes "world: ", codes "memory", None)
-told_as LineFailed = (codes "live: ", codes "line", None)
-told_as (StationWord word) = (codes "station: address ", word.now, None)
-told_as NotInSetup = (codes "station: ", codes "not-in-setup", None)
-told_as (Filter word) = (codes "filter: ", word.now, None)
-told_as (Step word steps) = (codes "filter: ", word.now, None)
-told_as OverLimit = (codes "view: ", codes "over-limit", None)
-told_as ChartOverLimit = (codes "chart: ", codes "over-limit", None)
-told_as Output = (codes "output: ", codes "write", None)
-told_as (SameAs name) = (codes "output: same as ", name.now, None)
-told_as Exists = (codes "output: ", codes "exists", None)
-told_as Memory = ([], codes "memory", None)
+abbrev pub reported_as : Fault → List ℕ × List ℕ × Option Place
+reported_as NotBytePairs = (codes "hex: ", codes "not byte pairs", None)
+reported_as (HexLine number) = (codes "hex: ", codes "not byte pairs", Some (Line number))
+reported_as Input = (codes "file: ", codes "-", None)
+reported_as (File name reason) = (codes "file: ", name.now, Some (Unopened reason))
+reported_as Words = (codes "words: ", codes "not UTF-8", None)
+reported_as (Recording (recordings.Format f)) = (codes "recording: ", recording_texts.name_of f, Some (Offset (recording_texts.place_of f)))
+reported_as (Recording recordings.Read) = (codes "recording: ", codes "read", None)
+reported_as (Recording recordings.Memory) = (codes "recording: ", codes "memory", None)
+reported_as Already = (codes "recording: ", codes "already", None)
+reported_as (Piece (recordings.Format f) name) = (codes "recording: ", recording_texts.name_of f, Some (PieceOffset (recording_texts.place_of f) name))
+reported_as (Piece recordings.Read name) = (codes "recording: ", codes "read", Some (places.Piece name))
+reported_as (Piece recordings.Memory name) = (codes "recording: ", codes "memory", Some (places.Piece name))
+reported_as (OtherExercise name) = (codes "join: ", codes "exercise", Some (places.Piece name))
+reported_as (StationTwice site application name) = (codes "join: ", codes "station", Some (PieceStation site application name))
+reported_as (Joined limit) = (codes "join: ", limit_name limit, None)
+reported_as (Certificate (certificates.Format f)) = (codes "certificate: ", certificate_texts.name_of f, Some (Offset (certificate_texts.place_of f)))
+reported_as (Certificate certificates.Read) = (codes "certificate: ", codes "read", None)
+reported_as (Certificate certificates.Memory) = (codes "certificate: ", codes "memory", None)
+reported_as (Script (scripts.BadLine line) why) = (codes "script: ", codes "bad-line", Some (Line line))
+reported_as (Script (scripts.UnknownStation line) why) = (codes "script: ", codes "unknown-station", Some (Line line))
+reported_as (Script scripts.Memory why) = (codes "script: ", codes "memory", None)
+reported_as (ScriptRead failed) = (codes "script: ", codes "read", None)
+reported_as (World worlds.Stations there) = (codes "world: ", codes "stations", None)
+reported_as (World (worlds.Move number fault) there) = (codes "world: ", move_fault_name fault, Some (Move number))
+reported_as (World worlds.Memory there) = (codes "world: ", codes "memory", None)
+reported_as LineFailed = (codes "live: ", codes "line", None)
+reported_as (StationWord word) = (codes "station: address ", word.now, None)
+reported_as NotInSetup = (codes "station: ", codes "not-in-setup", None)
+reported_as (Filter word) = (codes "filter: ", word.now, None)
+reported_as (Step word steps) = (codes "filter: ", word.now, None)
+reported_as OverLimit = (codes "view: ", codes "over-limit", None)
+reported_as ChartOverLimit = (codes "chart: ", codes "over-limit", None)
+reported_as Output = (codes "output: ", codes "write", None)
+reported_as (SameAs name) = (codes "output: same as ", name.now, None)
+reported_as Exists = (codes "output: ", codes "exists", None)
+reported_as Memory = ([], codes "memory", None)
 
 -- the name of a piece at the end of a line
 abbrev pub piece_words : (name : List ℕ) → List ℕ
@@ -135,7 +135,7 @@ place_text (Some place) = place_words place
 
 -- the line of a fault without and with its line end: SUBJECT: NAME, then the place or the reason
 abbrev pub fault_text : Fault → List ℕ
-fault_text fault = ((told_as fault).0 ++ (told_as fault).1) ++ place_text (told_as fault).2
+fault_text fault = ((reported_as fault).0 ++ (reported_as fault).1) ++ place_text (reported_as fault).2
 
 abbrev pub fault_line : Fault → List ℕ
 fault_line fault = fault_text fault ++ line_end
@@ -146,8 +146,8 @@ fault_status Memory = 3
 fault_status other = 2
 
 -- The fault of an error is `Memory` for lack of memory, else `other`.
-abbrev pub IsToldAs : ErrorKind → (other fault : Fault) → Type 0
-IsToldAs kind other fault = ((kind ≡ OutOfMemory) × (fault ≡ Memory)) ⊎ ((kind ≢ OutOfMemory) × (fault ≡ other))
+abbrev pub IsFaultOf : ErrorKind → (other fault : Fault) → Type 0
+IsFaultOf kind other fault = ((kind ≡ OutOfMemory) × (fault ≡ Memory)) ⊎ ((kind ≢ OutOfMemory) × (fault ≡ other))
 
 -- the fault of a command for the fault of a recording, and of a certificate
 abbrev pub of_recording : RecordingFault → Fault

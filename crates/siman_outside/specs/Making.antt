@@ -4,7 +4,7 @@ use Rattle.std.specs.Io.KnownBytes.{Appends, Keeps}
 use Rattle.byte_files.specs.Writing.{WritesPart}
 use Rattle.std.specs.declared.io.ErrorKind.{ErrorKind}
 use Rattle.std.specs.declared.io.ErrorKind.TheVariants.{AlreadyExists}
-use Rattle.siman_outside.specs.Ending.{IsToldAs}
+use Rattle.siman_outside.specs.Ending.{IsFaultOf}
 use Rattle.siman_outside.specs.declared.fault.Fault.{Fault}
 use Rattle.siman_outside.specs.declared.fault.Fault.TheVariants.{Output, Exists}
 use Rattle.siman_outside.specs.Outside.{Deed, Saved, Makes, Saves, Discards, Stream}
@@ -36,18 +36,18 @@ PutsBlocked list (Ok status) out = (status ≡ 1) × Appends out.old out.new lis
 PutsBlocked list (Err fault) out = (fault ≡ Output) × WritesPart out.old out.new list
 
 -- A file that was not made or not saved is reported as a failed write, or as lack of memory.
-abbrev pub TellsUnmade : ErrorKind → Answered → Stream → Type 0
-TellsUnmade kind answered out = Keeps out.old out.new × ((fault : Fault) × IsToldAs kind Output fault × (answered ≡ Err fault))
+abbrev pub ReportsUnmade : ErrorKind → Answered → Stream → Type 0
+ReportsUnmade kind answered out = Keeps out.old out.new × ((fault : Fault) × IsFaultOf kind Output fault × (answered ≡ Err fault))
 
 -- the fault of a file that was not saved: its name is taken meanwhile, or something else
-abbrev pub unsaved : ErrorKind → Fault
-unsaved AlreadyExists = Exists
-unsaved kind = Output
+abbrev pub saving_fault : ErrorKind → Fault
+saving_fault AlreadyExists = Exists
+saving_fault kind = Output
 
 -- The status is returned if the file was saved.
 abbrev pub AnswersSaved : Saved → (status : ℕ) → Answered → Type 0
 AnswersSaved (Ok x) status answered = answered ≡ Ok status
-AnswersSaved (Err kind) status answered = (fault : Fault) × IsToldAs kind (unsaved kind) fault × (answered ≡ Err fault)
+AnswersSaved (Err kind) status answered = (fault : Fault) × IsFaultOf kind (saving_fault kind) fault × (answered ≡ Err fault)
 
 -- AFTER AN ANSWER THE FILE IS SAVED, with its content, and after a fault it is discarded
 abbrev pub IsSaved : (left : Option (List ℕ)) → (put : Answered) → Deed → Answered → Type 0
@@ -56,7 +56,7 @@ IsSaved left (Err fault) deed answered = (deed ≡ Discards left) × (answered �
 
 -- A FILE IS MADE, which replaces an existing one or not, written and reported as `Puts` says, and then saved or discarded
 abbrev pub MakesFile : (Puts : Answered → (file out : Stream) → Type 0) → (force : Bool) → (name : List ℕ) → List Deed → Answered → Stream → Type 0
-MakesFile Puts force name (Makes made replaces (Err kind) ∷ []) answered out = (made ≡ name) × (replaces ≡ force) × TellsUnmade kind answered out
+MakesFile Puts force name (Makes made replaces (Err kind) ∷ []) answered out = (made ≡ name) × (replaces ≡ force) × ReportsUnmade kind answered out
 MakesFile Puts force name (Makes made replaces (Ok fresh) ∷ deed ∷ []) answered out =
     (made ≡ name) × (replaces ≡ force) × ((left : Option (List ℕ)) × (put : Answered) × (let file : Stream = record { old = fresh; new = left } in Puts put file out) × IsSaved left put deed answered)
 MakesFile Puts force name deeds answered out = ⊥

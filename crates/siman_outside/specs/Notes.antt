@@ -22,9 +22,9 @@ both (Some m) None = None
 both (Some m) (Some n) = Some (m + n)
 
 -- THE NUMBER OF DATAGRAMS OF ENTRIES, if none of them means anything in an exercise
-abbrev pub nothing_in : (exercise : ℕ) → List Entry → Option ℕ
-nothing_in exercise [] = Some 0
-nothing_in exercise (e ∷ es) = both (entry_count exercise e) (nothing_in exercise es)
+abbrev pub meaningless_count : (exercise : ℕ) → List Entry → Option ℕ
+meaningless_count exercise [] = Some 0
+meaningless_count exercise (e ∷ es) = both (entry_count exercise e) (meaningless_count exercise es)
 
 abbrev pub warned : (exercise : ℕ) → Option ℕ → Option Warning
 warned exercise None = None
@@ -32,5 +32,5 @@ warned exercise (Some zero) = None
 warned exercise (Some (suc n)) = Some (NothingMeant (suc n) exercise)
 
 -- THE WARNING OF A RECORDING that has datagrams, none of which means anything in its exercise
-abbrev pub nothing_meant : PlainRecording → Option Warning
-nothing_meant r = warned r.setting.exercise (nothing_in r.setting.exercise r.entries)
+abbrev pub meaningless_warning : PlainRecording → Option Warning
+meaningless_warning r = warned r.setting.exercise (meaningless_count r.setting.exercise r.entries)

@@ -10,11 +10,11 @@ use Rattle.siman_outside.specs.Making.{Answered}
 use Rattle.siman_outside.specs.Outside.{Deed, Opens, Compares, LooksInto, Reads, Stream}
 
 -- the fault of a file that could not be opened: lack of memory, or else `file: NAME: REASON` with the name as it was given
-abbrev pub IsUnopened : List ℕ → ErrorKind → Fault → Type 0
-IsUnopened name kind fault = ((kind ≡ OutOfMemory) × (fault ≡ Memory)) ⊎ ((kind ≢ OutOfMemory) × (fault_text fault ≡ (codes "file: " ++ name) ++ codes ": " ++ reason_text (reason_of kind)))
+abbrev pub IsOpenFault : List ℕ → ErrorKind → Fault → Type 0
+IsOpenFault name kind fault = ((kind ≡ OutOfMemory) × (fault ≡ Memory)) ⊎ ((kind ≢ OutOfMemory) × (fault_text fault ≡ (codes "file: " ++ name) ++ codes ": " ++ reason_text (reason_of kind)))
 
-abbrev pub TellsUnopened : List ℕ → ErrorKind → Answered → Stream → Type 0
-TellsUnopened name kind answered out = Keeps out.old out.new × ((fault : Fault) × IsUnopened name kind fault × (answered ≡ Err fault))
+abbrev pub ReportsUnopened : List ℕ → ErrorKind → Answered → Stream → Type 0
+ReportsUnopened name kind answered out = Keeps out.old out.new × ((fault : Fault) × IsOpenFault name kind fault × (answered ≡ Err fault))
 
 -- the fault of an opened file that is the one to be made: `output: same as NAME` with the name of the opened one as it was given
 abbrev pub IsSame : List ℕ → Fault → Type 0
@@ -26,17 +26,17 @@ bytes_by bytes (Ok file) = Ok (bytes file)
 bytes_by bytes (Err fault) = Err fault
 
 -- A FILE IS OPENED that is not the one to be made; otherwise nothing is read
-abbrev pub OpensApart : (name made : List ℕ) → List Deed → Result (Option (List ℕ)) Fault → Type 0
-OpensApart name made deeds (Ok bytes) = deeds ≡ Opens name (Ok bytes) ∷ Compares made false ∷ []
-OpensApart name made deeds (Err fault) =
-    ((kind : ErrorKind) × (deeds ≡ Opens name (Err kind) ∷ []) × IsUnopened name kind fault)
+abbrev pub OpensInput : (name made : List ℕ) → List Deed → Result (Option (List ℕ)) Fault → Type 0
+OpensInput name made deeds (Ok bytes) = deeds ≡ Opens name (Ok bytes) ∷ Compares made false ∷ []
+OpensInput name made deeds (Err fault) =
+    ((kind : ErrorKind) × (deeds ≡ Opens name (Err kind) ∷ []) × IsOpenFault name kind fault)
     ⊎ ((bytes : Option (List ℕ)) × (deeds ≡ Opens name (Ok bytes) ∷ Compares made true ∷ []) × IsSame name fault)
 
 -- A FILE IS OPENED, a value is read from it, and another file is made of the value; or the fault is returned, of a file that is not opened or cannot be read as such a value
 abbrev pub WorksOn : {A : Type 0} → (Gives : Option (List ℕ) → Result A Fault → Type 0) → (Makes : A → (made : List ℕ) → List Deed → Answered → Stream → Type 0)
     → (name made : List ℕ) → List Deed → Answered → Stream → Type 0
 WorksOn {A} Gives Makes name made deeds answered out =
-    ((fault : Fault) × OpensApart name made deeds (Err fault) × (answered ≡ Err fault) × Keeps out.old out.new)
+    ((fault : Fault) × OpensInput name made deeds (Err fault) × (answered ≡ Err fault) × Keeps out.old out.new)
     ⊎ ((known : Option (List ℕ)) × (fault : Fault) × (deeds ≡ Opens name (Ok known) ∷ Compares made false ∷ Reads known ∷ []) × Gives known (Err fault)
     × (answered ≡ Err fault) × Keeps out.old out.new)
     ⊎ ((known : Option (List ℕ)) × (rest : List Deed) × (a : A) × (deeds ≡ Opens name (Ok known) ∷ Compares made false ∷ Reads known ∷ rest) × Gives known (Ok a)
@@ -55,28 +55,28 @@ Spares force made deeds (Ok x) = deeds ≡ looks_into force made
 Spares force made deeds (Err fault) = (force ≡ false) × (deeds ≡ LooksInto made true ∷ []) × (fault ≡ Exists)
 
 -- A file is opened that is not the one to be made, whose name has no file to replace, or `force` is set.
-abbrev pub opens_spared : (force : Bool) → (name made : List ℕ) → Option (List ℕ) → List Deed
-opens_spared force name made bytes = (Opens name (Ok bytes) ∷ Compares made false ∷ []) ++ looks_into force made
+abbrev pub opening_deeds_if_free : (force : Bool) → (name made : List ℕ) → Option (List ℕ) → List Deed
+opening_deeds_if_free force name made bytes = (Opens name (Ok bytes) ∷ Compares made false ∷ []) ++ looks_into force made
 
-abbrev pub OpensSpared : (force : Bool) → (name made : List ℕ) → List Deed → Result (Option (List ℕ)) Fault → Type 0
-OpensSpared force name made deeds (Ok bytes) = deeds ≡ opens_spared force name made bytes
-OpensSpared force name made deeds (Err fault) =
-    OpensApart name made deeds (Err fault)
+abbrev pub OpensInputIfFree : (force : Bool) → (name made : List ℕ) → List Deed → Result (Option (List ℕ)) Fault → Type 0
+OpensInputIfFree force name made deeds (Ok bytes) = deeds ≡ opening_deeds_if_free force name made bytes
+OpensInputIfFree force name made deeds (Err fault) =
+    OpensInput name made deeds (Err fault)
     ⊎ ((bytes : Option (List ℕ)) × (last : List Deed) × (deeds ≡ (Opens name (Ok bytes) ∷ Compares made false ∷ []) ++ last) × Spares force made last (Err fault))
 
 -- A FILE IS OPENED, a value is read from it, and another file is made of the value, which replaces an existing one or not; or the fault is returned, before anything is read if there is a file to spare
 abbrev pub WorksSparing : {A : Type 0} → (Gives : Option (List ℕ) → Result A Fault → Type 0) → (Makes : A → (force : Bool) → (made : List ℕ) → List Deed → Answered → Stream → Type 0)
     → (force : Bool) → (name made : List ℕ) → List Deed → Answered → Stream → Type 0
 WorksSparing {A} Gives Makes force name made deeds answered out =
-    ((fault : Fault) × OpensSpared force name made deeds (Err fault) × (answered ≡ Err fault) × Keeps out.old out.new)
-    ⊎ ((known : Option (List ℕ)) × (fault : Fault) × (deeds ≡ opens_spared force name made known ++ Reads known ∷ []) × Gives known (Err fault)
+    ((fault : Fault) × OpensInputIfFree force name made deeds (Err fault) × (answered ≡ Err fault) × Keeps out.old out.new)
+    ⊎ ((known : Option (List ℕ)) × (fault : Fault) × (deeds ≡ opening_deeds_if_free force name made known ++ Reads known ∷ []) × Gives known (Err fault)
     × (answered ≡ Err fault) × Keeps out.old out.new)
-    ⊎ ((known : Option (List ℕ)) × (rest : List Deed) × (a : A) × (deeds ≡ opens_spared force name made known ++ Reads known ∷ rest) × Gives known (Ok a)
+    ⊎ ((known : Option (List ℕ)) × (rest : List Deed) × (a : A) × (deeds ≡ opening_deeds_if_free force name made known ++ Reads known ∷ rest) × Gives known (Ok a)
     × Makes a force made rest answered out)
 
 -- Two files are opened, neither of which is the one to be made.
-abbrev pub opens_both : (name other made : List ℕ) → (first second : Option (List ℕ)) → List Deed
-opens_both name other made first second =
+abbrev pub opening_deeds_of_inputs : (name other made : List ℕ) → (first second : Option (List ℕ)) → List Deed
+opening_deeds_of_inputs name other made first second =
     Opens name (Ok first) ∷ Compares made false ∷ Opens other (Ok second) ∷ Compares made false ∷ []
 
 -- the bytes of two opened files, if they are known, or the fault of one that was not opened
@@ -85,28 +85,28 @@ both_by bytes (Ok files) = Ok (bytes files.0, bytes files.1)
 both_by bytes (Err fault) = Err fault
 
 -- BOTH FILES ARE OPENED in the order of the words, neither of which is the one to be made; otherwise nothing is read, and the second is not opened if the first could not be
-abbrev pub OpensBoth : (name other made : List ℕ) → List Deed → Result (Option (List ℕ) × Option (List ℕ)) Fault → Type 0
-OpensBoth name other made deeds (Ok bytes) = deeds ≡ opens_both name other made bytes.0 bytes.1
-OpensBoth name other made deeds (Err fault) =
-    OpensApart name made deeds (Err fault)
-    ⊎ ((first : Option (List ℕ)) × (last : List Deed) × (deeds ≡ (Opens name (Ok first) ∷ Compares made false ∷ []) ++ last) × OpensApart other made last (Err fault))
+abbrev pub OpensInputs : (name other made : List ℕ) → List Deed → Result (Option (List ℕ) × Option (List ℕ)) Fault → Type 0
+OpensInputs name other made deeds (Ok bytes) = deeds ≡ opening_deeds_of_inputs name other made bytes.0 bytes.1
+OpensInputs name other made deeds (Err fault) =
+    OpensInput name made deeds (Err fault)
+    ⊎ ((first : Option (List ℕ)) × (last : List Deed) × (deeds ≡ (Opens name (Ok first) ∷ Compares made false ∷ []) ++ last) × OpensInput other made last (Err fault))
 
 -- Both files are opened, and the name of the one to be made has no file to replace, or `force` is set.
-abbrev pub opens_both_spared : (force : Bool) → (name other made : List ℕ) → (first second : Option (List ℕ)) → List Deed
-opens_both_spared force name other made first second = opens_both name other made first second ++ looks_into force made
+abbrev pub opening_deeds_of_free_inputs : (force : Bool) → (name other made : List ℕ) → (first second : Option (List ℕ)) → List Deed
+opening_deeds_of_free_inputs force name other made first second = opening_deeds_of_inputs name other made first second ++ looks_into force made
 
-abbrev pub OpensBothSpared : (force : Bool) → (name other made : List ℕ) → List Deed → Result (Option (List ℕ) × Option (List ℕ)) Fault → Type 0
-OpensBothSpared force name other made deeds (Ok bytes) = deeds ≡ opens_both_spared force name other made bytes.0 bytes.1
-OpensBothSpared force name other made deeds (Err fault) =
-    OpensBoth name other made deeds (Err fault)
-    ⊎ ((first second : Option (List ℕ)) × (last : List Deed) × (deeds ≡ opens_both name other made first second ++ last) × Spares force made last (Err fault))
+abbrev pub OpensInputsIfFree : (force : Bool) → (name other made : List ℕ) → List Deed → Result (Option (List ℕ) × Option (List ℕ)) Fault → Type 0
+OpensInputsIfFree force name other made deeds (Ok bytes) = deeds ≡ opening_deeds_of_free_inputs force name other made bytes.0 bytes.1
+OpensInputsIfFree force name other made deeds (Err fault) =
+    OpensInputs name other made deeds (Err fault)
+    ⊎ ((first second : Option (List ℕ)) × (last : List Deed) × (deeds ≡ opening_deeds_of_inputs name other made first second ++ last) × Spares force made last (Err fault))
 
 -- TWO FILES ARE OPENED before either is read, a value is read from them, and another file is made of the value; or the fault is returned, as with one file
 abbrev pub WorksOnBoth : {A : Type 0} → (Gives : (first second : Option (List ℕ)) → Result A Fault → Type 0) → (Makes : A → (force : Bool) → (made : List ℕ) → List Deed → Answered → Stream → Type 0)
     → (force : Bool) → (name other made : List ℕ) → List Deed → Answered → Stream → Type 0
 WorksOnBoth {A} Gives Makes force name other made deeds answered out =
-    ((fault : Fault) × OpensBothSpared force name other made deeds (Err fault) × (answered ≡ Err fault) × Keeps out.old out.new)
-    ⊎ ((first second : Option (List ℕ)) × (fault : Fault) × (deeds ≡ opens_both_spared force name other made first second ++ Reads first ∷ Reads second ∷ [])
+    ((fault : Fault) × OpensInputsIfFree force name other made deeds (Err fault) × (answered ≡ Err fault) × Keeps out.old out.new)
+    ⊎ ((first second : Option (List ℕ)) × (fault : Fault) × (deeds ≡ opening_deeds_of_free_inputs force name other made first second ++ Reads first ∷ Reads second ∷ [])
     × Gives first second (Err fault) × (answered ≡ Err fault) × Keeps out.old out.new)
-    ⊎ ((first second : Option (List ℕ)) × (rest : List Deed) × (a : A) × (deeds ≡ opens_both_spared force name other made first second ++ Reads first ∷ Reads second ∷ rest)
+    ⊎ ((first second : Option (List ℕ)) × (rest : List Deed) × (a : A) × (deeds ≡ opening_deeds_of_free_inputs force name other made first second ++ Reads first ∷ Reads second ∷ rest)
     × Gives first second (Ok a) × Makes a force made rest answered out)

@@ -47,19 +47,19 @@ found_by remaining (Err error) = Err (error_kind error)
 abbrev pub Saved : Type 0
 Saved = Result (Unit {0}) ErrorKind
 
-abbrev pub saved_by : Result (Unit {0}) Error → Saved
-saved_by (Ok x) = Ok x
-saved_by (Err error) = Err (error_kind error)
+abbrev pub save_result : Result (Unit {0}) Error → Saved
+save_result (Ok x) = Ok x
+save_result (Err error) = Err (error_kind error)
 
 -- whether a call succeeded, or the error
-abbrev pub had_by : {F : Type 0} → Result F Error → Saved
-had_by (Ok x) = Ok tt
-had_by (Err error) = Err (error_kind error)
+abbrev pub call_result : {F : Type 0} → Result F Error → Saved
+call_result (Ok x) = Ok tt
+call_result (Err error) = Err (error_kind error)
 
 -- the number of items, or the error
-abbrev pub counted_by : {F : Type 0} → Result (Vec F Global) Error → Result ℕ ErrorKind
-counted_by (Ok items) = Ok (length items.items)
-counted_by (Err error) = Err (error_kind error)
+abbrev pub count_result : {F : Type 0} → Result (Vec F Global) Error → Result ℕ ErrorKind
+count_result (Ok items) = Ok (length items.items)
+count_result (Err error) = Err (error_kind error)
 
 pub data Deed : Type 0 where
   -- The file of a name was opened for reading.

@@ -3,7 +3,7 @@
 ghost use Rattle.std.specs.Prelude.{◌≡◌, IfOk, IfErr, string_bytes, map};
 ghost use Rattle.siman_outside.specs.Endpoints.{byte_of, ip_of, port_of, endpoint_of};
 
-use siman_scripts::{number_16, split_once};
+use byte_files::{number_16, split_once};
 
 /// The endpoint of a socket: its IP version 4 address, and its port, from 1 to 65535.
 #[derive(Clone, Copy)]

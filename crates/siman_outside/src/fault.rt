@@ -4,14 +4,14 @@ ghost use Rattle.std.specs.Prelude.{◌≡◌, Some};
 ghost use Rattle.std.specs.IoError.{error_kind};
 ghost use Rattle.byte_files.specs.Writing.{Writes};
 ghost use Rattle.siman_outside.specs.declared.fault.Fault.TheVariants.{Memory};
-ghost use Rattle.siman_outside.specs.Ending.{told_as, place_text, fault_text, fault_line, fault_status, IsToldAs, of_recording, of_convert, of_mend, of_review, of_files, of_script, of_world, of_trial, of_unread_script, of_certificate, Ends};
+ghost use Rattle.siman_outside.specs.Ending.{reported_as, place_text, fault_text, fault_line, fault_status, IsFaultOf, of_recording, of_convert, of_mend, of_review, of_files, of_script, of_world, of_trial, of_unread_script, of_certificate, Ends};
 
 use crate::files_fault::FilesFault;
 use crate::input::{InputFault, Unread};
 use crate::join_limit::JoinLimit;
 use crate::move_place::{MovePlace, move_fault_name};
 use crate::place::{Place, put_place};
-use crate::reason::Reason;
+use crate::reason::OpenFault;
 use crate::trial_fault::TrialFault;
 use byte_files::{WriteFailed, put, put_both};
 use exercise_check::CertificateFault;
@@ -33,7 +33,7 @@ pub enum Fault<'a> {
     /// Standard input could not be read.
     Input,
     /// The file of this name could not be opened, for this reason.
-    File(&'a str, Reason),
+    File(&'a str, OpenFault),
     /// A word of the command line is not UTF-8.
     Words,
     /// The recording could not be read. Lack of memory is `Memory`.
@@ -87,9 +87,9 @@ impl<'a> Fault<'a> {
     /// Subject, name and place of a fault. For a file that could not be opened, the reason takes
     /// the position of the place.
     fn told(self) -> (&'static str, &'a str, Option<Place<'a>>)
-        ensures subject { result.0.now ≡ (told_as self.entry).0 }
-        ensures name { result.1.now ≡ (told_as self.entry).1 }
-        ensures place { result.2 ≡ (told_as self.entry).2 }
+        ensures subject { result.0.now ≡ (reported_as self.entry).0 }
+        ensures name { result.1.now ≡ (reported_as self.entry).1 }
+        ensures place { result.2 ≡ (reported_as self.entry).2 }
     {
         match self {
             Fault::NotBytePairs => ("hex: ", "not byte pairs", None),
@@ -318,7 +318,7 @@ impl From<TrialFault> for Fault<'_> {
 
 /// The fault of an error: `Memory` for lack of memory, else `fault`.
 pub fn of_error<'a>(error: &io::Error, fault: Fault<'a>) -> Fault<'a>
-    ensures { IsToldAs (error_kind error.now) fault.entry result }
+    ensures { IsFaultOf (error_kind error.now) fault.entry result }
 {
     if error.kind() == ErrorKind::OutOfMemory {
         return Fault::Memory;
@@ -337,7 +337,7 @@ pub struct Ended {
 }
 
 /// Writes a place, if there is a place.
-fn tell_place<E: Write>(place: Option<Place<'_>>, errors: &mut E) -> Result<(), WriteFailed>
+fn put_any_place<E: Write>(place: Option<Place<'_>>, errors: &mut E) -> Result<(), WriteFailed>
     ensures { Writes result (E.contents errors.old) (E.contents errors.new) (place_text place.entry) }
 {
     match place {
@@ -347,19 +347,19 @@ fn tell_place<E: Write>(place: Option<Place<'_>>, errors: &mut E) -> Result<(), 
 }
 
 /// Writes the line of a fault without its line end.
-fn tell_text<E: Write>(fault: Fault<'_>, errors: &mut E) -> Result<(), WriteFailed>
+fn put_fault_text<E: Write>(fault: Fault<'_>, errors: &mut E) -> Result<(), WriteFailed>
     ensures { Writes result (E.contents errors.old) (E.contents errors.new) (fault_text fault.entry) }
 {
     let (subject, name, place) = fault.told();
     put_both(errors, subject.as_bytes(), name.as_bytes())?;
-    tell_place(place, errors)
+    put_any_place(place, errors)
 }
 
 /// Writes the line of a fault.
 pub fn tell<E: Write>(fault: Fault<'_>, errors: &mut E) -> Result<(), WriteFailed>
     ensures { Writes result (E.contents errors.old) (E.contents errors.new) (fault_line fault.entry) }
 {
-    tell_text(fault, errors)?;
+    put_fault_text(fault, errors)?;
     put(errors, b"\n")
 }
 

@@ -5,7 +5,7 @@ ghost use Rattle.std.specs.IoError.{error_kind};
 ghost use Rattle.std.specs.List.{All};
 ghost use Rattle.siman_outside.specs.declared.fault.Fault.{Fault};
 ghost use Rattle.siman_outside.specs.Outside.{Deed, Found, Adds, WasHeld, Stream};
-ghost use Rattle.siman_outside.specs.Making.{SaysSettled, PutsBlocked, unsaved, IsSaved, MakesFile};
+ghost use Rattle.siman_outside.specs.Making.{SaysSettled, PutsBlocked, saving_fault, IsSaved, MakesFile};
 
 use crate::fault::{Fault, of_error};
 use crate::outside::Outside;
@@ -33,7 +33,7 @@ pub trait Making {
 }
 
 /// Flushes a file, so that it survives a power loss, and then writes a line.
-pub fn settle_and_say<F: Write, W: Write>(
+pub fn flush_and_print<F: Write, W: Write>(
     file: &mut F,
     line: &str,
     out: &mut W,
@@ -52,7 +52,7 @@ pub fn settle_and_say<F: Write, W: Write>(
 }
 
 /// Writes the answer where there is nothing to make, a blocked list, and returns status 1.
-pub fn put_stuck<W: Write>(list: &str, out: &mut W) -> Result<u8, Fault<'static>>
+pub fn put_blocked_answer<W: Write>(list: &str, out: &mut W) -> Result<u8, Fault<'static>>
     ensures { let out : Stream = record { old = W.contents out.old; new = W.contents out.new } in
         PutsBlocked list.now result out }
 {
@@ -63,8 +63,8 @@ pub fn put_stuck<W: Write>(list: &str, out: &mut W) -> Result<u8, Fault<'static>
 }
 
 /// The fault of a file that was not saved: `Exists` if its name was taken meanwhile, else `Output`.
-fn unsaved(error: &io::Error) -> Fault<'static>
-    ensures { result ≡ unsaved (error_kind error.now) }
+fn saving_fault(error: &io::Error) -> Fault<'static>
+    ensures { result ≡ saving_fault (error_kind error.now) }
 {
     match error.kind() {
         ErrorKind::AlreadyExists => Fault::Exists,
@@ -89,7 +89,7 @@ fn save_or_discard<O: Outside>(
     };
     match outside.save(file) {
         Ok(()) => Ok(status),
-        Err(error) => Err(of_error(&error, unsaved(&error))),
+        Err(error) => Err(of_error(&error, saving_fault(&error))),
     }
 }
 

@@ -2,7 +2,7 @@
 
 ghost use Rattle.std.specs.Prelude.{◌≡◌};
 ghost use Rattle.exercise_model.specs.Held.{shown};
-ghost use Rattle.siman_outside.specs.Notes.{datagram_count, entry_count, nothing_in, nothing_meant};
+ghost use Rattle.siman_outside.specs.Notes.{datagram_count, entry_count, meaningless_count, meaningless_warning};
 
 use exercise_model::{EntryView, ExerciseLog, meaning_view};
 
@@ -34,7 +34,7 @@ pub struct Notes {
 impl Notes {
     ghost use Rattle.std.specs.Prelude.{◌≡◌, None};
     ghost use Rattle.std.specs.Option.{option_or};
-    ghost use Rattle.siman_outside.specs.Notes.{nothing_meant};
+    ghost use Rattle.siman_outside.specs.Notes.{meaningless_warning};
 
     /// No notes.
     pub fn nothing() -> Notes
@@ -55,9 +55,9 @@ impl Notes {
     /// Notes the warning that a recording has datagrams and none means anything in its exercise, if
     /// that is so.
     pub fn note_recording<L: ExerciseLog>(&mut self, log: &L)
-        ensures { self.new.warning ≡ option_or self.old.warning (nothing_meant (L.recording log.now)) }
+        ensures { self.new.warning ≡ option_or self.old.warning (meaningless_warning (L.recording log.now)) }
     {
-        self.note(nothing_meant(log));
+        self.note(meaningless_warning(log));
     }
 }
 
@@ -85,8 +85,8 @@ fn entry_count(exercise: u8, entry: EntryView<'_>) -> Option<usize>
 }
 
 /// Number of datagrams of a recording, if none of them means anything in its exercise; else `None`.
-fn nothing_in<L: ExerciseLog>(log: &L) -> Option<usize>
-    ensures { let r = L.recording log.now in result ≡ nothing_in r.setting.exercise r.entries }
+fn meaningless_count<L: ExerciseLog>(log: &L) -> Option<usize>
+    ensures { let r = L.recording log.now in result ≡ meaningless_count r.setting.exercise r.entries }
 {
     let exercise = log.exercise();
     let mut datagrams = 0;
@@ -100,10 +100,10 @@ fn nothing_in<L: ExerciseLog>(log: &L) -> Option<usize>
 }
 
 /// The warning of a recording that has datagrams, none of which means anything in its exercise.
-fn nothing_meant<L: ExerciseLog>(log: &L) -> Option<Warning>
-    ensures { result ≡ nothing_meant (L.recording log.now) }
+fn meaningless_warning<L: ExerciseLog>(log: &L) -> Option<Warning>
+    ensures { result ≡ meaningless_warning (L.recording log.now) }
 {
-    match nothing_in(log) {
+    match meaningless_count(log) {
         None | Some(0) => None,
         Some(datagrams) => Some(Warning::NothingMeant {
             datagrams: datagrams as u64,

@@ -4,7 +4,7 @@ ghost use Rattle.std.specs.Prelude.{◌≡◌, ℕ, List, Option};
 ghost use Rattle.std.specs.IoError.{error_kind};
 ghost use Rattle.std.specs.List.{All};
 ghost use Rattle.siman_outside.specs.Outside.{Deed, Found, Adds, WasHeld};
-ghost use Rattle.siman_outside.specs.Opening.{IsUnopened, OpensApart, OpensBoth, Spares, OpensSpared, OpensBothSpared, bytes_by, both_by};
+ghost use Rattle.siman_outside.specs.Opening.{IsOpenFault, OpensInput, OpensInputs, Spares, OpensInputIfFree, OpensInputsIfFree, bytes_by, both_by};
 
 use crate::fault::Fault;
 use crate::outside::Outside;
@@ -14,8 +14,8 @@ use std::io::ErrorKind;
 
 /// The fault of a file that could not be opened: `Memory` for lack of memory, else `File` with its
 /// name and the reason.
-pub fn unopened<'a>(name: &'a str, error: &io::Error) -> Fault<'a>
-    ensures { IsUnopened name.now (error_kind error.now) result }
+pub fn open_fault<'a>(name: &'a str, error: &io::Error) -> Fault<'a>
+    ensures { IsOpenFault name.now (error_kind error.now) result }
 {
     if error.kind() == ErrorKind::OutOfMemory {
         return Fault::Memory;
@@ -24,11 +24,11 @@ pub fn unopened<'a>(name: &'a str, error: &io::Error) -> Fault<'a>
 }
 
 /// Opens the file of the first name. `SameAs` if it is the file to be made under the second name.
-pub fn open_apart<'a, O: Outside>(
+pub fn open_input<'a, O: Outside>(
     names: (&'a str, &'a str),
     outside: &mut O,
 ) -> Result<O::Opened, Fault<'a>>
-    ensures { (deeds : List Deed) × Adds (O.deeds outside.old) (O.deeds outside.new) deeds × All (WasHeld (O.holds outside.old)) deeds × OpensApart names.entry.0.now names.entry.1.now deeds (bytes_by O.bytes result) × (O.holds outside.new ≡ O.holds outside.old) }
+    ensures { (deeds : List Deed) × Adds (O.deeds outside.old) (O.deeds outside.new) deeds × All (WasHeld (O.holds outside.old)) deeds × OpensInput names.entry.0.now names.entry.1.now deeds (bytes_by O.bytes result) × (O.holds outside.new ≡ O.holds outside.old) }
 {
     let (name, made) = names;
     match outside.open(name) {
@@ -38,21 +38,21 @@ pub fn open_apart<'a, O: Outside>(
             }
             Ok(file)
         }
-        Err(error) => Err(unopened(name, &error)),
+        Err(error) => Err(open_fault(name, &error)),
     }
 }
 
 /// Opens two files in the order of their names. `SameAs` if either is the file to be made.
-fn open_both<'a, O: Outside>(
+fn open_inputs<'a, O: Outside>(
     names: (&'a str, &'a str),
     made: &'a str,
     outside: &mut O,
 ) -> Result<(O::Opened, O::Opened), Fault<'a>>
-    ensures { (deeds : List Deed) × Adds (O.deeds outside.old) (O.deeds outside.new) deeds × All (WasHeld (O.holds outside.old)) deeds × OpensBoth names.entry.0.now names.entry.1.now made.now deeds (both_by O.bytes result) }
+    ensures { (deeds : List Deed) × Adds (O.deeds outside.old) (O.deeds outside.new) deeds × All (WasHeld (O.holds outside.old)) deeds × OpensInputs names.entry.0.now names.entry.1.now made.now deeds (both_by O.bytes result) }
 {
     let (name, other) = names;
-    let first = open_apart((name, made), outside)?;
-    let second = open_apart((other, made), outside)?;
+    let first = open_input((name, made), outside)?;
+    let second = open_input((other, made), outside)?;
     Ok((first, second))
 }
 
@@ -72,29 +72,29 @@ pub fn spare<O: Outside>(name: &str, force: bool, outside: &mut O) -> Result<(),
 
 /// Opens the file of the first name. `SameAs` if it is the file to be made under the second name;
 /// `Exists` if that name has a file to replace, unless `force` is set.
-pub fn open_spared<'a, O: Outside>(
+pub fn open_input_if_free<'a, O: Outside>(
     names: (&'a str, &'a str),
     force: bool,
     outside: &mut O,
 ) -> Result<O::Opened, Fault<'a>>
-    ensures { (deeds : List Deed) × Adds (O.deeds outside.old) (O.deeds outside.new) deeds × All (WasHeld (O.holds outside.old)) deeds × OpensSpared force names.entry.0.now names.entry.1.now deeds (bytes_by O.bytes result) }
+    ensures { (deeds : List Deed) × Adds (O.deeds outside.old) (O.deeds outside.new) deeds × All (WasHeld (O.holds outside.old)) deeds × OpensInputIfFree force names.entry.0.now names.entry.1.now deeds (bytes_by O.bytes result) }
 {
-    let file = open_apart(names, outside)?;
+    let file = open_input(names, outside)?;
     spare(names.1, force, outside)?;
     Ok(file)
 }
 
 /// Opens two files in the order of their names. `SameAs` if either is the file to be made; `Exists`
 /// if the name of that has a file to replace, unless `force` is set.
-pub fn open_both_spared<'a, O: Outside>(
+pub fn open_inputs_if_free<'a, O: Outside>(
     names: (&'a str, &'a str),
     made: &'a str,
     force: bool,
     outside: &mut O,
 ) -> Result<(O::Opened, O::Opened), Fault<'a>>
-    ensures { (deeds : List Deed) × Adds (O.deeds outside.old) (O.deeds outside.new) deeds × All (WasHeld (O.holds outside.old)) deeds × OpensBothSpared force names.entry.0.now names.entry.1.now made.now deeds (both_by O.bytes result) }
+    ensures { (deeds : List Deed) × Adds (O.deeds outside.old) (O.deeds outside.new) deeds × All (WasHeld (O.holds outside.old)) deeds × OpensInputsIfFree force names.entry.0.now names.entry.1.now made.now deeds (both_by O.bytes result) }
 {
-    let files = open_both(names, made, outside)?;
+    let files = open_inputs(names, made, outside)?;
     spare(made, force, outside)?;
     Ok(files)
 }

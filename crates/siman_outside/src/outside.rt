@@ -13,7 +13,7 @@ use std::io::{Read, Write};
 pub trait Outside {
     ghost use Rattle.std.specs.Prelude.{◌≡◌, ◌∷◌, [], ℕ, List, Option, Some, None, IfOk, slice_get};
     ghost use Rattle.siman_lines.specs.Calls.{IsUnused};
-    ghost use Rattle.siman_outside.specs.Outside.{Found, Deed, Opens, Compares, Reads, LooksInto, Makes, Saves, Discards, LooksFor, Lines, Binds, Creates, Leaves, found_by, saved_by, counted_by, had_by, Adds, IsHeld, IsFresh};
+    ghost use Rattle.siman_outside.specs.Outside.{Found, Deed, Opens, Compares, Reads, LooksInto, Makes, Saves, Discards, LooksFor, Lines, Binds, Creates, Leaves, found_by, save_result, count_result, call_result, Adds, IsHeld, IsFresh};
 
     /// A file opened for reading, of which nothing was read yet.
     type Opened: Drop;
@@ -69,7 +69,7 @@ pub trait Outside {
     /// Saves a made file: it takes its name, in one step, or the file there is unchanged.
     /// `AlreadyExists` if the file there must not be replaced.
     fn save(&mut self, file: Self::Made) -> io::Result<()>
-        ensures done { Adds (deeds self.old) (deeds self.new) (Saves (Self.Made.contents file) (saved_by result) ∷ []) };
+        ensures done { Adds (deeds self.old) (deeds self.new) (Saves (Self.Made.contents file) (save_result result) ∷ []) };
 
     /// Discards a made file: the file under its name is unchanged.
     fn discard(&mut self, file: Self::Made)
@@ -92,7 +92,7 @@ pub trait Outside {
     /// The links of `stations` stations, each of which sends to all others, and none of which was
     /// used. No file is opened or made.
     fn lines(&mut self, alloc: Global, stations: usize) -> io::Result<Vec<Self::Line>>
-        ensures done { Adds (deeds self.old) (deeds self.new) (Lines stations (counted_by result) ∷ []) }
+        ensures done { Adds (deeds self.old) (deeds self.new) (Lines stations (count_result result) ∷ []) }
         ensures unused { IfOk result (λ lines. (number : ℕ) (l : Self.Line) → slice_get lines.items number ≡ Some l → IsUnused (Self.Line.sent l)) };
 
     /// The link of one station: a socket bound to `bind` that may broadcast. It sends to each of
@@ -104,7 +104,7 @@ pub trait Outside {
         peers: &[Endpoint],
         anyone: bool,
     ) -> io::Result<Self::Line>
-        ensures done { Adds (deeds self.old) (deeds self.new) (Binds bind peers.now anyone (had_by result) ∷ []) };
+        ensures done { Adds (deeds self.old) (deeds self.new) (Binds bind peers.now anyone (call_result result) ∷ []) };
 
     /// Details of the calls so far that explain a fault. No contract speaks of them: they are the
     /// system's own reports.

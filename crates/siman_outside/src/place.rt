@@ -4,7 +4,7 @@ ghost use Rattle.std.specs.Prelude.{◌++◌, decimal, Some};
 ghost use Rattle.byte_files.specs.Writing.{Writes};
 ghost use Rattle.siman_outside.specs.Ending.{piece_words, station_words, place_words};
 
-use crate::reason::Reason;
+use crate::reason::OpenFault;
 use byte_files::{WriteFailed, put_both};
 use itoa::Buffer;
 use std::fmt;
@@ -26,7 +26,7 @@ pub(crate) enum Place<'a> {
     /// The station of this site and application, in the piece of this name.
     PieceStation(u16, u16, &'a str),
     /// No place, but the reason why a file could not be opened.
-    Unopened(Reason),
+    Unopened(OpenFault),
 }
 
 /// ` at OFFSET`, ` at line N` or ` at move N`; of a piece ` in NAME`, ` at OFFSET in NAME` or

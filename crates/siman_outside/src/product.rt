@@ -8,7 +8,7 @@ ghost use Rattle.siman_outside.specs.Opening.{WorksSparing};
 
 use crate::fault::Fault;
 use crate::notes::Notes;
-use crate::opening::open_spared;
+use crate::opening::open_input_if_free;
 use crate::outside::Outside;
 use std::alloc::Global;
 use std::io::{Read, Write};
@@ -56,7 +56,7 @@ pub fn make_of_file<'a, P: Product, O: Outside, W: Write>(
     ensures { let out : Stream = record { old = W.contents out.old; new = W.contents out.new } in
         (deeds : List Deed) × Adds (O.deeds outside.old) (O.deeds outside.new) deeds × All (WasHeld (O.holds outside.old)) deeds × WorksSparing P.reads P.makes force names.entry.0.now names.entry.1.now deeds result out }
 {
-    match open_spared(names, force, outside) {
+    match open_input_if_free(names, force, outside) {
         Ok(opened) => match P::read(alloc, outside.read(opened), notes) {
             Ok(product) => product.make(alloc, names.1, force, outside, out),
             Err(fault) => Err(fault),

@@ -7,7 +7,7 @@ use std::io::ErrorKind;
 
 /// Why a file could not be opened.
 #[derive(Clone, Copy)]
-pub enum Reason {
+pub enum OpenFault {
     /// No file has the name.
     Missing,
     /// The user may not read it.
@@ -18,28 +18,28 @@ pub enum Reason {
     Other,
 }
 
-impl Reason {
+impl OpenFault {
     /// The text of the reason, as the line of the fault has it.
     pub(crate) fn name(self) -> &'static str
         ensures { result.now ≡ reason_text self }
     {
         match self {
-            Reason::Missing => "no such file",
-            Reason::Denied => "permission denied",
-            Reason::Directory => "is a directory",
-            Reason::Other => "cannot be opened",
+            OpenFault::Missing => "no such file",
+            OpenFault::Denied => "permission denied",
+            OpenFault::Directory => "is a directory",
+            OpenFault::Other => "cannot be opened",
         }
     }
 }
 
 /// The reason for a kind of error.
-pub(crate) fn reason_of(kind: ErrorKind) -> Reason
+pub(crate) fn reason_of(kind: ErrorKind) -> OpenFault
     ensures { result ≡ reason_of kind }
 {
     match kind {
-        ErrorKind::NotFound => Reason::Missing,
-        ErrorKind::PermissionDenied => Reason::Denied,
-        ErrorKind::IsADirectory => Reason::Directory,
-        _ => Reason::Other,
+        ErrorKind::NotFound => OpenFault::Missing,
+        ErrorKind::PermissionDenied => OpenFault::Denied,
+        ErrorKind::IsADirectory => OpenFault::Directory,
+        _ => OpenFault::Other,
     }
 }

@@ -8,7 +8,7 @@ ghost use Rattle.siman_outside.specs.Saying.{SaysOfFile, SaysOfFiles};
 
 use crate::fault::Fault;
 use crate::notes::Notes;
-use crate::opening::unopened;
+use crate::opening::open_fault;
 use crate::outside::Outside;
 use std::alloc::Global;
 use std::io::{Read, Write};
@@ -65,7 +65,7 @@ pub fn say_of_file<'a, C: OfFile, O: Outside, W: Write>(
             let file = outside.read(opened);
             command.say(alloc, file, out, notes)
         }
-        Err(error) => Err(unopened(name, &error)),
+        Err(error) => Err(open_fault(name, &error)),
     }
 }
 
@@ -84,7 +84,7 @@ pub fn say_of_files<'a, C: OfFiles, O: Outside, W: Write>(
     let (name, other) = names;
     let first = match outside.open(name) {
         Ok(opened) => opened,
-        Err(error) => return Err(unopened(name, &error)),
+        Err(error) => return Err(open_fault(name, &error)),
     };
     match outside.open(other) {
         Ok(second) => {
@@ -92,6 +92,6 @@ pub fn say_of_files<'a, C: OfFiles, O: Outside, W: Write>(
             let second = outside.read(second);
             command.say(alloc, first, second, out, notes)
         }
-        Err(error) => Err(unopened(other, &error)),
+        Err(error) => Err(open_fault(other, &error)),
     }
 }

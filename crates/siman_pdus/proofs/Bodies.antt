@@ -6,7 +6,7 @@ use Rattle.dis_records.specs.declared.kind.Kind.{Kind}
 use Rattle.dis_records.specs.declared.kind.Kind.TheVariants as kinds
 use Rattle.dis_records.specs.declared.clock_time.ClockTime.{ClockTime}
 use Rattle.dis_records.specs.declared.datum.FixedDatum.{FixedDatum}
-use Rattle.dis_records.specs.Layout.{StandAt, size, total, spelled_number}
+use Rattle.dis_records.specs.Layout.{ArePlacedAt, size, total, spelled_number}
 use Rattle.dis_records.specs.Datum.{Datum, canonical, fixed_layouts, variable_layouts, id_layouts}
 use Rattle.dis_records.specs.Records.{fixed_at, variable_at, variable_sizes, ids_at}
 use Rattle.dis_records.specs.Views.{DatumsFit, IdsFit, variable_start, ids_start, shown_datums, shown_ids}
@@ -34,7 +34,7 @@ datums_fit counts b le =
 
 -- what is read of datums stands there
 pub datums_stand : (counts : ℕ) (b : List ℕ)
-    → StandAt (datums_layout (datums_at counts b)) counts b × (size (datums_layout (datums_at counts b)) ≡ 8 + total (datum_sizes counts b))
+    → ArePlacedAt (datums_layout (datums_at counts b)) counts b × (size (datums_layout (datums_at counts b)) ≡ 8 + total (datum_sizes counts b))
 unfolding shown_datums
 datums_stand counts b =
     let m = spelled_number w32 counts b in
@@ -49,8 +49,8 @@ datums_stand counts b =
     let first : counts + 8 ≡ counts + 4 + 4 = omega arith in
     let second : start ≡ counts + 8 + size (fixed_layouts fixed) = omega (arith, fixed_size) in
     let both = join (fixed_layouts fixed) (variable_layouts variable) (counts + 8) b (fixed_stand m (counts + 8) b)
-    (subst (λ (k : ℕ). StandAt (variable_layouts variable) k b) second records.0) in (
-      (fixed_count, (variable_count, subst (λ (k : ℕ). StandAt (fixed_layouts fixed ++ variable_layouts variable) k b) first both)),
+    (subst (λ (k : ℕ). ArePlacedAt (variable_layouts variable) k b) second records.0) in (
+      (fixed_count, (variable_count, subst (λ (k : ℕ). ArePlacedAt (fixed_layouts fixed ++ variable_layouts variable) k b) first both)),
       omega (arith, size-append (fixed_layouts fixed) (variable_layouts variable), fixed_size, records.1, total-datum_sizes counts b),
     )
 
@@ -59,7 +59,7 @@ same_datums : (d : DatumLists) (fixed : List FixedDatum) (variable : List Datum)
 same_datums d fixed variable p q = rw (← p, ← q) refl
 
 -- datums that stand there are read
-pub datums_again : (d : DatumLists) (counts : ℕ) (b : List ℕ) → StandAt (datums_layout d) counts b
+pub datums_again : (d : DatumLists) (counts : ℕ) (b : List ℕ) → ArePlacedAt (datums_layout d) counts b
     → (d ≡ datums_at counts b) × (size (datums_layout d) ≡ 8 + total (datum_sizes counts b))
 unfolding shown_datums
 datums_again d counts b stand =
@@ -69,11 +69,11 @@ datums_again d counts b stand =
     let variable_count : length d.variable ≡ n = stand.1.0 in
     let first : counts + 4 + 4 ≡ counts + 8 = omega arith in
     let both = split (fixed_layouts d.fixed) (variable_layouts d.variable) (counts + 8) b
-    (subst (λ (k : ℕ). StandAt (fixed_layouts d.fixed ++ variable_layouts d.variable) k b) first stand.1.1) in
+    (subst (λ (k : ℕ). ArePlacedAt (fixed_layouts d.fixed ++ variable_layouts d.variable) k b) first stand.1.1) in
     let fixed_size : size (fixed_layouts d.fixed) ≡ 8 * m = omega (arith, size-fixed_layouts d.fixed, fixed_count) in
     let second : counts + 8 + size (fixed_layouts d.fixed) ≡ variable_start counts b = omega (arith, fixed_size) in
     let fixed = fixed_is d.fixed (counts + 8) b both.0 in
-    let variable = variable_is d.variable (variable_start counts b) b (subst (λ (k : ℕ). StandAt (variable_layouts d.variable) k b) second both.1) in (
+    let variable = variable_is d.variable (variable_start counts b) b (subst (λ (k : ℕ). ArePlacedAt (variable_layouts d.variable) k b) second both.1) in (
       same_datums d (fixed_at m (counts + 8) b) (map canonical (variable_at n (variable_start counts b) b))
           (fixed ∙ ap (λ (k : ℕ). fixed_at k (counts + 8) b) fixed_count)
           (variable.0 ∙ ap (λ (k : ℕ). map canonical (variable_at k (variable_start counts b) b)) variable_count),
@@ -95,7 +95,7 @@ ids_fit counts b le = let e = total-id_sizes counts b in record { counts_fit = o
 
 -- what is read of identifiers stands there
 pub id_lists_stand : (counts : ℕ) (b : List ℕ)
-    → StandAt (ids_layout (id_lists_at counts b)) counts b × (size (ids_layout (id_lists_at counts b)) ≡ 8 + total (id_sizes counts b))
+    → ArePlacedAt (ids_layout (id_lists_at counts b)) counts b × (size (ids_layout (id_lists_at counts b)) ≡ 8 + total (id_sizes counts b))
 unfolding shown_ids
 id_lists_stand counts b =
     let m = spelled_number w32 counts b in
@@ -110,8 +110,8 @@ id_lists_stand counts b =
     let first : counts + 8 ≡ counts + 4 + 4 = omega arith in
     let second : start ≡ counts + 8 + size (id_layouts fixed) = omega (arith, fixed_size) in
     let both = join (id_layouts fixed) (id_layouts variable) (counts + 8) b (ids_stand m (counts + 8) b)
-    (subst (λ (k : ℕ). StandAt (id_layouts variable) k b) second (ids_stand n start b)) in (
-      (fixed_count, (variable_count, subst (λ (k : ℕ). StandAt (id_layouts fixed ++ id_layouts variable) k b) first both)),
+    (subst (λ (k : ℕ). ArePlacedAt (id_layouts variable) k b) second (ids_stand n start b)) in (
+      (fixed_count, (variable_count, subst (λ (k : ℕ). ArePlacedAt (id_layouts fixed ++ id_layouts variable) k b) first both)),
       omega (arith, size-append (id_layouts fixed) (id_layouts variable), fixed_size, variable_size, total-id_sizes counts b),
     )
 
@@ -119,7 +119,7 @@ same_id_lists : (d : IdLists) (fixed variable : List ℕ) → d.fixed ≡ fixed 
 same_id_lists d fixed variable p q = rw (← p, ← q) refl
 
 -- identifiers that stand there are read
-pub ids_again : (d : IdLists) (counts : ℕ) (b : List ℕ) → StandAt (ids_layout d) counts b
+pub ids_again : (d : IdLists) (counts : ℕ) (b : List ℕ) → ArePlacedAt (ids_layout d) counts b
     → (d ≡ id_lists_at counts b) × (size (ids_layout d) ≡ 8 + total (id_sizes counts b))
 unfolding shown_ids
 ids_again d counts b stand =
@@ -130,12 +130,12 @@ ids_again d counts b stand =
     let variable_count : length d.variable ≡ n = stand.1.0 in
     let first : counts + 4 + 4 ≡ counts + 8 = omega arith in
     let both = split (id_layouts d.fixed) (id_layouts d.variable) (counts + 8) b
-    (subst (λ (k : ℕ). StandAt (id_layouts d.fixed ++ id_layouts d.variable) k b) first stand.1.1) in
+    (subst (λ (k : ℕ). ArePlacedAt (id_layouts d.fixed ++ id_layouts d.variable) k b) first stand.1.1) in
     let fixed_size : size (id_layouts d.fixed) ≡ 4 * m = omega (arith, size-id_layouts d.fixed, fixed_count) in
     let variable_size : size (id_layouts d.variable) ≡ 4 * n = omega (arith, size-id_layouts d.variable, variable_count) in
     let second : counts + 8 + size (id_layouts d.fixed) ≡ start = omega (arith, fixed_size) in
     let fixed = ids_are d.fixed (counts + 8) b both.0 in
-    let variable = ids_are d.variable start b (subst (λ (k : ℕ). StandAt (id_layouts d.variable) k b) second both.1) in (
+    let variable = ids_are d.variable start b (subst (λ (k : ℕ). ArePlacedAt (id_layouts d.variable) k b) second both.1) in (
       same_id_lists d (ids_at m (counts + 8) b) (ids_at n start b)
           (fixed ∙ ap (λ (k : ℕ). ids_at k (counts + 8) b) fixed_count)
           (variable ∙ ap (λ (k : ℕ). ids_at k start b) variable_count),
@@ -147,7 +147,7 @@ ids_again d counts b stand =
 -- A body of the kind stands at its place and ends with the datagram.
 pub record BodyStands (kind : Kind) (body : Body) (b : List ℕ) : Type 0 where
   pub kind_is : body_kind body ≡ kind
-  pub stand : StandAt (body_layout body) 24 b
+  pub stand : ArePlacedAt (body_layout body) 24 b
   pub whole_is : length b ≡ 24 + size (body_layout body)
 
 pub body_stands : (kind : Kind) (b : List ℕ) → IsWhole kind b → BodyStands kind (body_at kind b) b
@@ -179,7 +179,7 @@ pub record BodyAgain (body : Body) (b : List ℕ) : Type 0 where
   pub read : body ≡ body_at (body_kind body) b
   pub whole : IsWhole (body_kind body) b
 
-pub body_again : (body : Body) (b : List ℕ) → StandAt (body_layout body) 24 b → length b ≡ 24 + size (body_layout body) → BodyAgain body b
+pub body_again : (body : Body) (b : List ℕ) → ArePlacedAt (body_layout body) 24 b → length b ≡ 24 + size (body_layout body) → BodyAgain body b
 unfolding shown_body
 body_again (CreateEntity request) b stand all = record { read = ap (λ (n : ℕ). CreateEntity n) stand.0; whole = omega arith }
 body_again (RemoveEntity request) b stand all = record { read = ap (λ (n : ℕ). RemoveEntity n) stand.0; whole = omega arith }

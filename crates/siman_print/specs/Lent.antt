@@ -5,7 +5,7 @@ use Rattle.siman_print.specs.declared.value.Value.{Value as LentValue}
 use Rattle.siman_print.specs.declared.value.Value.TheVariants as lent
 use Rattle.siman_print.specs.declared.field.Field.{Field as LentField}
 use Rattle.siman_print.specs.declared.field.Field.TheVariants as fields
-use Rattle.siman_print.specs.declared.line.Line.{Line as LentLine}
+use Rattle.siman_print.specs.declared.line.PrintedRow.{PrintedRow as LentLine}
 use Rattle.siman_print.specs.Line.{Value, Number, Clock, Word, Named, Truth, Phrase, Ring, Missing, Field, Bare, Keyed, Spelt, Called, Line}
 use Rattle.siman_print.specs.Spelled.{address_text}
 

@@ -2,7 +2,7 @@
 //! and JSON, one object a line, for programs.
 //!
 //! It opens no file, judges nothing and writes to no stream: a command above asks for the rows and
-//! prints them. A caller makes a [`Line`] of borrowed words and may use the contract of
+//! prints them. A caller makes a [`PrintedRow`] of borrowed words and may use the contract of
 //! [`put_line`], or those of the three calls that it consists of: they give the bytes in either
 //! spelling, as functions of one row. For many rows, each can be made in a fixed buffer, a
 //! [`TextLine`], by functions that take no memory and know both spellings.
@@ -49,7 +49,7 @@ pub use in_place::{
 };
 pub use keys::keys_come_once;
 pub use line::{
-    Line, named_line, put_end, put_field, put_fields, put_line, put_named, put_opening,
+    PrintedRow, named_line, put_end, put_field, put_fields, put_line, put_named, put_opening,
 };
 pub use options::{add_clock_option, add_entry_option, add_number_option};
 pub use reason::{

@@ -13,7 +13,7 @@ use std::alloc::{AllocError, Global};
 
 /// A row: one printed line as a value, with a name and fields in order.
 #[derive(Clone, Copy)]
-pub struct Line<'a> {
+pub struct PrintedRow<'a> {
     /// The kind of row.
     pub name: &'a str,
     /// A field that replaces the name in text.
@@ -22,12 +22,12 @@ pub struct Line<'a> {
     pub fields: &'a [Field<'a>],
 }
 
-impl<'a> Line<'a> {
+impl<'a> PrintedRow<'a> {
     /// A row that begins with its name in text.
-    pub fn named(name: &'a str, fields: &'a [Field<'a>]) -> Line<'a>
+    pub fn named(name: &'a str, fields: &'a [Field<'a>]) -> PrintedRow<'a>
         ensures { line_of result ≡ named_line name.now (fields_of fields.now) }
     {
-        Line {
+        PrintedRow {
             name,
             opening: None,
             fields,
@@ -99,7 +99,11 @@ pub fn put_end(text: &mut String, spelling: Spelling) -> Result<(), AllocError>
 }
 
 /// Writes a row in a spelling, with its line end.
-pub fn put_line(text: &mut String, spelling: Spelling, line: &Line<'_>) -> Result<(), AllocError>
+pub fn put_line(
+    text: &mut String,
+    spelling: Spelling,
+    line: &PrintedRow<'_>,
+) -> Result<(), AllocError>
     ensures { OnOk result (string_bytes text.new ≡ string_bytes text.old ++ line_spelled spelling (line_of line.now)) }
 {
     put_opening(text, spelling, line.name, &line.opening)?;
@@ -116,7 +120,7 @@ pub fn put_named(
 ) -> Result<(), AllocError>
     ensures { OnOk result (string_bytes text.new ≡ string_bytes text.old ++ line_spelled spelling (named_line name.now (fields_of fields.now))) }
 {
-    put_line(text, spelling, &Line::named(name, fields))
+    put_line(text, spelling, &PrintedRow::named(name, fields))
 }
 
 /// A row with a name and fields, as text. It takes memory.

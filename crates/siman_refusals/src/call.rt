@@ -27,14 +27,14 @@ pub fn refused(holds: bool) -> Said {
 }
 
 /// A call on inputs that it borrows.
-pub trait Call<L> {
+pub trait LibraryCall<L> {
     /// Makes the call.
     fn make(alloc: Global, lent: &mut L) -> Said;
 }
 
 /// Text of the outcome of a call. If memory ran out or a send failed, the call is made again, and
 /// the text says that outcome too.
-fn told<L, C: Call<L>>(alloc: Global, lent: &mut L) -> &'static str {
+fn told<L, C: LibraryCall<L>>(alloc: Global, lent: &mut L) -> &'static str {
     let said = C::make(alloc, lent);
     match said {
         Said::Usual => return "usual",
@@ -51,7 +51,7 @@ fn told<L, C: Call<L>>(alloc: Global, lent: &mut L) -> &'static str {
 }
 
 /// Text of the outcome of a call; `not begun` if its inputs could not be made.
-pub fn told_of<C: Call<L>, L: Drop>(alloc: Global, lent: io::Result<L>) -> &'static str {
+pub fn result_of<C: LibraryCall<L>, L: Drop>(alloc: Global, lent: io::Result<L>) -> &'static str {
     match lent {
         Ok(mut lent) => told::<L, C>(alloc, &mut lent),
         Err(_) => "not begun",

@@ -1,12 +1,12 @@
 //! Calls on a recording that no sequence explains.
 
-use crate::call::{Call, Said, refused, usual};
+use crate::call::{LibraryCall, Said, refused, usual};
 use exercise_audit::{Audit, Block, audit};
 use exercise_check::Certificate;
 use exercise_conflict::{
-    Conflict, Enough, Explanation, Fault, Lack, Refusal, Repair, RepairedLog, StepClash, Verdict,
-    Wait, conflict_found, conflict_of, cycle_at, fault_of, lacks_of, refusal_found, repair_of,
-    verdict_of, waits_of,
+    Blame, Conflict, ConflictSearch, Enough, MissingSend, Refusal, Repair, RepairedLog, StepClash,
+    Verdict, Wait, conflict_found, conflict_of, cycle_at, fault_of, missing_sends, refusal_found,
+    repair_of, verdict_of, waits_of,
 };
 use exercise_findings::Findings;
 use exercise_model::{Cause, ExerciseLog, Recording};
@@ -31,7 +31,7 @@ pub(crate) const RING: [u8; 253] = [
 pub(crate) struct Contradicting;
 
 /// The missing send of 2:3, and the entry that received it.
-const LACK: Lack = Lack {
+const LACK: MissingSend = MissingSend {
     entry: 4,
     missing: Missing {
         sender: 1,
@@ -58,7 +58,7 @@ fn is_ring<L: ExerciseLog>(
 }
 
 /// Whether `audit` is blocked, and the two stations wait for each other.
-fn is_ring_told<L: ExerciseLog>(
+fn is_ring_right<L: ExerciseLog>(
     alloc: Global,
     findings: &Findings<'_, L>,
 ) -> Result<bool, AllocError> {
@@ -69,11 +69,11 @@ fn is_ring_told<L: ExerciseLog>(
 }
 
 /// Whether exactly [`LACK`] is missing.
-fn is_lack_told<L: ExerciseLog>(
+fn is_lack_right<L: ExerciseLog>(
     alloc: Global,
     findings: &Findings<'_, L>,
 ) -> Result<bool, AllocError> {
-    let lacks = lacks_of(alloc, findings)?;
+    let lacks = missing_sends(alloc, findings)?;
     Ok(lacks.as_slice() == [LACK].as_slice())
 }
 
@@ -94,18 +94,18 @@ fn is_conflict(conflict: &Conflict) -> bool {
 }
 
 /// Whether [`conflict_of`] finds the conflict of the recording.
-fn is_whole_told<L: ExerciseLog>(
+fn is_whole_right<L: ExerciseLog>(
     alloc: Global,
     findings: &Findings<'_, L>,
 ) -> Result<bool, AllocError> {
     match conflict_of(alloc, findings)? {
-        Explanation::Contradicted(conflict) => Ok(is_conflict(&conflict)),
-        Explanation::Explained(_) => Ok(false),
+        ConflictSearch::Contradicted(conflict) => Ok(is_conflict(&conflict)),
+        ConflictSearch::Explained(_) => Ok(false),
     }
 }
 
 /// Whether the recording with the missing send has one entry more, and is still not explained.
-fn is_repair_told<L: ExerciseLog>(
+fn is_repair_right<L: ExerciseLog>(
     alloc: Global,
     findings: &Findings<'_, L>,
 ) -> Result<bool, AllocError> {
@@ -126,11 +126,11 @@ const WITHOUT_STEPS: Refusal = Refusal {
         missing: Some(0),
         twice: None,
     }),
-    fault: Fault::Recording,
+    fault: Blame::Recording,
 };
 
 /// Whether a certificate without steps is refused as [`WITHOUT_STEPS`].
-fn is_refusal_told(alloc: Global, log: &Recording) -> Result<bool, AllocError> {
+fn is_refusal_right(alloc: Global, log: &Recording) -> Result<bool, AllocError> {
     let certificate = Certificate {
         steps: Vec::new(alloc),
     };
@@ -141,23 +141,23 @@ fn is_refusal_told(alloc: Global, log: &Recording) -> Result<bool, AllocError> {
 }
 
 /// Whether the waits, the lack, the fault, the whole conflict and the repair are all as expected.
-fn is_told_by<L: ExerciseLog>(
+fn are_parts_right<L: ExerciseLog>(
     alloc: Global,
     findings: &Findings<'_, L>,
 ) -> Result<bool, AllocError> {
-    let ring = is_ring_told(alloc, findings)?;
-    let lack = is_lack_told(alloc, findings)?;
+    let ring = is_ring_right(alloc, findings)?;
+    let lack = is_lack_right(alloc, findings)?;
     let fault = fault_of(alloc, findings)?;
-    let whole = is_whole_told(alloc, findings)?;
-    let repair = is_repair_told(alloc, findings)?;
-    Ok(ring && lack && fault == Fault::Recording && whole && repair)
+    let whole = is_whole_right(alloc, findings)?;
+    let repair = is_repair_right(alloc, findings)?;
+    Ok(ring && lack && fault == Blame::Recording && whole && repair)
 }
 
 /// Whether all results for a log are as expected.
 fn is_told(alloc: Global, log: &Recording) -> Result<bool, AllocError> {
     let findings = Findings::of(alloc, log)?;
-    let told = is_told_by(alloc, &findings)?;
-    let refused = is_refusal_told(alloc, log)?;
+    let told = are_parts_right(alloc, &findings)?;
+    let refused = is_refusal_right(alloc, log)?;
     Ok(told && refused)
 }
 
@@ -169,7 +169,7 @@ fn said(told: Result<bool, AllocError>, log: &Recording) -> Said {
     }
 }
 
-impl Call<Recording> for Contradicting {
+impl LibraryCall<Recording> for Contradicting {
     fn make(alloc: Global, log: &mut Recording) -> Said {
         said(is_told(alloc, log), log)
     }
@@ -187,13 +187,13 @@ pub(crate) struct FindingConflict;
 fn is_conflict_found(alloc: Global, log: &Recording) -> Result<bool, AllocError> {
     let told = conflict_found(alloc, Findings::of(alloc, log)?)?;
     let is_whole = match &told.explanation {
-        Explanation::Contradicted(conflict) => is_conflict(conflict),
-        Explanation::Explained(_) => false,
+        ConflictSearch::Contradicted(conflict) => is_conflict(conflict),
+        ConflictSearch::Explained(_) => false,
     };
     Ok(is_whole && are_found(&told.findings))
 }
 
-impl Call<Recording> for FindingConflict {
+impl LibraryCall<Recording> for FindingConflict {
     fn make(alloc: Global, log: &mut Recording) -> Said {
         said(is_conflict_found(alloc, log), log)
     }
@@ -211,7 +211,7 @@ fn is_refusal_found(alloc: Global, log: &Recording) -> Result<bool, AllocError> 
     Ok(judged.refusal == Some(WITHOUT_STEPS) && are_found(&judged.findings))
 }
 
-impl Call<Recording> for FindingRefusal {
+impl LibraryCall<Recording> for FindingRefusal {
     fn make(alloc: Global, log: &mut Recording) -> Said {
         said(is_refusal_found(alloc, log), log)
     }

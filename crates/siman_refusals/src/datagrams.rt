@@ -1,6 +1,6 @@
 //! Calls that decode, encode, view and copy datagrams.
 
-use crate::call::{Call, Said, refused, usual};
+use crate::call::{LibraryCall, Said, refused, usual};
 use crate::recordings::unmade;
 use siman_pdus::{Body, EncodeFault, Pdu, PduFault, decode, encode, view};
 use std::alloc::Global;
@@ -40,7 +40,7 @@ fn says(pdu: &Pdu, bits: u32, bytes: &[u8]) -> bool {
 /// Decodes a datagram.
 pub(crate) struct Decoding;
 
-impl Call<()> for Decoding {
+impl LibraryCall<()> for Decoding {
     fn make(alloc: Global, _lent: &mut ()) -> Said {
         match decode(alloc, &COMMENT) {
             Ok(pdu) => usual(says(&pdu, 40, b"HELLO")),
@@ -58,7 +58,7 @@ pub(crate) fn to_encode(alloc: Global) -> io::Result<(Pdu, Vec<u8>)> {
     Ok((pdu_of(alloc, &COMMENT)?, out))
 }
 
-impl Call<(Pdu, Vec<u8>)> for Encoding {
+impl LibraryCall<(Pdu, Vec<u8>)> for Encoding {
     fn make(_alloc: Global, lent: &mut (Pdu, Vec<u8>)) -> Said {
         let (pdu, out) = lent;
         match encode(pdu, out) {
@@ -73,7 +73,7 @@ impl Call<(Pdu, Vec<u8>)> for Encoding {
 /// Views a datagram in place, and makes a PDU of the view.
 pub(crate) struct Showing;
 
-impl Call<()> for Showing {
+impl LibraryCall<()> for Showing {
     fn make(alloc: Global, _lent: &mut ()) -> Said {
         match view(&TWELVE_BITS) {
             Ok(shown) => match shown.to_pdu(alloc) {
@@ -88,7 +88,7 @@ impl Call<()> for Showing {
 /// Copies a PDU.
 pub(crate) struct Copying;
 
-impl Call<Pdu> for Copying {
+impl LibraryCall<Pdu> for Copying {
     fn make(alloc: Global, pdu: &mut Pdu) -> Said {
         match pdu.copy(alloc) {
             Ok(copy) => usual(copy == *pdu && says(&copy, 40, b"HELLO")),

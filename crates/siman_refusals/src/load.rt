@@ -2,7 +2,7 @@
 
 use crate::machines::{application, creation_under, manager, ordered};
 use crate::recordings::unmade;
-use crate::stations::{Came, Deed, RecordedStation, carry_out, creations};
+use crate::stations::{ActionResult, RecordedStation, StationAction, carry_out, creations};
 use exercise_recording::RecordingWriter;
 use siman_application::Application;
 use siman_lines::MemoryLine;
@@ -61,11 +61,11 @@ fn times<W: Write>(
     line: &mut MemoryLine,
     node: &mut Node,
     recorder: &mut RecordingWriter<'_, W>,
-    deed: Deed,
+    deed: StationAction,
 ) -> u32 {
     for number in 0..MOST {
         match carry_out(alloc, line, node, recorder, deed) {
-            Came::Done(done) if done > 0 => {}
+            ActionResult::Done(done) if done > 0 => {}
             _ => return number,
         }
     }
@@ -74,9 +74,9 @@ fn times<W: Write>(
 
 /// Number of datagrams that a station answers in one call, of orders that it issues before one is
 /// refused, and of repeats that it sends; and number of datagrams on the link after that.
-type Counts = (u32, u32, u32, usize);
+type LoadCounts = (u32, u32, u32, usize);
 
-fn counts(alloc: Global, recorded: &mut RecordedStation) -> io::Result<Counts> {
+fn counts(alloc: Global, recorded: &mut RecordedStation) -> io::Result<LoadCounts> {
     let RecordedStation {
         station,
         node,
@@ -87,16 +87,16 @@ fn counts(alloc: Global, recorded: &mut RecordedStation) -> io::Result<Counts> {
     let Ok(mut recorder) = RecordingWriter::start(text, 1, slice::from_ref(station)) else {
         return Err(unmade());
     };
-    let served = match carry_out(alloc, line, node, &mut recorder, Deed::Serve(MOST)) {
-        Came::Done(sent) => sent,
+    let served = match carry_out(alloc, line, node, &mut recorder, StationAction::Serve(MOST)) {
+        ActionResult::Done(sent) => sent,
         _ => 0,
     };
-    let issued = times(alloc, line, node, &mut recorder, Deed::Issue);
-    let nudged = times(alloc, line, node, &mut recorder, Deed::Nudge(10));
+    let issued = times(alloc, line, node, &mut recorder, StationAction::Issue);
+    let nudged = times(alloc, line, node, &mut recorder, StationAction::Nudge(10));
     Ok((served, issued, nudged, line.sent().len()))
 }
 
-fn station_counts(alloc: Global) -> io::Result<Counts> {
+fn station_counts(alloc: Global) -> io::Result<LoadCounts> {
     let coming = creations(alloc, MOST, 0, 1)?;
     counts(alloc, &mut RecordedStation::begin(alloc, 2, 3, coming)?)
 }

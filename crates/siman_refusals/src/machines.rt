@@ -3,7 +3,7 @@
 ghost use Rattle.std.specs.Prelude.{IsTrue};
 ghost use Rattle.siman_pdus.specs.Role.{is_request_body};
 
-use crate::call::{Call, Said, refused, usual};
+use crate::call::{LibraryCall, Said, refused, usual};
 use crate::datagrams::pdu_of;
 use crate::recordings::{ABLE, CREATE, station, unmade};
 use dis_records::{Address, EntityId, EntityState, FixedDatum, VariableDatum, Version};
@@ -82,7 +82,7 @@ fn is_begun(application: &Application) -> bool {
 /// Begins an application.
 pub(crate) struct Beginning;
 
-impl Call<Station> for Beginning {
+impl LibraryCall<Station> for Beginning {
     fn make(alloc: Global, station: &mut Station) -> Said {
         match Application::begin(alloc, 1, station, &DATUMS, Vec::new(alloc), &[1]) {
             Ok(application) => usual(application.datum(11) == Some(6)),
@@ -96,26 +96,26 @@ pub(crate) struct Taking;
 
 /// An application, a request to it, and the expected answer.
 #[derive(Drop)]
-pub(crate) struct Asked {
+pub(crate) struct ApplicationExchange {
     application: Application,
     request: Pdu,
     answer: Pdu,
 }
 
 /// An application at 2:3, a request to it, and the answer.
-pub(crate) fn to_take(alloc: Global, exchange: Exchange) -> io::Result<Asked> {
+pub(crate) fn to_take(alloc: Global, exchange: Exchange) -> io::Result<ApplicationExchange> {
     let (request, answer) = exchange;
     // The application last: values that are alive where a call may refuse are expensive to prove.
     let (request, answer) = (pdu_of(alloc, request)?, pdu_of(alloc, answer)?);
-    Ok(Asked {
+    Ok(ApplicationExchange {
         application: application(alloc)?,
         request,
         answer,
     })
 }
 
-impl Call<Asked> for Taking {
-    fn make(_alloc: Global, asked: &mut Asked) -> Said {
+impl LibraryCall<ApplicationExchange> for Taking {
+    fn make(_alloc: Global, asked: &mut ApplicationExchange) -> Said {
         match asked.application.take(&asked.request, 0) {
             Ok(Some(given)) => usual(*given == asked.answer),
             Err(AppFault::Memory) => refused(is_begun(&asked.application)),
@@ -175,7 +175,7 @@ pub(crate) fn ordered(manager: &mut Manager) -> Result<u32, OrderFault> {
 /// Makes a manager order a creation.
 pub(crate) struct Ordering;
 
-impl Call<Manager> for Ordering {
+impl LibraryCall<Manager> for Ordering {
     fn make(_alloc: Global, manager: &mut Manager) -> Said {
         match ordered(manager) {
             Ok(id) => usual(id == 1 && manager.status(1).is_some()),

@@ -1,6 +1,6 @@
 //! The call that draws a recording.
 
-use crate::call::{Call, Said, refused, usual};
+use crate::call::{LibraryCall, Said, refused, usual};
 use crate::recordings::FOUND;
 use exercise_chart::{ChartFault, Rows, draw};
 use exercise_findings::Findings;
@@ -22,7 +22,7 @@ fn drawn(alloc: Global, log: &Recording) -> Result<String, ChartFault> {
     draw(alloc, &register, &FOUND, Rows { first: 0, end: 4 })
 }
 
-impl Call<Recording> for Drawing {
+impl LibraryCall<Recording> for Drawing {
     fn make(alloc: Global, log: &mut Recording) -> Said {
         match drawn(alloc, log) {
             Ok(picture) => usual(is_of_creation(&picture)),

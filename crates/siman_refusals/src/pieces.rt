@@ -1,6 +1,6 @@
 //! Calls that join pieces of a recording.
 
-use crate::call::{Call, Said, refused, usual};
+use crate::call::{LibraryCall, Said, refused, usual};
 use crate::recordings::{APART, is_carried, room, unmade};
 use exercise_model::Form;
 use exercise_recording::{FormWord, JoinFault, Joined, Joining, Joint, join};
@@ -47,7 +47,7 @@ fn readers(alloc: Global) -> io::Result<Vec<&'static [u8]>> {
     Ok(readers)
 }
 
-impl Call<Vec<u8>> for Bringing {
+impl LibraryCall<Vec<u8>> for Bringing {
     fn make(alloc: Global, out: &mut Vec<u8>) -> Said {
         let Ok(readers) = readers(alloc) else {
             return refused(out.is_empty());
@@ -71,7 +71,7 @@ pub(crate) fn to_add(alloc: Global) -> io::Result<Joining> {
     }
 }
 
-impl Call<Joining> for Adding {
+impl LibraryCall<Joining> for Adding {
     fn make(alloc: Global, joining: &mut Joining) -> Said {
         match joining.add(alloc, MANAGER.as_slice(), 1000) {
             Ok(()) => usual(joining.add(alloc, MANAGER.as_slice(), 1000).is_err()),
@@ -81,7 +81,7 @@ impl Call<Joining> for Adding {
 }
 
 /// Adds both logs, and ends the joining.
-pub(crate) struct Ending;
+pub(crate) struct EndingJoin;
 
 /// Whether the joined recording is written as expected; true if there was no memory to write it.
 fn is_written(alloc: Global, joint: &Joint) -> bool {
@@ -91,7 +91,7 @@ fn is_written(alloc: Global, joint: &Joint) -> bool {
     }
 }
 
-impl Call<()> for Ending {
+impl LibraryCall<()> for EndingJoin {
     fn make(alloc: Global, _lent: &mut ()) -> Said {
         let mut joining = match to_add(alloc) {
             Ok(joining) => joining,

@@ -1,6 +1,6 @@
 //! Calls that read, convert, check and search recordings and certificates.
 
-use crate::call::{Call, Said, refused, usual};
+use crate::call::{LibraryCall, Said, refused, usual};
 use dis_records::{Address, EntityState};
 use exercise_audit::{Audit, Explanation, audit, explanation_of};
 use exercise_check::{
@@ -117,7 +117,7 @@ fn is_creation<L: ExerciseLog>(log: &L) -> bool {
 /// Reads a recording.
 pub(crate) struct Reading;
 
-impl Call<()> for Reading {
+impl LibraryCall<()> for Reading {
     fn make(alloc: Global, _lent: &mut ()) -> Said {
         match read_recording(alloc, RECORDING.as_slice(), 1000) {
             Ok(log) => usual(is_creation(&log)),
@@ -129,7 +129,7 @@ impl Call<()> for Reading {
 /// Views a recording in place.
 pub(crate) struct Seeing;
 
-impl Call<()> for Seeing {
+impl LibraryCall<()> for Seeing {
     fn make(alloc: Global, _lent: &mut ()) -> Said {
         match RecordingView::over(alloc, &RECORDING) {
             Ok(log) => usual(is_creation(&log)),
@@ -141,7 +141,7 @@ impl Call<()> for Seeing {
 /// Pushes an entry.
 pub(crate) struct Pushing;
 
-impl Call<Recording> for Pushing {
+impl LibraryCall<Recording> for Pushing {
     fn make(_alloc: Global, log: &mut Recording) -> Said {
         let entry = LogEntry::Told {
             station: 1,
@@ -171,7 +171,7 @@ fn is_created(checked: &Checked) -> bool {
     states && entries && checked.others() == 0
 }
 
-impl Call<(Recording, Certificate)> for Checking {
+impl LibraryCall<(Recording, Certificate)> for Checking {
     fn make(alloc: Global, lent: &mut (Recording, Certificate)) -> Said {
         let (log, certificate) = lent;
         match check(alloc, log, certificate) {
@@ -184,7 +184,7 @@ impl Call<(Recording, Certificate)> for Checking {
 /// Searches for a sequence.
 pub(crate) struct Searching;
 
-impl Call<Recording> for Searching {
+impl LibraryCall<Recording> for Searching {
     fn make(alloc: Global, log: &mut Recording) -> Said {
         match audit(alloc, log) {
             Ok(Audit::Explained(found)) => usual(found.steps.as_slice() == FOUND.as_slice()),
@@ -203,7 +203,7 @@ fn is_explained(alloc: Global, log: &Recording) -> Result<bool, AllocError> {
     Ok(is_explained)
 }
 
-impl Call<Recording> for Explaining {
+impl LibraryCall<Recording> for Explaining {
     fn make(alloc: Global, log: &mut Recording) -> Said {
         match is_explained(alloc, log) {
             Ok(explained) => usual(explained),
@@ -215,7 +215,7 @@ impl Call<Recording> for Explaining {
 /// Reads a certificate.
 pub(crate) struct ReadingSteps;
 
-impl Call<()> for ReadingSteps {
+impl LibraryCall<()> for ReadingSteps {
     fn make(alloc: Global, _lent: &mut ()) -> Said {
         steps_said(read_certificate(alloc, STEPS.as_slice(), 4))
     }
@@ -224,7 +224,7 @@ impl Call<()> for ReadingSteps {
 /// Fetches all bytes of a reader, and reads a certificate from them.
 pub(crate) struct FetchingSteps;
 
-impl Call<()> for FetchingSteps {
+impl LibraryCall<()> for FetchingSteps {
     fn make(alloc: Global, _lent: &mut ()) -> Said {
         steps_said(fetch_certificate(alloc, STEPS.as_slice(), 4))
     }
@@ -250,7 +250,7 @@ pub(crate) fn is_carried(file: &[u8], recording: &[u8]) -> bool {
     }
 }
 
-impl Call<Vec<u8>> for Carrying {
+impl LibraryCall<Vec<u8>> for Carrying {
     fn make(alloc: Global, out: &mut Vec<u8>) -> Said {
         match convert(alloc, RECORDING.as_slice(), 1000, out) {
             Ok(entries) => usual(entries == 4 && is_carried(out, &RECORDING)),

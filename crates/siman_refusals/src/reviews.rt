@@ -1,6 +1,6 @@
 //! Calls that review recordings.
 
-use crate::call::{Call, Said, refused, usual};
+use crate::call::{LibraryCall, Said, refused, usual};
 use dis_records::EntityState;
 use exercise_findings::{Findings, number_at, put_number};
 use exercise_model::{ExerciseLog, Recording};
@@ -25,7 +25,7 @@ fn reviewed(alloc: Global, log: &Recording) -> Result<Review, ReviewFault> {
     review_of(alloc, Findings::of(alloc, log)?)
 }
 
-impl Call<Recording> for Reviewing {
+impl LibraryCall<Recording> for Reviewing {
     fn make(alloc: Global, log: &mut Recording) -> Said {
         match reviewed(alloc, log) {
             Ok(review) => usual(is_of_creation(&review)),
@@ -39,8 +39,11 @@ pub(crate) struct Telling;
 
 /// Whether the review is that of the creation: its only order is done at 2:3, and its entity has
 /// one span, stopped.
-fn tells_creation(reviewed: &Reviewed<'_, Recording>) -> bool {
-    if reviewed.told_count() != 1 || reviewed.span_count() != 1 || reviewed.order_count() != 1 {
+fn is_creation_reviewed(reviewed: &Reviewed<'_, Recording>) -> bool {
+    if reviewed.order_row_count() != 1
+        || reviewed.span_count() != 1
+        || reviewed.order_count() != 1
+    {
         return false;
     }
     let (told, span) = (reviewed.told(0), reviewed.span(0));
@@ -54,10 +57,10 @@ fn told(alloc: Global, log: &Recording) -> Result<Reviewed<'_, Recording>, Revie
     Reviewed::of(alloc, Findings::of(alloc, log)?)
 }
 
-impl Call<Recording> for Telling {
+impl LibraryCall<Recording> for Telling {
     fn make(alloc: Global, log: &mut Recording) -> Said {
         match told(alloc, log) {
-            Ok(reviewed) => usual(tells_creation(&reviewed)),
+            Ok(reviewed) => usual(is_creation_reviewed(&reviewed)),
             Err(fault) => refused(fault == ReviewFault::Memory),
         }
     }
@@ -73,7 +76,7 @@ fn column(alloc: Global) -> Result<Vec<u32>, AllocError> {
     Ok(column)
 }
 
-impl Call<()> for Putting {
+impl LibraryCall<()> for Putting {
     fn make(alloc: Global, _lent: &mut ()) -> Said {
         match column(alloc) {
             Ok(column) => usual(

@@ -1,6 +1,6 @@
 //! Calls of stations that serve, issue and nudge at a link in memory.
 
-use crate::call::{Call, Said, refused, usual};
+use crate::call::{LibraryCall, Said, refused, usual};
 use crate::machines::{creation, ordered};
 use crate::recordings::{ABLE, CREATE, room, station, unmade};
 use dis_records::EntityState;
@@ -17,7 +17,7 @@ use std::{io, slice};
 
 /// An action of a station.
 #[derive(Clone, Copy)]
-pub(crate) enum Deed {
+pub(crate) enum StationAction {
     /// Serves its link for this many turns.
     Serve(u32),
     /// Issues a creation.
@@ -28,7 +28,7 @@ pub(crate) enum Deed {
 
 /// Result of an action.
 #[derive(Drop)]
-pub(crate) enum Came {
+pub(crate) enum ActionResult {
     /// Success, with the number of datagrams taken and answered, the identifier of the order
     /// issued, or the number of repeats sent.
     Done(u32),
@@ -39,12 +39,12 @@ pub(crate) enum Came {
     Otherwise,
 }
 
-fn came_of(fault: IssueFault) -> Came {
+fn came_of(fault: IssueFault) -> ActionResult {
     match fault {
-        IssueFault::Order(OrderFault::Memory) => Came::Unmade,
-        IssueFault::Memory => Came::Memory,
-        IssueFault::Send => Came::Send,
-        _ => Came::Otherwise,
+        IssueFault::Order(OrderFault::Memory) => ActionResult::Unmade,
+        IssueFault::Memory => ActionResult::Memory,
+        IssueFault::Send => ActionResult::Send,
+        _ => ActionResult::Otherwise,
     }
 }
 
@@ -54,10 +54,10 @@ pub(crate) fn carry_out<W: Write>(
     line: &mut MemoryLine,
     node: &mut Node,
     recorder: &mut RecordingWriter<'_, W>,
-    deed: Deed,
-) -> Came {
+    deed: StationAction,
+) -> ActionResult {
     match deed {
-        Deed::Serve(turns) => match serve(alloc, line, node, recorder, 0, 0, turns) {
+        StationAction::Serve(turns) => match serve(alloc, line, node, recorder, 0, 0, turns) {
             Ok(
                 Served {
                     taken,
@@ -65,17 +65,17 @@ pub(crate) fn carry_out<W: Write>(
                     dropped: 0,
                     idle: false,
                 },
-            ) if taken == sent => Came::Done(sent),
-            Err(ServeFault::Memory) => Came::Memory,
-            Err(ServeFault::Send) => Came::Send,
-            _ => Came::Otherwise,
+            ) if taken == sent => ActionResult::Done(sent),
+            Err(ServeFault::Memory) => ActionResult::Memory,
+            Err(ServeFault::Send) => ActionResult::Send,
+            _ => ActionResult::Otherwise,
         },
-        Deed::Issue => match issue(alloc, line, node, recorder, 0, creation(), 0) {
-            Ok(id) => Came::Done(id),
+        StationAction::Issue => match issue(alloc, line, node, recorder, 0, creation(), 0) {
+            Ok(id) => ActionResult::Done(id),
             Err(fault) => came_of(fault),
         },
-        Deed::Nudge(now) => match nudge(alloc, line, node, recorder, 0, now) {
-            Ok(due) => Came::Done(u32::from(due)),
+        StationAction::Nudge(now) => match nudge(alloc, line, node, recorder, 0, now) {
+            Ok(due) => ActionResult::Done(u32::from(due)),
             Err(fault) => came_of(fault),
         },
     }
@@ -136,13 +136,13 @@ impl RecordedStation {
     }
 
     /// Carries out an action, and records it alone.
-    fn record(&mut self, alloc: Global, deed: Deed) -> Came {
+    fn record(&mut self, alloc: Global, deed: StationAction) -> ActionResult {
         self.text.clear();
         match RecordingWriter::start(&mut self.text, 1, slice::from_ref(&self.station)) {
             Ok(mut recorder) => {
                 carry_out(alloc, &mut self.line, &mut self.node, &mut recorder, deed)
             }
-            Err(_) => Came::Otherwise,
+            Err(_) => ActionResult::Otherwise,
         }
     }
 
@@ -186,15 +186,15 @@ pub(crate) fn to_serve(alloc: Global) -> io::Result<RecordedStation> {
     RecordedStation::begin(alloc, 2, 3, creations(alloc, 2, 1, 0)?)
 }
 
-impl Call<RecordedStation> for Serving {
+impl LibraryCall<RecordedStation> for Serving {
     fn make(alloc: Global, recorded: &mut RecordedStation) -> Said {
-        match recorded.record(alloc, Deed::Serve(1)) {
-            Came::Done(sent) => {
+        match recorded.record(alloc, StationAction::Serve(1)) {
+            ActionResult::Done(sent) => {
                 let is_created = recorded.node.application.state(7) == EntityState::Stopped;
                 usual(sent == 1 && is_created && recorded.has_sent(&ABLE))
             }
-            Came::Memory => refused(recorded.is_silent(0) || recorded.is_silent(1)),
-            Came::Send => recorded.failed(2),
+            ActionResult::Memory => refused(recorded.is_silent(0) || recorded.is_silent(1)),
+            ActionResult::Send => recorded.failed(2),
             _ => Said::Otherwise,
         }
     }
@@ -208,23 +208,23 @@ pub(crate) fn to_issue(alloc: Global) -> io::Result<RecordedStation> {
     RecordedStation::begin(alloc, 1, 1, Vec::new(alloc))
 }
 
-impl Call<RecordedStation> for Issuing {
+impl LibraryCall<RecordedStation> for Issuing {
     fn make(alloc: Global, recorded: &mut RecordedStation) -> Said {
         let next = recorded.next;
         let mut created = CREATE;
         created[27] = next;
-        match recorded.record(alloc, Deed::Issue) {
-            Came::Done(id) => {
+        match recorded.record(alloc, StationAction::Issue) {
+            ActionResult::Done(id) => {
                 usual(
                     id == u32::from(next) && recorded.waits(next, 1) && recorded.has_sent(&created),
                 )
             }
-            Came::Unmade => {
+            ActionResult::Unmade => {
                 let status = recorded.node.manager.status(u32::from(next));
                 refused(status.is_none() && recorded.is_silent(0))
             }
-            Came::Memory => refused(recorded.waits(next, 1) && recorded.is_silent(0)),
-            Came::Send if recorded.waits(next, 1) => recorded.failed(1),
+            ActionResult::Memory => refused(recorded.waits(next, 1) && recorded.is_silent(0)),
+            ActionResult::Send if recorded.waits(next, 1) => recorded.failed(1),
             _ => Said::Otherwise,
         }
     }
@@ -243,20 +243,20 @@ pub(crate) fn to_nudge(alloc: Global) -> io::Result<RecordedStation> {
     }
 }
 
-impl Call<RecordedStation> for Nudging {
+impl LibraryCall<RecordedStation> for Nudging {
     fn make(alloc: Global, recorded: &mut RecordedStation) -> Said {
         let next = recorded.next;
         let now = next.saturating_sub(1).saturating_mul(10);
         let mut repeated = CREATE;
         repeated[7] = now.saturating_mul(2);
-        let came = recorded.record(alloc, Deed::Nudge(u64::from(now)));
+        let came = recorded.record(alloc, StationAction::Nudge(u64::from(now)));
         if !recorded.waits(1, next) {
             return Said::Otherwise;
         }
         match came {
-            Came::Done(sent) => usual(sent == 1 && recorded.has_sent(&repeated)),
-            Came::Memory => refused(recorded.is_silent(0)),
-            Came::Send => recorded.failed(1),
+            ActionResult::Done(sent) => usual(sent == 1 && recorded.has_sent(&repeated)),
+            ActionResult::Memory => refused(recorded.is_silent(0)),
+            ActionResult::Send => recorded.failed(1),
             _ => Said::Otherwise,
         }
     }

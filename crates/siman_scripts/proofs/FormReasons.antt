@@ -12,8 +12,8 @@ use Rattle.siman_pdus.specs.declared.pdu.Body.{Body}
 use Rattle.siman_pdus.specs.declared.pdu.Body.TheVariants as bodies
 use Rattle.exercise_model.specs.Station.{is_entity}
 use Rattle.siman_scripts.specs.declared.act.Act.TheVariants.{Command, Deliver, Tell}
-use Rattle.siman_scripts.specs.declared.form.Form.{Form}
-use Rattle.siman_scripts.specs.declared.form.Form.TheVariants as forms
+use Rattle.siman_scripts.specs.declared.form.LineForm.{LineForm}
+use Rattle.siman_scripts.specs.declared.form.LineForm.TheVariants as forms
 use Rattle.siman_scripts.specs.declared.form.Next.TheVariants.{Optional}
 use Rattle.siman_scripts.specs.declared.statement.ManagerRules.{ManagerRules}
 use Rattle.siman_scripts.specs.declared.statement.Statement.{Statement}
@@ -21,7 +21,7 @@ use Rattle.siman_scripts.specs.declared.statement.Statement.TheVariants as says
 use Rattle.siman_scripts.specs.declared.why.LineWhy.{LineWhy}
 use Rattle.siman_scripts.specs.declared.why.LineWhy.TheVariants as whys
 use Rattle.siman_scripts.specs.declared.word_kind.WordKind.TheVariants as kinds
-use Rattle.siman_scripts.specs.Text.{number_to}
+use Rattle.byte_files.specs.Text.{number_to}
 use Rattle.siman_scripts.specs.Statement.{address_of, target_of, state_of, value_of, number_named, numbers_of, datum_of, rules_of, acting_form, act_of, command_act, body_of, form_of}
 use Rattle.siman_scripts.specs.Forms.{entity_of, tries_of, wait_of, form_name, form_named, all_forms, next_word}
 use Rattle.siman_scripts.specs.LineReason.{Told, optional_why, words_reason, named_reason, form_reason}
@@ -290,7 +290,7 @@ is_query c (s ∷ t ∷ i ∷ ps) =
     acting (codes "query") s.1 (texts (t ∷ i ∷ ps)) (s.0, whys.Wrong forms.Query (kinds.Address)) (words_reason forms.Query 1 c (t ∷ i ∷ ps)) (ordering (codes "query") t.1 (texts (i ∷ ps)) (t.0, whys.Wrong forms.Query (kinds.Receiver)) (words_reason forms.Query 2 c (i ∷ ps)) ((passed (number_to 4294967295 i.1) (λ n. option_and_then (λ ns. Some (n ∷ ns)) (numbers_of (texts ps))) (i.0, whys.Wrong forms.Query (kinds.Number 4294967295)) (words_reason forms.Query 3 c (ps)) (λ n. goes_on 3 c ps (lit≤ tt) ∙ sym (bound (numbers_of (texts ps)) (λ ns. n ∷ ns)))) ∙ sym (bound (numbers_of (texts (i ∷ ps))) query_with)))
 
 -- A LINE OF A FORM HAS A REASON EXACTLY WHERE IT SAYS NOTHING
-pub form_has_reason : (f : Form) (c : ℕ) (ps : List Placed) → is_none (words_reason f 0 c ps) ≡ is_some (form_of (form_name f ∷ texts ps))
+pub form_has_reason : (f : LineForm) (c : ℕ) (ps : List Placed) → is_none (words_reason f 0 c ps) ≡ is_some (form_of (form_name f ∷ texts ps))
 form_has_reason forms.Exercise c ps = is_exercise c ps
 form_has_reason forms.Station c ps = is_station c ps
 form_has_reason forms.At c ps = is_at c ps
@@ -318,7 +318,7 @@ found p [] y e = cc
 found p (x ∷ xs) y e = found_at p x y (find p xs) (p x) refl (found p xs y) e
 
 -- the form that is named has this name
-named : (name : List ℕ) (f : Form) → form_named name ≡ Some f → name ≡ form_name f
+named : (name : List ℕ) (f : LineForm) → form_named name ≡ Some f → name ≡ form_name f
 named name f e =
     let decides = bytes_eq-Decides name (form_name f) in
     decides.0 (found (λ form. bytes_eq name (form_name form)) all_forms f e)
@@ -368,7 +368,7 @@ unnamed name ws e =
     rw (m.0, m.1.0, m.1.1.0, m.1.1.1.0, m.1.1.1.1.0, m.1.1.1.1.1.0, m.1.1.1.1.1.1.0) (no_move name ws m)
 
 -- the reason of words that begin with this name
-name_has_reason : (c : ℕ) (p : Placed) (ps : List Placed) (o : Option Form) → form_named p.1 ≡ o → is_none (named_reason c p ps o) ≡ is_some (form_of (p.1 ∷ texts ps))
+name_has_reason : (c : ℕ) (p : Placed) (ps : List Placed) (o : Option LineForm) → form_named p.1 ≡ o → is_none (named_reason c p ps o) ≡ is_some (form_of (p.1 ∷ texts ps))
 name_has_reason c p ps None e = rw (unnamed p.1 (texts ps) e)
 name_has_reason c p ps (Some f) e = rw (named p.1 f e) (form_has_reason f c ps)
 

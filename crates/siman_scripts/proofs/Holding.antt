@@ -5,19 +5,19 @@ use Rattle.std.specs.Option.{option_map, option_or, unwrap_or, IfSome}
 use Rattle.std.proofs.lemmas.Bool.Decides.{nat_tests}
 use Rattle.std.proofs.lemmas.List.Quantifiers.{position-Some}
 use Rattle.std.proofs.lemmas.Option.{same_Some, slice_get-get_or}
-use Rattle.siman_scripts.specs.declared.form.Form.{Form}
+use Rattle.siman_scripts.specs.declared.form.LineForm.{LineForm}
 use Rattle.siman_scripts.specs.declared.form.Next.{Next}
 use Rattle.siman_scripts.specs.declared.form.Next.TheVariants.{Needed, Optional, End}
 use Rattle.siman_scripts.specs.declared.why.LineWhy.{LineWhy}
 use Rattle.siman_scripts.specs.declared.why.LineWhy.TheVariants as whys
 use Rattle.siman_scripts.specs.declared.word_kind.WordKind.{WordKind}
-use Rattle.siman_scripts.specs.Text.{words_of}
+use Rattle.byte_files.specs.Text.{words_of}
 use Rattle.siman_scripts.specs.Statement.{is_passed_over}
 use Rattle.siman_scripts.specs.Words.{placed_words_of}
 use Rattle.siman_scripts.specs.Forms.{fits, form_named, next_word}
 use Rattle.siman_scripts.specs.Nearest.{nearest}
 use Rattle.siman_scripts.specs.LineReason.{Told, is_mark, foreign_why, foreign_reason, blank_why, byte_why, is_end, spacing_from, spacing_reason, is_comment, word_reason, end_reason, words_reason, named_reason, form_reason, spacing_first, ascii_reason, line_reason}
-use Rattle.siman_scripts.specs.Holds.{ByteAt, Begins, StandsBehind, IsSo, Holds}
+use Rattle.siman_scripts.specs.Holds.{ByteAt, Begins, IsPlacedBehind, IsSo, Holds}
 use Rattle.siman_scripts.proofs.Placed.{placed_from-words, width, width-words}
 
 abbrev Placed : Type 0
@@ -49,30 +49,30 @@ told_so line words r s e h = let P : ℕ × LineWhy → Type 0 = λ x. IsSo line
 
 -- Words.
 
-needed_holds : (line : List ℕ) (words : List Placed) (f : Form) (i : ℕ) (p : Placed) (k : WordKind) (r : ℕ × LineWhy) (here : Bool)
-    → fits k p.1 ≡ here → next_word f i ≡ Needed k → StandsBehind words f i p → cond here None (Some (p.0, whys.Wrong f k)) ≡ Some r → IsSo line words r.0 r.1
+needed_holds : (line : List ℕ) (words : List Placed) (f : LineForm) (i : ℕ) (p : Placed) (k : WordKind) (r : ℕ × LineWhy) (here : Bool)
+    → fits k p.1 ≡ here → next_word f i ≡ Needed k → IsPlacedBehind words f i p → cond here None (Some (p.0, whys.Wrong f k)) ≡ Some r → IsSo line words r.0 r.1
 needed_holds line words f i p k r true h n s e = cc
 needed_holds line words f i p k r false h n s e = told_so line words (p.0, whys.Wrong f k) r e (i, p.1, s, h, inl n)
 
-optional_holds : (line : List ℕ) (words : List Placed) (f : Form) (i : ℕ) (p : Placed) (k : WordKind) (r : ℕ × LineWhy) (here comment : Bool)
-    → fits k p.1 ≡ here → is_comment p.1 ≡ comment → next_word f i ≡ Optional k → StandsBehind words f i p
+optional_holds : (line : List ℕ) (words : List Placed) (f : LineForm) (i : ℕ) (p : Placed) (k : WordKind) (r : ℕ × LineWhy) (here comment : Bool)
+    → fits k p.1 ≡ here → is_comment p.1 ≡ comment → next_word f i ≡ Optional k → IsPlacedBehind words f i p
     → cond here None (Some (p.0, cond comment (whys.Comment f) (whys.Wrong f k))) ≡ Some r → IsSo line words r.0 r.1
 optional_holds line words f i p k r true comment h m n s e = cc
 optional_holds line words f i p k r false true h m n s e = told_so line words (p.0, whys.Comment f) r e (i, p.1, s, m)
 optional_holds line words f i p k r false false h m n s e = told_so line words (p.0, whys.Wrong f k) r e (i, p.1, s, h, inr n)
 
-extra_holds : (line : List ℕ) (words : List Placed) (f : Form) (i : ℕ) (p : Placed) (r : ℕ × LineWhy) (comment : Bool)
-    → is_comment p.1 ≡ comment → next_word f i ≡ End → StandsBehind words f i p → Some (p.0, cond comment (whys.Comment f) (whys.TooMany f)) ≡ Some r → IsSo line words r.0 r.1
+extra_holds : (line : List ℕ) (words : List Placed) (f : LineForm) (i : ℕ) (p : Placed) (r : ℕ × LineWhy) (comment : Bool)
+    → is_comment p.1 ≡ comment → next_word f i ≡ End → IsPlacedBehind words f i p → Some (p.0, cond comment (whys.Comment f) (whys.TooMany f)) ≡ Some r → IsSo line words r.0 r.1
 extra_holds line words f i p r true m n s e = told_so line words (p.0, whys.Comment f) r e (i, p.1, s, m)
 extra_holds line words f i p r false m n s e = told_so line words (p.0, whys.TooMany f) r e (i, p.1, s, n)
 
-word_holds : (line : List ℕ) (words : List Placed) (f : Form) (i : ℕ) (p : Placed) (r : ℕ × LineWhy) (n : Next)
-    → next_word f i ≡ n → StandsBehind words f i p → word_reason f n p ≡ Some r → IsSo line words r.0 r.1
+word_holds : (line : List ℕ) (words : List Placed) (f : LineForm) (i : ℕ) (p : Placed) (r : ℕ × LineWhy) (n : Next)
+    → next_word f i ≡ n → IsPlacedBehind words f i p → word_reason f n p ≡ Some r → IsSo line words r.0 r.1
 word_holds line words f i p r (Needed k) n s e = needed_holds line words f i p k r (fits k p.1) refl n s e
 word_holds line words f i p r (Optional k) n s e = optional_holds line words f i p k r (fits k p.1) (is_comment p.1) refl refl n s e
 word_holds line words f i p r End n s e = extra_holds line words f i p r (is_comment p.1) refl n s e
 
-end_holds : (line : List ℕ) (words : List Placed) (f : Form) (c : ℕ) (r : ℕ × LineWhy) (n : Next)
+end_holds : (line : List ℕ) (words : List Placed) (f : LineForm) (c : ℕ) (r : ℕ × LineWhy) (n : Next)
     → Begins words f → c ≡ length line + 1 → next_word f (length words - 1) ≡ n → end_reason f n c ≡ Some r → IsSo line words r.0 r.1
 end_holds line words f c r (Needed k) b h n e = told_so line words (c, whys.Missing f k) r e (b, h, n)
 end_holds line words f c r (Optional k) b h n e = cc
@@ -83,7 +83,7 @@ either : (o q : Told) (r : ℕ × LineWhy) (P : ℕ × LineWhy → Type 0) → (
 either None q r P f g e = g e
 either (Some x) q r P f g e = f e
 
-words_hold : (line : List ℕ) (words : List Placed) (f : Form) (place c : ℕ) (ps : List Placed) (r : ℕ × LineWhy)
+words_hold : (line : List ℕ) (words : List Placed) (f : LineForm) (place c : ℕ) (ps : List Placed) (r : ℕ × LineWhy)
     → Begins words f → c ≡ length line + 1 → drop (suc place) words ≡ ps → length words ≡ place + 1 + length ps → words_reason f place c ps ≡ Some r → IsSo line words r.0 r.1
 words_hold line words f place c [] r b h d n e =
     let last : length words - 1 ≡ place = omega arith in
@@ -96,7 +96,7 @@ words_hold line words f place c (p ∷ ps) r b h d n e =
     (λ w. words_hold line words f (place + 1) c ps r b h (rw add-one (drop_behind (suc place) words ps p d)) (omega arith) w)
     e
 
-named_holds : (line : List ℕ) (c : ℕ) (p : Placed) (ps : List Placed) (r : ℕ × LineWhy) (o : Option Form)
+named_holds : (line : List ℕ) (c : ℕ) (p : Placed) (ps : List Placed) (r : ℕ × LineWhy) (o : Option LineForm)
     → form_named p.1 ≡ o → c ≡ length line + 1 → named_reason c p ps o ≡ Some r → IsSo line (p ∷ ps) r.0 r.1
 named_holds line c p ps r None o h e = told_so line (p ∷ ps) (p.0, whys.UnknownName (nearest p.1)) r e (p.1, refl, o, refl)
 named_holds line c p ps r (Some f) o h e = words_hold line (p ∷ ps) f 0 c ps r (ap (λ x. Some x) o) h refl (omega arith) e

@@ -6,8 +6,8 @@ use Rattle.std.proofs.lemmas.Bool.Decides.{nat_tests}
 use Rattle.dis_records.specs.Address.{Pair}
 use Rattle.dis_records.specs.declared.entity_state.EntityState.{EntityState}
 use Rattle.exercise_model.specs.Station.{is_below}
-use Rattle.siman_scripts.specs.declared.part.Part.{Part}
-use Rattle.siman_scripts.specs.declared.part.Part.TheVariants as parts
+use Rattle.siman_scripts.specs.declared.part.ScriptPart.{ScriptPart}
+use Rattle.siman_scripts.specs.declared.part.ScriptPart.TheVariants as parts
 use Rattle.siman_scripts.specs.declared.statement.Statement.{Statement}
 use Rattle.siman_scripts.specs.declared.statement.Statement.TheVariants as says
 use Rattle.siman_scripts.specs.declared.why.Why.{Why}
@@ -65,7 +65,7 @@ opening_so d a e y i n =
     rw found.1 (opened_so d a e y i found.0 (opened_with e y found.0) n found.1 refl)
 
 -- moves may come in each part but the first
-moves_at : (part : Part) → takes_moves part ≡ false → wants_exercise part ≡ true
+moves_at : (part : ScriptPart) → takes_moves part ≡ false → wants_exercise part ≡ true
 moves_at parts.Exercise t = refl
 moves_at parts.Stations t = cc
 moves_at parts.Outfits t = cc

@@ -1,4 +1,3 @@
-mod Texts
 pub mod Openings
 pub mod FormReasons
 pub mod Placed

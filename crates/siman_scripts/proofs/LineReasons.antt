@@ -6,7 +6,7 @@ use Rattle.std.proofs.lemmas.Bool.Decides.{nat_tests}
 use Rattle.siman_scripts.specs.declared.statement.Statement.{Statement}
 use Rattle.siman_scripts.specs.declared.statement.Statement.TheVariants as says
 use Rattle.siman_scripts.specs.declared.why.LineWhy.{LineWhy}
-use Rattle.siman_scripts.specs.Text.{is_ascii, words_of}
+use Rattle.byte_files.specs.Text.{is_ascii, words_of}
 use Rattle.siman_scripts.specs.Statement.{form_of, is_passed_over, statement_of}
 use Rattle.siman_scripts.specs.Words.{placed_words_of}
 use Rattle.siman_scripts.specs.LineReason.{Told, foreign_why, spacing_first, form_reason, ascii_reason, line_reason}

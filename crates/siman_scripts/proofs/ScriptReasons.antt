@@ -10,9 +10,9 @@ use Rattle.dis_records.specs.declared.entity_state.EntityState.{EntityState}
 use Rattle.exercise_model.specs.Station.{is_above, is_below}
 use Rattle.siman_scripts.specs.declared.act.Act.{Act}
 use Rattle.siman_scripts.specs.declared.act.Act.TheVariants as acts
-use Rattle.siman_scripts.specs.declared.line_fault.LineFault.{LineFault}
-use Rattle.siman_scripts.specs.declared.line_fault.LineFault.TheVariants.{Bad}
-use Rattle.siman_scripts.specs.declared.part.Part.TheVariants as parts
+use Rattle.siman_scripts.specs.declared.line_fault.ScriptLineFault.{ScriptLineFault}
+use Rattle.siman_scripts.specs.declared.line_fault.ScriptLineFault.TheVariants.{Bad}
+use Rattle.siman_scripts.specs.declared.part.ScriptPart.TheVariants as parts
 use Rattle.siman_scripts.specs.declared.script.TheConstants.{LARGEST_SCRIPT}
 use Rattle.siman_scripts.specs.declared.script_fault.ScriptFault.{ScriptFault}
 use Rattle.siman_scripts.specs.declared.script_fault.ScriptFault.TheVariants.{BadLine}
@@ -22,7 +22,7 @@ use Rattle.siman_scripts.specs.declared.why.LineReason.{LineReason}
 use Rattle.siman_scripts.specs.declared.why.CommandReason.{CommandReason}
 use Rattle.siman_scripts.specs.declared.why.Why.{Why}
 use Rattle.siman_scripts.specs.declared.why.Why.TheVariants as whys
-use Rattle.siman_scripts.specs.Text.{lines_of}
+use Rattle.byte_files.specs.Text.{lines_of}
 use Rattle.siman_scripts.specs.Stations.{WorldStationData}
 use Rattle.siman_scripts.specs.Statement.{statement_of}
 use Rattle.siman_scripts.specs.Command.{command_said, command_of}
@@ -33,7 +33,7 @@ use Rattle.siman_scripts.specs.Reason.{Refused, rising_reason, station_reason, o
 use Rattle.siman_scripts.proofs.LineReasons.{line_has_reason}
 
 -- the fault that the reason of a line explains
-abbrev line_fault : {A : Type 0} → Option (A × Why) → Option LineFault
+abbrev line_fault : {A : Type 0} → Option (A × Why) → Option ScriptLineFault
 line_fault reason = option_map (λ r. why_fault r.1) reason
 
 -- what refuses a line after the lines before it
@@ -42,7 +42,7 @@ part_late : (wants : Bool) (late : Why) → why_fault late ≡ Bad → why_fault
 part_late true late h = refl
 part_late false late h = h
 
-in_its_part : (takes wants : Bool) (late : Why) (reason : Refused) (made : Result DraftData LineFault) → why_fault late ≡ Bad → line_fault reason ≡ result_err made
+in_its_part : (takes wants : Bool) (late : Why) (reason : Refused) (made : Result DraftData ScriptLineFault) → why_fault late ≡ Bad → line_fault reason ≡ result_err made
     → line_fault (cond takes reason (Some (0, cond wants whys.BeforeExercise late))) ≡ result_err (in_part takes made)
 in_its_part true wants late reason made l h = h
 in_its_part false wants late reason made l h = rw (part_late wants late l)
@@ -151,7 +151,7 @@ ending true false d n = refl
 ending false true d n = refl
 ending false false d n = refl
 
-going_on : (m n : ℕ) (r : Result DraftData LineFault) (o : Option (ℕ × Why)) (next : DraftData → Result DraftData ScriptFault) (told : DraftData → Option LineReason)
+going_on : (m n : ℕ) (r : Result DraftData ScriptLineFault) (o : Option (ℕ × Why)) (next : DraftData → Result DraftData ScriptFault) (told : DraftData → Option LineReason)
     → line_fault o ≡ result_err r → ((e : DraftData) → result_err (whole_after m (next e)) ≡ option_map fault_of (told e))
     → result_err (whole_after m (unless_refused n r next)) ≡ option_map fault_of (option_or (option_map (at_line n) o) (after_line r told))
 going_on m n (Ok e) None next told h ih = ih e

@@ -6,20 +6,20 @@ use Rattle.siman_scripts.specs.declared.act.Act.{Act}
 use Rattle.siman_scripts.specs.declared.act.Act.TheVariants as acts
 use Rattle.siman_scripts.specs.declared.command.Command.{Command}
 use Rattle.siman_scripts.specs.declared.command.Command.TheVariants as commands
-use Rattle.siman_scripts.specs.declared.command.Task.{Task}
-use Rattle.siman_scripts.specs.declared.command.Task.TheVariants as tasks
+use Rattle.siman_scripts.specs.declared.command.StationTask.{StationTask}
+use Rattle.siman_scripts.specs.declared.command.StationTask.TheVariants as tasks
 use Rattle.siman_scripts.specs.declared.statement.Statement.{Statement}
 use Rattle.siman_scripts.specs.declared.statement.Statement.TheVariants as says
 use Rattle.siman_scripts.specs.Statement.{statement_of}
 
 -- the task of a move: none of a delivery, since the links deliver
-abbrev pub task_of : Act → Option Task
+abbrev pub task_of : Act → Option StationTask
 task_of (acts.Command order) = Some (tasks.Order order)
 task_of (acts.Deliver place) = None
 task_of acts.Tick = Some tasks.Repeat
 task_of (acts.Tell e) = Some (tasks.Tell e)
 
-abbrev pub asked : Pair → Option Task → Option Command
+abbrev pub asked : Pair → Option StationTask → Option Command
 asked a None = None
 asked a (Some task) = Some (commands.Asks a task)
 

@@ -7,10 +7,10 @@ use Rattle.dis_records.specs.declared.entity_state.EntityState.{EntityState}
 use Rattle.exercise_model.specs.Station.{is_above, is_opening}
 use Rattle.siman_scripts.specs.declared.act.Act.{Act}
 use Rattle.siman_scripts.specs.declared.act.Move.{Move}
-use Rattle.siman_scripts.specs.declared.line_fault.LineFault.{LineFault}
-use Rattle.siman_scripts.specs.declared.line_fault.LineFault.TheVariants.{Bad, Unknown, Memory}
-use Rattle.siman_scripts.specs.declared.part.Part.{Part}
-use Rattle.siman_scripts.specs.declared.part.Part.TheVariants as parts
+use Rattle.siman_scripts.specs.declared.line_fault.ScriptLineFault.{ScriptLineFault}
+use Rattle.siman_scripts.specs.declared.line_fault.ScriptLineFault.TheVariants.{Bad, Unknown, Memory}
+use Rattle.siman_scripts.specs.declared.part.ScriptPart.{ScriptPart}
+use Rattle.siman_scripts.specs.declared.part.ScriptPart.TheVariants as parts
 use Rattle.siman_scripts.specs.declared.statement.ManagerRules.{ManagerRules}
 use Rattle.siman_scripts.specs.declared.statement.Statement.{Statement}
 use Rattle.siman_scripts.specs.declared.statement.Statement.TheVariants as says
@@ -19,7 +19,7 @@ use Rattle.siman_scripts.specs.Stations.{WorldStationData}
 -- the part to which the next line may belong, if not to a later one; the exercise, stations and moves so far; and
 -- the time of the clocks
 pub record DraftData : Type 0 where
-  pub part : Part
+  pub part : ScriptPart
   pub exercise : ℕ
   pub stations : List WorldStationData
   pub moves : List Move
@@ -32,25 +32,25 @@ blank = record { part = parts.Exercise; exercise = 0; stations = []; moves = [];
 -- THE ORDER OF PARTS: the exercise line once and first; stations; their outfits, which are the entities that they
 -- open with, their datums and actions; moves.
 
-abbrev pub wants_exercise : Part → Bool
+abbrev pub wants_exercise : ScriptPart → Bool
 wants_exercise parts.Exercise = true
 wants_exercise parts.Stations = false
 wants_exercise parts.Outfits = false
 wants_exercise parts.Moves = false
 
-abbrev pub takes_stations : Part → Bool
+abbrev pub takes_stations : ScriptPart → Bool
 takes_stations parts.Exercise = false
 takes_stations parts.Stations = true
 takes_stations parts.Outfits = false
 takes_stations parts.Moves = false
 
-abbrev pub takes_outfits : Part → Bool
+abbrev pub takes_outfits : ScriptPart → Bool
 takes_outfits parts.Exercise = false
 takes_outfits parts.Stations = true
 takes_outfits parts.Outfits = true
 takes_outfits parts.Moves = false
 
-abbrev pub takes_moves : Part → Bool
+abbrev pub takes_moves : ScriptPart → Bool
 takes_moves parts.Exercise = false
 takes_moves parts.Stations = true
 takes_moves parts.Outfits = true
@@ -103,26 +103,26 @@ knowing id w = record w { actions = w.actions ++ id ∷ [] }
 abbrev pub with_station : DraftData → Pair → ManagerRules → DraftData
 with_station d a rules = record d { stations = d.stations ++ new_station a rules ∷ [] }
 
-abbrev pub with_changed : DraftData → ℕ → Option WorldStationData → Result DraftData LineFault
+abbrev pub with_changed : DraftData → ℕ → Option WorldStationData → Result DraftData ScriptLineFault
 with_changed d i None = Err Bad
 with_changed d i (Some w) = Ok (record d { part = parts.Outfits; stations = slice_set d.stations i w })
 
 -- a line of an outfit changes the station that it names, if it is known
-abbrev pub with_outfit : DraftData → (WorldStationData → Option WorldStationData) → Option ℕ → Result DraftData LineFault
+abbrev pub with_outfit : DraftData → (WorldStationData → Option WorldStationData) → Option ℕ → Result DraftData ScriptLineFault
 with_outfit d change None = Err Unknown
 with_outfit d change (Some i) = with_changed d i (option_and_then change (slice_get d.stations i))
 
 -- a move of the station with this index, if it is known
-abbrev pub with_move : DraftData → Act → Option ℕ → Result DraftData LineFault
+abbrev pub with_move : DraftData → Act → Option ℕ → Result DraftData ScriptLineFault
 with_move d act None = Err Unknown
 with_move d act (Some i) = Ok (record d { part = parts.Moves; moves = d.moves ++ record { now = d.clock; station = i; act = act } ∷ [] })
 
 -- the effect of a line, if it is in its part
-abbrev pub in_part : Bool → Result DraftData LineFault → Result DraftData LineFault
+abbrev pub in_part : Bool → Result DraftData ScriptLineFault → Result DraftData ScriptLineFault
 in_part test after = if test then after else Err Bad
 
 -- THE EFFECT OF A STATEMENT on the draft of the lines before it, or why it is refused
-abbrev pub after : DraftData → Statement → Result DraftData LineFault
+abbrev pub after : DraftData → Statement → Result DraftData ScriptLineFault
 after d says.Nothing = Ok d
 after d (says.Exercise x) = in_part (wants_exercise d.part) (Ok (record d { part = parts.Stations; exercise = x }))
 -- at most 256 stations, their addresses rising
@@ -135,17 +135,17 @@ after d (says.At now) = in_part (takes_moves d.part) (Ok (record d { part = part
 after d (says.Does a act) = in_part (takes_moves d.part) (with_move d act (index_of a d.stations))
 
 -- the fault of a call is that of this effect; lack of memory may happen with any
-abbrev pub Tells : LineFault → Result DraftData LineFault → Type 0
+abbrev pub Tells : ScriptLineFault → Result DraftData ScriptLineFault → Type 0
 Tells Bad wanted = wanted ≡ Err Bad
 Tells Unknown wanted = wanted ≡ Err Unknown
 Tells Memory wanted = Unit {0}
 
-abbrev pub Leaves : {A : Type 0} → Result A LineFault → DraftData → Result DraftData LineFault → Type 0
+abbrev pub Leaves : {A : Type 0} → Result A ScriptLineFault → DraftData → Result DraftData ScriptLineFault → Type 0
 Leaves (Ok x) new wanted = wanted ≡ Ok new
 Leaves (Err fault) new wanted = Tells fault wanted
 
 -- the index of the station that a line names, if the line is in its part; or why the line is refused
-abbrev pub Finds : Bool → Option ℕ → Result ℕ LineFault → Type 0
+abbrev pub Finds : Bool → Option ℕ → Result ℕ ScriptLineFault → Type 0
 Finds takes index (Ok i) = (takes ≡ true) × (index ≡ Some i)
 Finds takes index (Err Bad) = takes ≡ false
 Finds takes index (Err Unknown) = (takes ≡ true) × (index ≡ None)

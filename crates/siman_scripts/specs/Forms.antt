@@ -2,13 +2,13 @@
 use Rattle.std.specs.Prelude.{ℕ, Bool, nat_lt, nat_le, List, [], ◌∷◌, codes, find, slice_index_or, Option, Some, None, is_some, if◌then◌else◌}
 use Rattle.std.specs.Str.{bytes_eq}
 use Rattle.exercise_model.specs.Station.{is_entity}
-use Rattle.siman_scripts.specs.declared.form.Form.{Form}
-use Rattle.siman_scripts.specs.declared.form.Form.TheVariants as forms
+use Rattle.siman_scripts.specs.declared.form.LineForm.{LineForm}
+use Rattle.siman_scripts.specs.declared.form.LineForm.TheVariants as forms
 use Rattle.siman_scripts.specs.declared.form.Next.{Next}
 use Rattle.siman_scripts.specs.declared.form.Next.TheVariants.{Needed, Optional, End}
 use Rattle.siman_scripts.specs.declared.word_kind.WordKind.{WordKind}
 use Rattle.siman_scripts.specs.declared.word_kind.WordKind.TheVariants as kinds
-use Rattle.siman_scripts.specs.Text.{number_to}
+use Rattle.byte_files.specs.Text.{number_to}
 use Rattle.siman_scripts.specs.Statement.{◌>>=◌, address_of, target_of, value_of, state_of, number_named}
 
 -- the number of an entity that a station may open with
@@ -41,7 +41,7 @@ fits kinds.Tries word = is_some (tries_of word)
 fits kinds.Wait word = is_some (wait_of word)
 
 -- the name with which the lines of a form begin
-abbrev pub form_name : Form → List ℕ
+abbrev pub form_name : LineForm → List ℕ
 form_name forms.Exercise = codes "exercise"
 form_name forms.Station = codes "station"
 form_name forms.At = codes "at"
@@ -59,19 +59,19 @@ form_name forms.Remove = codes "remove"
 form_name forms.Start = codes "start"
 form_name forms.Stop = codes "stop"
 
-abbrev pub all_forms : List Form
+abbrev pub all_forms : List LineForm
 all_forms =
     forms.Exercise ∷ forms.Station ∷ forms.At ∷ forms.Opening ∷ forms.Fixed ∷ forms.Action ∷ forms.Deliver ∷ forms.Tick ∷ forms.Tell ∷ forms.Do ∷ forms.Query ∷ forms.Set ∷ forms.Create ∷ forms.Remove ∷ forms.Start ∷ forms.Stop ∷ []
 
 -- the form whose lines begin with this name, if any
-abbrev pub form_named : List ℕ → Option Form
+abbrev pub form_named : List ℕ → Option LineForm
 form_named name = find (λ form. bytes_eq name (form_name form)) all_forms
 
 abbrev pub bits_32 : Next
 bits_32 = Needed (kinds.Number 4294967295)
 
 -- THE TABLE OF FORMS: what may follow at the first four places behind the name
-abbrev pub row : Form → List Next
+abbrev pub row : LineForm → List Next
 row forms.Exercise = Needed (kinds.Number 255) ∷ End ∷ End ∷ End ∷ []
 row forms.Station = Needed kinds.Address ∷ Optional kinds.FirstId ∷ Needed kinds.Tries ∷ Needed kinds.Wait ∷ []
 row forms.At = Needed (kinds.Number 18446744073709551615) ∷ End ∷ End ∷ End ∷ []
@@ -90,10 +90,10 @@ row forms.Start = Needed kinds.Address ∷ Needed kinds.Receiver ∷ End ∷ End
 row forms.Stop = Needed kinds.Address ∷ Needed kinds.Receiver ∷ End ∷ End ∷ []
 
 -- what may follow after the first four places: a query may go on
-abbrev pub beyond : Form → Next
+abbrev pub beyond : LineForm → Next
 beyond forms.Query = Optional (kinds.Number 4294967295)
 beyond _ = End
 
 -- what may follow at a place behind the name
-abbrev pub next_word : Form → ℕ → Next
+abbrev pub next_word : LineForm → ℕ → Next
 next_word form place = if nat_lt place 4 then slice_index_or (row form) place End else beyond form

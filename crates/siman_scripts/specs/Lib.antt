@@ -1,4 +1,3 @@
-pub mod Text
 pub mod Stations
 pub mod Statement
 pub mod Draft

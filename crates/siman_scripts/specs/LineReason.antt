@@ -1,7 +1,7 @@
 -- Why a line by itself is refused (profile).
 use Rattle.std.specs.Prelude.{ℕ, ◌+◌, Bool, true, false, ◌==◌, ◌&&◌, nat_le, List, [], ◌∷◌, length, drop, position, slice_index, Option, Some, None, unwrap_or, if◌then◌else◌}
 use Rattle.std.specs.Option.{option_map, option_or}
-use Rattle.siman_scripts.specs.declared.form.Form.{Form}
+use Rattle.siman_scripts.specs.declared.form.LineForm.{LineForm}
 use Rattle.siman_scripts.specs.declared.form.Next.{Next}
 use Rattle.siman_scripts.specs.declared.form.Next.TheVariants.{Needed, Optional, End}
 use Rattle.siman_scripts.specs.declared.why.LineWhy.{LineWhy}
@@ -65,32 +65,32 @@ is_comment [] = false
 is_comment (b ∷ bs) = b == 35
 
 -- the reason of a word too many in a line of this form
-abbrev pub extra_why : Form → List ℕ → LineWhy
+abbrev pub extra_why : LineForm → List ℕ → LineWhy
 extra_why form word = if is_comment word then whys.Comment form else whys.TooMany form
 
 -- the reason of a word of another kind, where a line of this form may end
-abbrev pub optional_why : Form → WordKind → List ℕ → LineWhy
+abbrev pub optional_why : LineForm → WordKind → List ℕ → LineWhy
 optional_why form kind word = if is_comment word then whys.Comment form else whys.Wrong form kind
 
 -- the reason of a word in a line of this form, where this may follow
-abbrev pub word_reason : Form → Next → ℕ × List ℕ → Told
+abbrev pub word_reason : LineForm → Next → ℕ × List ℕ → Told
 word_reason form (Needed kind) p = if fits kind p.1 then None else Some (p.0, whys.Wrong form kind)
 word_reason form (Optional kind) p = if fits kind p.1 then None else Some (p.0, optional_why form kind p.1)
 word_reason form End p = Some (p.0, extra_why form p.1)
 
 -- the reason of the end of a line in this column, where this may follow
-abbrev pub end_reason : Form → Next → ℕ → Told
+abbrev pub end_reason : LineForm → Next → ℕ → Told
 end_reason form (Needed kind) column = Some (column, whys.Missing form kind)
 end_reason form (Optional kind) column = None
 end_reason form End column = None
 
 -- the reason of the words from a place on behind the name of a form; the line ends before this column
-abbrev pub words_reason : Form → ℕ → ℕ → List (ℕ × List ℕ) → Told
+abbrev pub words_reason : LineForm → ℕ → ℕ → List (ℕ × List ℕ) → Told
 words_reason form place column [] = end_reason form (next_word form place) column
 words_reason form place column (p ∷ ps) = option_or (word_reason form (next_word form place) p) (words_reason form (place + 1) column ps)
 
 -- the reason of the words of a line, given its form
-abbrev pub named_reason : ℕ → ℕ × List ℕ → List (ℕ × List ℕ) → Option Form → Told
+abbrev pub named_reason : ℕ → ℕ × List ℕ → List (ℕ × List ℕ) → Option LineForm → Told
 named_reason column p ps (Some form) = words_reason form 0 column ps
 named_reason column p ps None = Some (p.0, whys.UnknownName (nearest p.1))
 

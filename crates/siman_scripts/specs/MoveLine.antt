@@ -2,7 +2,7 @@
 use Rattle.std.specs.Prelude.{ℕ, ◌+◌, ◌-◌, Bool, true, false, ◌==◌, List, [], ◌∷◌, Option, Some, None, if◌then◌else◌}
 use Rattle.siman_scripts.specs.declared.statement.Statement.{Statement}
 use Rattle.siman_scripts.specs.declared.statement.Statement.TheVariants as says
-use Rattle.siman_scripts.specs.Text.{lines_of}
+use Rattle.byte_files.specs.Text.{lines_of}
 use Rattle.siman_scripts.specs.Statement.{statement_of}
 
 -- a line is a move

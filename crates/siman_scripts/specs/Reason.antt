@@ -5,11 +5,11 @@ use Rattle.std.specs.Result.{result_err}
 use Rattle.dis_records.specs.Address.{Pair}
 use Rattle.dis_records.specs.declared.entity_state.EntityState.{EntityState}
 use Rattle.exercise_model.specs.Station.{is_below}
-use Rattle.siman_scripts.specs.declared.form.Form.{Form}
-use Rattle.siman_scripts.specs.declared.form.Form.TheVariants as forms
-use Rattle.siman_scripts.specs.declared.line_fault.LineFault.{LineFault}
-use Rattle.siman_scripts.specs.declared.line_fault.LineFault.TheVariants.{Bad, Unknown}
-use Rattle.siman_scripts.specs.declared.part.Part.{Part}
+use Rattle.siman_scripts.specs.declared.form.LineForm.{LineForm}
+use Rattle.siman_scripts.specs.declared.form.LineForm.TheVariants as forms
+use Rattle.siman_scripts.specs.declared.line_fault.ScriptLineFault.{ScriptLineFault}
+use Rattle.siman_scripts.specs.declared.line_fault.ScriptLineFault.TheVariants.{Bad, Unknown}
+use Rattle.siman_scripts.specs.declared.part.ScriptPart.{ScriptPart}
 use Rattle.siman_scripts.specs.declared.script.TheConstants.{LARGEST_SCRIPT}
 use Rattle.siman_scripts.specs.declared.script_fault.ScriptFault.{ScriptFault}
 use Rattle.siman_scripts.specs.declared.statement.Statement.{Statement}
@@ -22,7 +22,7 @@ use Rattle.siman_scripts.specs.declared.why.LineReason.{LineReason}
 use Rattle.siman_scripts.specs.declared.why.LineWhy.{LineWhy}
 use Rattle.siman_scripts.specs.declared.why.Why.{Why}
 use Rattle.siman_scripts.specs.declared.why.Why.TheVariants as whys
-use Rattle.siman_scripts.specs.Text.{lines_of, cut_at}
+use Rattle.byte_files.specs.Text.{lines_of, cut_at}
 use Rattle.siman_scripts.specs.Stations.{WorldStationData}
 use Rattle.siman_scripts.specs.Statement.{statement_of}
 use Rattle.siman_scripts.specs.Draft.{DraftData, blank, wants_exercise, takes_stations, takes_outfits, takes_moves, last_address, index_of, last_number, opened_with}
@@ -37,10 +37,10 @@ abbrev pub Refused : Type 0
 Refused = Option (ℕ × Why)
 
 -- the reason of a line that is before the exercise, or late for its part
-abbrev pub part_why : Part → Why → Why
+abbrev pub part_why : ScriptPart → Why → Why
 part_why part late = if wants_exercise part then whys.BeforeExercise else late
 
-abbrev pub part_reason : Part → Bool → Why → Refused → Refused
+abbrev pub part_reason : ScriptPart → Bool → Why → Refused → Refused
 part_reason part takes late reason = if takes then reason else Some (0, part_why part late)
 
 -- the reason of a station that is not above this one, if there is one
@@ -109,7 +109,7 @@ end_reason d n =
     else if nat_lt 0 (length d.stations) then None
     else Some (record { line = n + 1; column = 0; why = whys.NoStation })
 
-abbrev pub after_line : Result DraftData LineFault → (DraftData → Option LineReason) → Option LineReason
+abbrev pub after_line : Result DraftData ScriptLineFault → (DraftData → Option LineReason) → Option LineReason
 after_line (Err fault) next = None
 after_line (Ok d) next = next d
 
@@ -126,7 +126,7 @@ reason_at text =
 -- Typed lines.
 
 -- lines of this form are no orders for a station
-abbrev pub is_setup : Form → Bool
+abbrev pub is_setup : LineForm → Bool
 is_setup forms.Exercise = true
 is_setup forms.Station = true
 is_setup forms.Opening = true
@@ -139,10 +139,10 @@ is_setup _ = false
 abbrev pub first_word : List ℕ → List ℕ
 first_word line = unwrap_or (option_map (λ p. p.0) (cut_at 32 line)) line
 
-abbrev pub not_for_station : Form → CommandReason
+abbrev pub not_for_station : LineForm → CommandReason
 not_for_station form = record { column = 1; why = commands.NotForStation form }
 
-abbrev pub named_setup : Option Form → Option CommandReason
+abbrev pub named_setup : Option LineForm → Option CommandReason
 named_setup None = None
 named_setup (Some form) = if is_setup form then Some (not_for_station form) else None
 
@@ -151,13 +151,13 @@ abbrev pub setup_reason : List ℕ → Option CommandReason
 setup_reason line = named_setup (form_named (first_word line))
 
 -- the form of an act that is no order for a station
-abbrev pub delivery_form : Act → Option Form
+abbrev pub delivery_form : Act → Option LineForm
 delivery_form (acts.Deliver place) = Some forms.Deliver
 delivery_form (acts.Command order) = None
 delivery_form acts.Tick = None
 delivery_form (acts.Tell e) = None
 
-abbrev pub setup_form : Statement → Option Form
+abbrev pub setup_form : Statement → Option LineForm
 setup_form says.Nothing = None
 setup_form (says.Exercise x) = Some forms.Exercise
 setup_form (says.Station a rules) = Some forms.Station
@@ -180,7 +180,7 @@ abbrev pub command_reason : List ℕ → Option CommandReason
 command_reason line = unsaid_reason line (statement_of line)
 
 -- the fault that a reason explains
-abbrev pub why_fault : Why → LineFault
+abbrev pub why_fault : Why → ScriptLineFault
 why_fault (whys.UnknownStation s a) = Unknown
 why_fault _ = Bad
 

@@ -1,7 +1,7 @@
 -- The text of a reason (profile).
 use Rattle.std.specs.Prelude.{ℕ, ◌==◌, List, [], ◌++◌, codes, decimal, Option, Some, None, if◌then◌else◌}
-use Rattle.siman_scripts.specs.declared.form.Form.{Form}
-use Rattle.siman_scripts.specs.declared.form.Form.TheVariants as forms
+use Rattle.siman_scripts.specs.declared.form.LineForm.{LineForm}
+use Rattle.siman_scripts.specs.declared.form.LineForm.TheVariants as forms
 use Rattle.siman_scripts.specs.declared.why.CommandReason.{CommandReason}
 use Rattle.siman_scripts.specs.declared.why.CommandWhy.{CommandWhy}
 use Rattle.siman_scripts.specs.declared.why.CommandWhy.TheVariants as commands
@@ -12,14 +12,14 @@ use Rattle.siman_scripts.specs.declared.why.Why.{Why}
 use Rattle.siman_scripts.specs.declared.why.Why.TheVariants as whys
 use Rattle.siman_scripts.specs.declared.word_kind.WordKind.{WordKind}
 use Rattle.siman_scripts.specs.declared.word_kind.WordKind.TheVariants as kinds
-use Rattle.siman_scripts.specs.declared.reason_text.Piece.{Piece}
-use Rattle.siman_scripts.specs.declared.reason_text.Piece.TheVariants.{Words, Number, Nothing}
-use Rattle.siman_scripts.specs.declared.reason_text.Pieces.{Pieces}
+use Rattle.siman_scripts.specs.declared.reason_text.ReasonPiece.{ReasonPiece}
+use Rattle.siman_scripts.specs.declared.reason_text.ReasonPiece.TheVariants.{Words, Number, Nothing}
+use Rattle.siman_scripts.specs.declared.reason_text.ReasonPieces.{ReasonPieces}
 use Rattle.siman_scripts.specs.Forms.{form_name}
 
 -- Pieces of a text.
 
-abbrev pub piece_text : Piece → List ℕ
+abbrev pub piece_text : ReasonPiece → List ℕ
 piece_text (Words words) = words.now
 piece_text (Number n) = decimal n
 piece_text Nothing = []
@@ -27,13 +27,13 @@ piece_text Nothing = []
 abbrev pub five : List ℕ → List ℕ → List ℕ → List ℕ → List ℕ → List ℕ
 five a b c d e = a ++ (b ++ (c ++ (d ++ e)))
 
-abbrev pub pieces_text : Pieces → List ℕ
+abbrev pub pieces_text : ReasonPieces → List ℕ
 pieces_text p = five (piece_text p.first) (piece_text p.second) (piece_text p.third) (piece_text p.fourth) (piece_text p.fifth)
 
 -- What is expected.
 
 -- the form of a line, as it is written
-abbrev pub form_text : Form → List ℕ
+abbrev pub form_text : LineForm → List ℕ
 form_text forms.Exercise = codes "exercise X"
 form_text forms.Station = codes "station S:A, or station S:A first=F tries=T wait=W"
 form_text forms.At = codes "at N"
@@ -84,7 +84,7 @@ plain_line_text (lines.Missing form kind) = []
 plain_line_text (lines.TooMany form) = []
 plain_line_text (lines.Wrong form kind) = []
 
-abbrev pub unknown_name_text : Option Form → List ℕ
+abbrev pub unknown_name_text : Option LineForm → List ℕ
 unknown_name_text None = codes "no line begins with this word"
 unknown_name_text (Some form) = five (codes "no line begins with this word: is ") (form_name form) (codes " meant?") [] []
 

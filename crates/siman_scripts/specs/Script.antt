@@ -2,12 +2,12 @@
 use Rattle.std.specs.Prelude.{◌≡◌, ℕ, ◌+◌, Bool, ◌&&◌, not, nat_lt, List, [], ◌∷◌, length, Option, Some, None, Result, Ok, Err, if◌then◌else◌}
 use Rattle.siman_scripts.specs.declared.script.TheConstants.{LARGEST_SCRIPT}
 use Rattle.siman_scripts.specs.declared.act.Move.{Move}
-use Rattle.siman_scripts.specs.declared.line_fault.LineFault.{LineFault}
-use Rattle.siman_scripts.specs.declared.line_fault.LineFault.TheVariants as lines
+use Rattle.siman_scripts.specs.declared.line_fault.ScriptLineFault.{ScriptLineFault}
+use Rattle.siman_scripts.specs.declared.line_fault.ScriptLineFault.TheVariants as lines
 use Rattle.siman_scripts.specs.declared.script_fault.ScriptFault.{ScriptFault}
 use Rattle.siman_scripts.specs.declared.script_fault.ScriptFault.TheVariants.{BadLine, UnknownStation, Memory}
 use Rattle.siman_scripts.specs.declared.statement.Statement.{Statement}
-use Rattle.siman_scripts.specs.Text.{lines_of}
+use Rattle.byte_files.specs.Text.{lines_of}
 use Rattle.siman_scripts.specs.Stations.{WorldStationData}
 use Rattle.siman_scripts.specs.Statement.{statement_of}
 use Rattle.siman_scripts.specs.Draft.{DraftData, blank, after, wants_exercise}
@@ -19,21 +19,21 @@ pub record ScriptData : Type 0 where
   pub moves : List Move
 
 -- the fault of the line of this number
-abbrev pub fault_at : ℕ → LineFault → ScriptFault
+abbrev pub fault_at : ℕ → ScriptLineFault → ScriptFault
 fault_at n lines.Bad = BadLine n
 fault_at n lines.Unknown = UnknownStation n
 fault_at n lines.Memory = Memory
 
-abbrev pub after_if : DraftData → Option Statement → Result DraftData LineFault
+abbrev pub after_if : DraftData → Option Statement → Result DraftData ScriptLineFault
 after_if d None = Err lines.Bad
 after_if d (Some s) = after d s
 
 -- the draft after one more line, which has a form and is in its part, or the line's fault
-abbrev pub line_after : DraftData → List ℕ → Result DraftData LineFault
+abbrev pub line_after : DraftData → List ℕ → Result DraftData ScriptLineFault
 line_after d line = after_if d (statement_of line)
 
 -- the rest after line n, unless that is refused
-abbrev pub unless_refused : ℕ → Result DraftData LineFault → (DraftData → Result DraftData ScriptFault) → Result DraftData ScriptFault
+abbrev pub unless_refused : ℕ → Result DraftData ScriptLineFault → (DraftData → Result DraftData ScriptFault) → Result DraftData ScriptFault
 unless_refused n (Ok d) next = next d
 unless_refused n (Err fault) next = Err (fault_at n fault)
 

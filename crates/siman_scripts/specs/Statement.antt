@@ -16,7 +16,7 @@ use Rattle.siman_scripts.specs.declared.act.Act.TheVariants.{Command, Deliver, T
 use Rattle.siman_scripts.specs.declared.statement.ManagerRules.{ManagerRules}
 use Rattle.siman_scripts.specs.declared.statement.Statement.{Statement}
 use Rattle.siman_scripts.specs.declared.statement.Statement.TheVariants as says
-use Rattle.siman_scripts.specs.Text.{is_ascii, words_of, cut_at, number_to}
+use Rattle.byte_files.specs.Text.{is_ascii, words_of, cut_at, number_to}
 
 infixl 10 ◌>>=◌
 abbrev pub ◌>>=◌ : {A B : Type 0} → Option A → (A → Option B) → Option B

@@ -12,7 +12,7 @@ use std::alloc::{AllocError, Global};
 
 /// Task of a station.
 #[derive(Drop)]
-pub enum Task {
+pub enum StationTask {
     /// Issue an order.
     Order(Order),
     /// Send the repeat that is due, if any.
@@ -29,22 +29,22 @@ pub enum Command {
     /// Set the clock to this time.
     At(u64),
     /// Give a task to the station with this address.
-    Asks { address: Address, task: Task },
+    Asks { address: Address, task: StationTask },
 }
 
 /// Task of a move; none of a delivery.
-fn task_of(act: Act) -> Option<Task>
+fn task_of(act: Act) -> Option<StationTask>
     ensures { result ≡ task_of act }
 {
     match act {
-        Act::Command(order) => Some(Task::Order(order)),
+        Act::Command(order) => Some(StationTask::Order(order)),
         Act::Deliver(_) => None,
-        Act::Tick => Some(Task::Repeat),
-        Act::Tell(entity) => Some(Task::Tell(entity)),
+        Act::Tick => Some(StationTask::Repeat),
+        Act::Tell(entity) => Some(StationTask::Tell(entity)),
     }
 }
 
-fn asked(address: Address, task: Option<Task>) -> Option<Command>
+fn asked(address: Address, task: Option<StationTask>) -> Option<Command>
     ensures { result ≡ asked address task }
 {
     match task {

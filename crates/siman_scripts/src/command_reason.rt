@@ -5,21 +5,26 @@ ghost use Rattle.siman_scripts.specs.Command.{command_of};
 ghost use Rattle.siman_scripts.specs.Reason.{is_setup, first_word, setup_reason, delivery_form, setup_form, not_for_station, by_line, command_reason};
 
 use crate::act::Act;
-use crate::form::{Form, form_named};
+use crate::form::{LineForm, form_named};
 use crate::forms::statement_of;
 use crate::line_reason::line_reason;
 use crate::statement::Statement;
-use crate::text::split_once;
 use crate::why::{CommandReason, CommandWhy, LineWhy};
+use byte_files::split_once;
 use std::alloc::{AllocError, Global};
 
 /// Whether lines of a form are no orders for a station.
-fn is_setup(form: Form) -> bool
+fn is_setup(form: LineForm) -> bool
     ensures { result ≡ is_setup form }
 {
     matches!(
         form,
-        Form::Exercise | Form::Station | Form::Opening | Form::Fixed | Form::Action | Form::Deliver
+        LineForm::Exercise
+            | LineForm::Station
+            | LineForm::Opening
+            | LineForm::Fixed
+            | LineForm::Action
+            | LineForm::Deliver
     )
 }
 
@@ -33,7 +38,7 @@ fn first_word(line: &[u8]) -> &[u8]
     }
 }
 
-fn not_for_station(form: Form) -> CommandReason
+fn not_for_station(form: LineForm) -> CommandReason
     ensures { result ≡ not_for_station form }
 {
     CommandReason {
@@ -53,25 +58,25 @@ fn setup_reason(line: &[u8]) -> Option<CommandReason>
 }
 
 /// Form of an act that is no order for a station.
-fn delivery_form(act: &Act) -> Option<Form>
+fn delivery_form(act: &Act) -> Option<LineForm>
     ensures { result ≡ delivery_form act.now }
 {
     match act {
-        Act::Deliver(_) => Some(Form::Deliver),
+        Act::Deliver(_) => Some(LineForm::Deliver),
         Act::Command(_) | Act::Tick | Act::Tell(_) => None,
     }
 }
 
 /// Form of a statement that is no order for a station.
-fn setup_form(statement: &Statement) -> Option<Form>
+fn setup_form(statement: &Statement) -> Option<LineForm>
     ensures { result ≡ setup_form statement.now }
 {
     match statement {
-        Statement::Exercise(_) => Some(Form::Exercise),
-        Statement::Station { .. } => Some(Form::Station),
-        Statement::Opening { .. } => Some(Form::Opening),
-        Statement::Fixed { .. } => Some(Form::Fixed),
-        Statement::Action { .. } => Some(Form::Action),
+        Statement::Exercise(_) => Some(LineForm::Exercise),
+        Statement::Station { .. } => Some(LineForm::Station),
+        Statement::Opening { .. } => Some(LineForm::Opening),
+        Statement::Fixed { .. } => Some(LineForm::Fixed),
+        Statement::Action { .. } => Some(LineForm::Action),
         Statement::Does { act, .. } => delivery_form(act),
         Statement::Nothing | Statement::At(_) => None,
     }

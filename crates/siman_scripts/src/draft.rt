@@ -7,8 +7,8 @@ ghost use Rattle.siman_scripts.specs.Script.{is_whole, script_of};
 mod reasons;
 
 use crate::act::{Act, Move};
-use crate::line_fault::LineFault;
-use crate::part::{Part, takes_moves, takes_outfits, takes_stations, wants_exercise};
+use crate::line_fault::ScriptLineFault;
+use crate::part::{ScriptPart, takes_moves, takes_outfits, takes_stations, wants_exercise};
 use crate::script::Script;
 use crate::statement::{ManagerRules, Statement};
 use crate::station_draft::StationDraft;
@@ -21,7 +21,7 @@ use std::marker::Model;
 /// What the lines of a script so far give. Contracts see its stations and moves as lists.
 #[derive(Drop)]
 pub(crate) struct Draft {
-    part: Part,
+    part: ScriptPart,
     exercise: u8,
     stations: Vec<StationDraft>,
     moves: Vec<Move>,
@@ -71,7 +71,7 @@ impl Draft {
         ensures { result ≡ blank }
     {
         Draft {
-            part: Part::Exercise,
+            part: ScriptPart::Exercise,
             exercise: 0,
             stations: Vec::new(alloc),
             moves: Vec::new(alloc),
@@ -80,7 +80,7 @@ impl Draft {
     }
 
     /// Adds the statement of one more line, or refuses it.
-    pub fn take(&mut self, alloc: Global, statement: Statement) -> Result<(), LineFault>
+    pub fn take(&mut self, alloc: Global, statement: Statement) -> Result<(), ScriptLineFault>
         ensures { Leaves result self.new (after self.old statement) }
     {
         match statement {
@@ -99,13 +99,13 @@ impl Draft {
         }
     }
 
-    fn take_exercise(&mut self, exercise: u8) -> Result<(), LineFault>
+    fn take_exercise(&mut self, exercise: u8) -> Result<(), ScriptLineFault>
         ensures { Leaves result self.new (after self.old (Statement.Exercise exercise)) }
     {
         if !wants_exercise(self.part) {
-            return Err(LineFault::Bad);
+            return Err(ScriptLineFault::Bad);
         }
-        self.part = Part::Stations;
+        self.part = ScriptPart::Stations;
         self.exercise = exercise;
         Ok(())
     }
@@ -115,14 +115,14 @@ impl Draft {
         alloc: Global,
         address: Address,
         rules: ManagerRules,
-    ) -> Result<(), LineFault>
+    ) -> Result<(), ScriptLineFault>
         ensures { Leaves result self.new (after self.old (Statement.Station address rules)) }
     {
         if !takes_stations(self.part)
             || self.stations.len() >= MOST_STATIONS
             || !is_above(last_address(&self.stations), address)
         {
-            return Err(LineFault::Bad);
+            return Err(ScriptLineFault::Bad);
         }
         self.stations
             .push(StationDraft::begin(alloc, address, rules))?;
@@ -130,16 +130,16 @@ impl Draft {
     }
 
     /// Index of the station that a line of an outfit names.
-    fn outfit_index(&self, address: Address) -> Result<usize, LineFault>
+    fn outfit_index(&self, address: Address) -> Result<usize, ScriptLineFault>
         ensures index { Finds (takes_outfits self.now.part) (index_of address self.now.stations) result }
         ensures within { IfOk result (λ i. i < length self.now.stations) }
     {
         if !takes_outfits(self.part) {
-            return Err(LineFault::Bad);
+            return Err(ScriptLineFault::Bad);
         }
         match index_of(&self.stations, address) {
             Some(index) => Ok(index),
-            None => Err(LineFault::Unknown),
+            None => Err(ScriptLineFault::Unknown),
         }
     }
 
@@ -148,56 +148,56 @@ impl Draft {
         address: Address,
         entity: u16,
         state: EntityState,
-    ) -> Result<(), LineFault>
+    ) -> Result<(), ScriptLineFault>
         ensures { Leaves result self.new (after self.old (Statement.Opening address entity state)) }
     {
         let index = self.outfit_index(address)?;
-        self.part = Part::Outfits;
+        self.part = ScriptPart::Outfits;
         let station = &mut self.stations[index];
         station.open(entity, state)
     }
 
-    fn take_fixed(&mut self, address: Address, datum: FixedDatum) -> Result<(), LineFault>
+    fn take_fixed(&mut self, address: Address, datum: FixedDatum) -> Result<(), ScriptLineFault>
         ensures { Leaves result self.new (after self.old (Statement.Fixed address datum)) }
     {
         let index = self.outfit_index(address)?;
-        self.part = Part::Outfits;
+        self.part = ScriptPart::Outfits;
         let station = &mut self.stations[index];
         station.hold(datum)?;
         Ok(())
     }
 
-    fn take_action(&mut self, address: Address, id: u32) -> Result<(), LineFault>
+    fn take_action(&mut self, address: Address, id: u32) -> Result<(), ScriptLineFault>
         ensures { Leaves result self.new (after self.old (Statement.Action address id)) }
     {
         let index = self.outfit_index(address)?;
-        self.part = Part::Outfits;
+        self.part = ScriptPart::Outfits;
         let station = &mut self.stations[index];
         station.know(id)?;
         Ok(())
     }
 
-    fn take_clock(&mut self, now: u64) -> Result<(), LineFault>
+    fn take_clock(&mut self, now: u64) -> Result<(), ScriptLineFault>
         ensures { Leaves result self.new (after self.old (Statement.At now)) }
     {
         if !takes_moves(self.part) {
-            return Err(LineFault::Bad);
+            return Err(ScriptLineFault::Bad);
         }
-        self.part = Part::Moves;
+        self.part = ScriptPart::Moves;
         self.clock = now;
         Ok(())
     }
 
-    fn take_move(&mut self, address: Address, act: Act) -> Result<(), LineFault>
+    fn take_move(&mut self, address: Address, act: Act) -> Result<(), ScriptLineFault>
         ensures { Leaves result self.new (after self.old (Statement.Does address act)) }
     {
         if !takes_moves(self.part) {
-            return Err(LineFault::Bad);
+            return Err(ScriptLineFault::Bad);
         }
         let Some(index) = index_of(&self.stations, address) else {
-            return Err(LineFault::Unknown);
+            return Err(ScriptLineFault::Unknown);
         };
-        self.part = Part::Moves;
+        self.part = ScriptPart::Moves;
         self.moves.push(Move {
             now: self.clock,
             station: index as u16,

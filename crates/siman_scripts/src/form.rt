@@ -7,7 +7,7 @@ use crate::word_kind::WordKind;
 
 /// A form of line, named by the first word of its lines.
 #[derive(Clone, Copy)]
-pub enum Form {
+pub enum LineForm {
     Exercise,
     Station,
     At,
@@ -27,23 +27,23 @@ pub enum Form {
 }
 
 /// All forms.
-pub(crate) const FORMS: [Form; 16] = [
-    Form::Exercise,
-    Form::Station,
-    Form::At,
-    Form::Opening,
-    Form::Fixed,
-    Form::Action,
-    Form::Deliver,
-    Form::Tick,
-    Form::Tell,
-    Form::Do,
-    Form::Query,
-    Form::Set,
-    Form::Create,
-    Form::Remove,
-    Form::Start,
-    Form::Stop,
+pub(crate) const FORMS: [LineForm; 16] = [
+    LineForm::Exercise,
+    LineForm::Station,
+    LineForm::At,
+    LineForm::Opening,
+    LineForm::Fixed,
+    LineForm::Action,
+    LineForm::Deliver,
+    LineForm::Tick,
+    LineForm::Tell,
+    LineForm::Do,
+    LineForm::Query,
+    LineForm::Set,
+    LineForm::Create,
+    LineForm::Remove,
+    LineForm::Start,
+    LineForm::Stop,
 ];
 
 /// What may follow at a place behind the name of a line.
@@ -58,31 +58,31 @@ pub(crate) enum Next {
 }
 
 /// The name with which the lines of a form begin.
-pub fn form_name(form: Form) -> &'static str
+pub fn form_name(form: LineForm) -> &'static str
     ensures { result.now ≡ form_name form }
 {
     match form {
-        Form::Exercise => "exercise",
-        Form::Station => "station",
-        Form::At => "at",
-        Form::Opening => "opening",
-        Form::Fixed => "fixed",
-        Form::Action => "action",
-        Form::Deliver => "deliver",
-        Form::Tick => "tick",
-        Form::Tell => "tell",
-        Form::Do => "do",
-        Form::Query => "query",
-        Form::Set => "set",
-        Form::Create => "create",
-        Form::Remove => "remove",
-        Form::Start => "start",
-        Form::Stop => "stop",
+        LineForm::Exercise => "exercise",
+        LineForm::Station => "station",
+        LineForm::At => "at",
+        LineForm::Opening => "opening",
+        LineForm::Fixed => "fixed",
+        LineForm::Action => "action",
+        LineForm::Deliver => "deliver",
+        LineForm::Tick => "tick",
+        LineForm::Tell => "tell",
+        LineForm::Do => "do",
+        LineForm::Query => "query",
+        LineForm::Set => "set",
+        LineForm::Create => "create",
+        LineForm::Remove => "remove",
+        LineForm::Start => "start",
+        LineForm::Stop => "stop",
     }
 }
 
 /// The form whose lines begin with this name, if any.
-pub(crate) fn form_named(name: &[u8]) -> Option<Form>
+pub(crate) fn form_named(name: &[u8]) -> Option<LineForm>
     ensures { result ≡ form_named name.now }
 {
     FORMS
@@ -98,51 +98,53 @@ const RECEIVER: Next = Next::Needed(WordKind::Receiver);
 const BITS_32: Next = Next::Needed(WordKind::Number(0xFFFF_FFFF));
 
 /// What may follow at the first four places behind the name of a line.
-fn row(form: Form) -> [Next; 4]
+fn row(form: LineForm) -> [Next; 4]
     ensures { result ≡ row form }
 {
     let end = Next::End;
     match form {
-        Form::Exercise => [Next::Needed(WordKind::Number(0xFF)), end, end, end],
-        Form::Station => [
+        LineForm::Exercise => [Next::Needed(WordKind::Number(0xFF)), end, end, end],
+        LineForm::Station => [
             ADDRESS,
             Next::Optional(WordKind::FirstId),
             Next::Needed(WordKind::Tries),
             Next::Needed(WordKind::Wait),
         ],
-        Form::At => [Next::Needed(WordKind::Number(u64::MAX)), end, end, end],
-        Form::Opening => [
+        LineForm::At => [Next::Needed(WordKind::Number(u64::MAX)), end, end, end],
+        LineForm::Opening => [
             ADDRESS,
             Next::Needed(WordKind::Entity),
             Next::Needed(WordKind::State),
             end,
         ],
-        Form::Fixed => [ADDRESS, BITS_32, BITS_32, end],
-        Form::Action => [ADDRESS, BITS_32, end, end],
-        Form::Deliver => [BITS_32, ADDRESS, end, end],
-        Form::Tick => [ADDRESS, end, end, end],
-        Form::Tell => [ADDRESS, Next::Needed(WordKind::Number(0xFFFF)), end, end],
-        Form::Do => [ADDRESS, RECEIVER, BITS_32, end],
-        Form::Query => [
+        LineForm::Fixed => [ADDRESS, BITS_32, BITS_32, end],
+        LineForm::Action => [ADDRESS, BITS_32, end, end],
+        LineForm::Deliver => [BITS_32, ADDRESS, end, end],
+        LineForm::Tick => [ADDRESS, end, end, end],
+        LineForm::Tell => [ADDRESS, Next::Needed(WordKind::Number(0xFFFF)), end, end],
+        LineForm::Do => [ADDRESS, RECEIVER, BITS_32, end],
+        LineForm::Query => [
             ADDRESS,
             RECEIVER,
             BITS_32,
             Next::Optional(WordKind::Number(0xFFFF_FFFF)),
         ],
-        Form::Set => [ADDRESS, RECEIVER, BITS_32, BITS_32],
-        Form::Create | Form::Remove | Form::Start | Form::Stop => [ADDRESS, RECEIVER, end, end],
+        LineForm::Set => [ADDRESS, RECEIVER, BITS_32, BITS_32],
+        LineForm::Create | LineForm::Remove | LineForm::Start | LineForm::Stop => [
+            ADDRESS, RECEIVER, end, end,
+        ],
     }
 }
 
 /// What may follow at a place behind the name of a line; places are counted from 0.
-pub(crate) fn next_word(form: Form, place: usize) -> Next
+pub(crate) fn next_word(form: LineForm, place: usize) -> Next
     ensures { result ≡ next_word form place }
 {
     if place < 4 {
         return row(form)[place];
     }
     match form {
-        Form::Query => Next::Optional(WordKind::Number(0xFFFF_FFFF)),
+        LineForm::Query => Next::Optional(WordKind::Number(0xFFFF_FFFF)),
         _ => Next::End,
     }
 }

@@ -2,29 +2,15 @@
 
 ghost use Rattle.std.specs.Prelude.{◌≡◌, Some, None, [], map, IfOk};
 ghost use Rattle.std.specs.Option.{option_map};
-ghost use Rattle.siman_scripts.specs.Text.{number_to};
+ghost use Rattle.byte_files.specs.Text.{number_to};
 ghost use Rattle.siman_scripts.specs.Statement.{address_of, value_of, state_of, datum_of, number_named, rules_of, exercise_form, station_form, opening_form, fixed_form, action_form, at_form, station_line, is_passed_over, form_of, statement_of};
 
 use crate::moves::{acting, deliver};
 use crate::statement::{ManagerRules, Statement};
-use crate::text::{is_ascii, number, split_once, words};
+use byte_files::{is_ascii, number_16, number_32, number_to, split_once, words};
 use dis_records::{Address, EntityState, FixedDatum};
 use exercise_model::LARGEST_ENTITY;
 use std::alloc::{AllocError, Global};
-
-/// The number of 16 bits that a word spells.
-pub fn number_16(word: &[u8]) -> Option<u16>
-    ensures { result ≡ number_to 65535 word.now }
-{
-    Some(number(word, 0xFFFF)? as u16)
-}
-
-/// The number of 32 bits that a word spells.
-pub fn number_32(word: &[u8]) -> Option<u32>
-    ensures { result ≡ number_to 4294967295 word.now }
-{
-    Some(number(word, 0xFFFF_FFFF)? as u32)
-}
 
 /// The address that a word `S:A` spells.
 pub fn address_of(word: &[u8]) -> Option<Address>
@@ -58,7 +44,7 @@ fn exercise(words: &[&[u8]]) -> Option<Statement>
     ensures { result ≡ exercise_form (map (λ w. w.now) words.now) }
 {
     match words {
-        [exercise] => Some(Statement::Exercise(number(exercise, 0xFF)? as u8)),
+        [exercise] => Some(Statement::Exercise(number_to(exercise, 0xFF)? as u8)),
         _ => None,
     }
 }
@@ -83,7 +69,7 @@ fn rules_of(words: &[&[u8]]) -> Option<ManagerRules>
         [first, tries, wait] => {
             let first_id = number_named(b"first", first)?;
             let tries = number_named(b"tries", tries)?;
-            let wait = number(value_of(b"wait", wait)?, u64::MAX)?;
+            let wait = number_to(value_of(b"wait", wait)?, u64::MAX)?;
             if tries < 1 {
                 return None;
             }
@@ -171,7 +157,7 @@ fn at(words: &[&[u8]]) -> Option<Statement>
     ensures { result ≡ at_form (map (λ w. w.now) words.now) }
 {
     match words {
-        [now] => Some(Statement::At(number(now, u64::MAX)?)),
+        [now] => Some(Statement::At(number_to(now, u64::MAX)?)),
         _ => None,
     }
 }

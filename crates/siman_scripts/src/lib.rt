@@ -26,27 +26,25 @@ mod script_fault;
 mod script_reason;
 mod statement;
 mod station_draft;
-mod text;
 mod why;
 mod word_kind;
 mod world_station;
 
 pub use act::{Act, Move};
-pub use command::{Command, Task, read_command};
+pub use command::{Command, StationTask, read_command};
 pub use command_reason::{a_line_has_a_reason_or_is_an_order, reason_of_command};
-pub use form::{Form, form_name};
-pub use forms::{address_of, number_16, number_32};
+pub use form::{LineForm, form_name};
+pub use forms::address_of;
 pub use line_reason::a_line_is_refused_for_a_reason;
 pub use move_line::line_of_move;
 pub use moves::target_of;
-pub use placed_word::{PlacedWord, placed_words, words_stand_at_their_columns};
+pub use placed_word::{PlacedWord, placed_words, words_have_their_columns};
 pub use reason_text::{put_command_reason, put_reason};
 pub use script::{LARGEST_SCRIPT, Script, read_script};
 pub use script_fault::ScriptFault;
 pub use script_reason::{
     a_text_has_a_reason_or_is_a_script, reason_of_script, reasons_hold_of_the_lines_before,
 };
-pub use text::split_once;
 pub use why::{CommandReason, CommandWhy, LineReason, LineWhy, Why};
 pub use word_kind::WordKind;
 pub use world_station::WorldStation;

@@ -1,13 +1,13 @@
 //! Why a line of a script is refused.
 
 ghost use Rattle.std.specs.Prelude.{◌≡◌};
-ghost use Rattle.siman_scripts.specs.declared.line_fault.LineFault.TheVariants.{Memory};
+ghost use Rattle.siman_scripts.specs.declared.line_fault.ScriptLineFault.TheVariants.{Memory};
 
 use std::alloc::{AllocError, AllocFailed};
 
 /// Why a line of a script is refused.
 #[derive(Clone, Copy)]
-pub(crate) enum LineFault {
+pub(crate) enum ScriptLineFault {
     /// It has no valid form, is out of its part, or conflicts with the lines before.
     Bad,
     /// It names a station that has no line.
@@ -16,18 +16,18 @@ pub(crate) enum LineFault {
     Memory,
 }
 
-impl From<AllocError> for LineFault {
+impl From<AllocError> for ScriptLineFault {
     ghost from_gives = { λ _ e. e ≡ Memory };
 
-    fn from(_e: AllocError) -> LineFault {
-        LineFault::Memory
+    fn from(_e: AllocError) -> ScriptLineFault {
+        ScriptLineFault::Memory
     }
 }
 
-impl<T: Drop> From<AllocFailed<T>> for LineFault {
+impl<T: Drop> From<AllocFailed<T>> for ScriptLineFault {
     ghost from_gives = { λ _ e. e ≡ Memory };
 
-    fn from(_e: AllocFailed<T>) -> LineFault {
-        LineFault::Memory
+    fn from(_e: AllocFailed<T>) -> ScriptLineFault {
+        ScriptLineFault::Memory
     }
 }

@@ -5,7 +5,7 @@ ghost use Rattle.siman_scripts.specs.Statement.{statement_of};
 ghost use Rattle.siman_scripts.specs.Holds.{Holds};
 ghost use Rattle.siman_scripts.specs.LineReason.{foreign_why, foreign_reason, blank_why, byte_why, spacing_reason, is_comment, extra_why, optional_why, word_reason, end_reason, words_reason, form_reason, ascii_reason, line_reason};
 
-use crate::form::{Form, Next, form_named, next_word};
+use crate::form::{LineForm, Next, form_named, next_word};
 use crate::forms::is_passed_over;
 use crate::nearest::nearest;
 use crate::placed_word::{PlacedWord, placed_words};
@@ -96,7 +96,7 @@ fn is_comment(word: &[u8]) -> bool
 }
 
 /// Reason of a word too many.
-fn extra_why(form: Form, word: &[u8]) -> LineWhy
+fn extra_why(form: LineForm, word: &[u8]) -> LineWhy
     ensures { result ≡ extra_why form word.now }
 {
     if is_comment(word) {
@@ -107,7 +107,7 @@ fn extra_why(form: Form, word: &[u8]) -> LineWhy
 }
 
 /// Reason of a word of another kind, at a place where the line may end.
-fn optional_why(form: Form, kind: WordKind, word: &[u8]) -> LineWhy
+fn optional_why(form: LineForm, kind: WordKind, word: &[u8]) -> LineWhy
     ensures { result ≡ optional_why form kind word.now }
 {
     if is_comment(word) {
@@ -118,7 +118,7 @@ fn optional_why(form: Form, kind: WordKind, word: &[u8]) -> LineWhy
 }
 
 /// Column and reason of a word that is not as `next` requires.
-fn word_reason(form: Form, next: Next, placed: &PlacedWord<'_>) -> Option<(usize, LineWhy)>
+fn word_reason(form: LineForm, next: Next, placed: &PlacedWord<'_>) -> Option<(usize, LineWhy)>
     ensures { result ≡ word_reason form next (placed.now.column, placed.now.word.now) }
 {
     let (column, word) = (placed.column, placed.word);
@@ -132,7 +132,7 @@ fn word_reason(form: Form, next: Next, placed: &PlacedWord<'_>) -> Option<(usize
 }
 
 /// Column and reason of a line that ends too early, given the column of its end.
-fn end_reason(form: Form, next: Next, column: usize) -> Option<(usize, LineWhy)>
+fn end_reason(form: LineForm, next: Next, column: usize) -> Option<(usize, LineWhy)>
     ensures { result ≡ end_reason form next column }
 {
     match next {
@@ -143,7 +143,7 @@ fn end_reason(form: Form, next: Next, column: usize) -> Option<(usize, LineWhy)>
 
 /// Column and reason of the words behind the name of a form, if they do not have it; the line ends
 /// before this column.
-fn words_reason(form: Form, column: usize, words: &[PlacedWord<'_>]) -> Option<(usize, LineWhy)>
+fn words_reason(form: LineForm, column: usize, words: &[PlacedWord<'_>]) -> Option<(usize, LineWhy)>
     ensures { result ≡ words_reason form 0 column (map (λ p. (p.column, p.word.now)) words.now) }
 {
     for (place, placed) in words.iter().enumerate() {

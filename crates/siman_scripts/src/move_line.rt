@@ -6,7 +6,7 @@ ghost use Rattle.siman_scripts.specs.MoveLine.{is_move, line_of_move};
 
 use crate::forms::statement_of;
 use crate::statement::Statement;
-use crate::text::first_line;
+use byte_files::first_line;
 use std::alloc::{AllocError, Global};
 
 /// Whether a line is a move.

@@ -5,9 +5,9 @@ ghost use Rattle.std.specs.Option.{option_map};
 ghost use Rattle.siman_scripts.specs.Statement.{target_of, numbers_of, alone, action_body, query_body, set_body, plain_body, body_of, command_act, tell_act, act_of, acting_form, deliver_form};
 
 use crate::act::Act;
-use crate::forms::{address_of, datum_of, number_16, number_32};
+use crate::forms::{address_of, datum_of};
 use crate::statement::Statement;
-use crate::text::split_once;
+use byte_files::{number_16, number_32, split_once};
 use dis_records::{ClockTime, EntityId};
 use siman_manager::Order;
 use siman_pdus::{Body, DatumIds, Datums};

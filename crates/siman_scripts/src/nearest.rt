@@ -3,7 +3,7 @@
 ghost use Rattle.std.specs.Prelude.{◌≡◌, ◌≤◌, length, drop, IfOk};
 ghost use Rattle.siman_scripts.specs.Nearest.{common_length, is_swapped, is_one_edit, is_two_edits, is_far, near_form, far_form, nearest_of, nearest};
 
-use crate::form::{FORMS, Form, form_name, form_named};
+use crate::form::{FORMS, LineForm, form_name, form_named};
 use std::alloc::{AllocError, Global};
 
 /// Length of the longest common prefix of two words.
@@ -64,7 +64,7 @@ fn is_two_edits(a: &[u8], b: &[u8]) -> bool
 }
 
 /// Whether a name of five letters or more is two edits away.
-fn is_far(word: &[u8], form: Form) -> bool
+fn is_far(word: &[u8], form: LineForm) -> bool
     ensures { result ≡ is_far word.now form }
 {
     let name = form_name(form);
@@ -72,7 +72,7 @@ fn is_far(word: &[u8], form: Form) -> bool
 }
 
 /// The first form whose name is one edit away.
-fn near_form(word: &[u8]) -> Option<Form>
+fn near_form(word: &[u8]) -> Option<LineForm>
     ensures { result ≡ near_form word.now }
 {
     FORMS
@@ -82,21 +82,21 @@ fn near_form(word: &[u8]) -> Option<Form>
 }
 
 /// The first form of a longer name that is two edits away.
-fn far_form(word: &[u8]) -> Option<Form>
+fn far_form(word: &[u8]) -> Option<LineForm>
     ensures { result ≡ far_form word.now }
 {
     FORMS.iter().copied().find(|form| is_far(word, *form))
 }
 
 /// The form with the name nearest to a word of lower case.
-fn nearest_of(word: &[u8]) -> Option<Form>
+fn nearest_of(word: &[u8]) -> Option<LineForm>
     ensures { result ≡ nearest_of word.now }
 {
     form_named(word).or(near_form(word)).or(far_form(word))
 }
 
 /// The form with the name nearest to a word, whatever the case of the word's letters.
-pub(crate) fn nearest(alloc: Global, word: &[u8]) -> Result<Option<Form>, AllocError>
+pub(crate) fn nearest(alloc: Global, word: &[u8]) -> Result<Option<LineForm>, AllocError>
     ensures { IfOk result (λ form. form ≡ nearest word.now) }
 {
     let lowered = word.to_ascii_lowercase(alloc)?;

@@ -6,7 +6,7 @@ ghost use Rattle.siman_scripts.specs.Draft.{wants_exercise, takes_stations, take
 /// The part to which the next line of a script may belong; it may also belong to a later one,
 /// except in the part of the exercise.
 #[derive(Clone, Copy)]
-pub(crate) enum Part {
+pub(crate) enum ScriptPart {
     /// The `exercise` line.
     Exercise,
     /// The `station` lines.
@@ -18,29 +18,29 @@ pub(crate) enum Part {
 }
 
 /// Whether the `exercise` line may follow.
-pub(crate) fn wants_exercise(part: Part) -> bool
+pub(crate) fn wants_exercise(part: ScriptPart) -> bool
     ensures { result ≡ wants_exercise part }
 {
-    part == Part::Exercise
+    part == ScriptPart::Exercise
 }
 
 /// Whether a `station` line may follow.
-pub(crate) fn takes_stations(part: Part) -> bool
+pub(crate) fn takes_stations(part: ScriptPart) -> bool
     ensures { result ≡ takes_stations part }
 {
-    part == Part::Stations
+    part == ScriptPart::Stations
 }
 
 /// Whether a line of an outfit may follow.
-pub(crate) fn takes_outfits(part: Part) -> bool
+pub(crate) fn takes_outfits(part: ScriptPart) -> bool
     ensures { result ≡ takes_outfits part }
 {
-    matches!(part, Part::Stations | Part::Outfits)
+    matches!(part, ScriptPart::Stations | ScriptPart::Outfits)
 }
 
 /// Whether a move may follow.
-pub(crate) fn takes_moves(part: Part) -> bool
+pub(crate) fn takes_moves(part: ScriptPart) -> bool
     ensures { result ≡ takes_moves part }
 {
-    part != Part::Exercise
+    part != ScriptPart::Exercise
 }

@@ -1,10 +1,10 @@
 //! The words of a line, each with its column.
 
 ghost use Rattle.std.specs.Prelude.{◌≡◌, map, All, IfOk};
-ghost use Rattle.siman_scripts.specs.Text.{words_of};
-ghost use Rattle.siman_scripts.specs.Words.{placed_words_of, StandsAt};
+ghost use Rattle.byte_files.specs.Text.{words_of};
+ghost use Rattle.siman_scripts.specs.Words.{placed_words_of, IsPlacedAt};
 
-use crate::text::words;
+use byte_files::words;
 use std::alloc::{AllocError, Global};
 
 /// A word of a line, and the column of its first byte, which is counted in bytes from 1.
@@ -33,7 +33,7 @@ pub fn placed_words(alloc: Global, line: &[u8]) -> Result<Vec<PlacedWord<'_>>, A
 
 /// A law of the words of a line with their columns: they are the words of the line, each at its
 /// column. The call does nothing at run time.
-pub fn words_stand_at_their_columns(line: &[u8])
+pub fn words_have_their_columns(line: &[u8])
     ensures words { map (λ p. p.1) (placed_words_of line.now) ≡ words_of line.now }
-    ensures columns { All (StandsAt line.now) (placed_words_of line.now) }
+    ensures columns { All (IsPlacedAt line.now) (placed_words_of line.now) }
 {}

@@ -4,8 +4,8 @@ ghost use Rattle.std.specs.Prelude.{◌≡◌, ◌++◌, decimal, Some};
 ghost use Rattle.byte_files.specs.Writing.{Writes};
 ghost use Rattle.siman_scripts.specs.ReasonText.{piece_text, pieces_text, form_text, kind_words, kind_largest, plain_line_text, unknown_name_text, line_text, plain_text, why_text, place_text, reason_text, command_why_text, column_text, command_text};
 
-use self::Piece::{Nothing, Number, Words};
-use crate::form::{Form, form_name};
+use self::ReasonPiece::{Nothing, Number, Words};
+use crate::form::{LineForm, form_name};
 use crate::why::{CommandReason, CommandWhy, LineReason, LineWhy, Why};
 use crate::word_kind::WordKind;
 use byte_files::{WriteFailed, put};
@@ -15,7 +15,7 @@ use std::io::Write;
 
 /// A piece of a text.
 #[derive(Clone, Copy)]
-enum Piece {
+enum ReasonPiece {
     Words(&'static str),
     Number(u64),
     Nothing,
@@ -23,35 +23,35 @@ enum Piece {
 
 /// A text in five pieces, one after the other.
 #[derive(Clone, Copy)]
-struct Pieces {
-    first: Piece,
-    second: Piece,
-    third: Piece,
-    fourth: Piece,
-    fifth: Piece,
+struct ReasonPieces {
+    first: ReasonPiece,
+    second: ReasonPiece,
+    third: ReasonPiece,
+    fourth: ReasonPiece,
+    fifth: ReasonPiece,
 }
 
 /// Form of a line, as it is written.
-fn form_text(form: Form) -> &'static str
+fn form_text(form: LineForm) -> &'static str
     ensures { result.now ≡ form_text form }
 {
     match form {
-        Form::Exercise => "exercise X",
-        Form::Station => "station S:A, or station S:A first=F tries=T wait=W",
-        Form::At => "at N",
-        Form::Opening => "opening S:A E stopped|running",
-        Form::Fixed => "fixed S:A ID VALUE",
-        Form::Action => "action S:A ID",
-        Form::Deliver => "deliver K S:A",
-        Form::Tick => "tick S:A",
-        Form::Tell => "tell S:A E",
-        Form::Do => "do S:A S:A:E ACTION",
-        Form::Query => "query S:A S:A:E ID ..",
-        Form::Set => "set S:A S:A:E ID VALUE",
-        Form::Create => "create S:A S:A:E",
-        Form::Remove => "remove S:A S:A:E",
-        Form::Start => "start S:A S:A:E",
-        Form::Stop => "stop S:A S:A:E",
+        LineForm::Exercise => "exercise X",
+        LineForm::Station => "station S:A, or station S:A first=F tries=T wait=W",
+        LineForm::At => "at N",
+        LineForm::Opening => "opening S:A E stopped|running",
+        LineForm::Fixed => "fixed S:A ID VALUE",
+        LineForm::Action => "action S:A ID",
+        LineForm::Deliver => "deliver K S:A",
+        LineForm::Tick => "tick S:A",
+        LineForm::Tell => "tell S:A E",
+        LineForm::Do => "do S:A S:A:E ACTION",
+        LineForm::Query => "query S:A S:A:E ID ..",
+        LineForm::Set => "set S:A S:A:E ID VALUE",
+        LineForm::Create => "create S:A S:A:E",
+        LineForm::Remove => "remove S:A S:A:E",
+        LineForm::Start => "start S:A S:A:E",
+        LineForm::Stop => "stop S:A S:A:E",
     }
 }
 
@@ -71,7 +71,7 @@ fn kind_words(kind: WordKind) -> &'static str
     }
 }
 
-fn kind_largest(kind: WordKind) -> Piece
+fn kind_largest(kind: WordKind) -> ReasonPiece
     ensures { piece_text result ≡ kind_largest kind }
 {
     match kind {
@@ -81,10 +81,10 @@ fn kind_largest(kind: WordKind) -> Piece
 }
 
 /// A text in three pieces.
-fn three(first: Piece, second: Piece, third: Piece) -> Pieces
-    ensures { result ≡ record { first = first; second = second; third = third; fourth = Piece.Nothing; fifth = Piece.Nothing } }
+fn three(first: ReasonPiece, second: ReasonPiece, third: ReasonPiece) -> ReasonPieces
+    ensures { result ≡ record { first = first; second = second; third = third; fourth = ReasonPiece.Nothing; fifth = ReasonPiece.Nothing } }
 {
-    Pieces {
+    ReasonPieces {
         first,
         second,
         third,
@@ -115,7 +115,7 @@ fn plain_line_text(why: LineWhy) -> &'static str
 }
 
 /// Text of a reason of a line by itself.
-fn line_pieces(why: LineWhy) -> Pieces
+fn line_pieces(why: LineWhy) -> ReasonPieces
     ensures { pieces_text result ≡ line_text why }
 {
     match why {
@@ -124,7 +124,7 @@ fn line_pieces(why: LineWhy) -> Pieces
             Words(form_name(form)),
             Words(" meant?"),
         ),
-        LineWhy::Missing(form, kind) => Pieces {
+        LineWhy::Missing(form, kind) => ReasonPieces {
             first: Words("the line ends, and "),
             second: Words(kind_words(kind)),
             third: kind_largest(kind),
@@ -166,12 +166,12 @@ fn plain_text(why: Why) -> &'static str
 }
 
 /// Text of a reason of a line.
-fn why_pieces(why: Why) -> Pieces
+fn why_pieces(why: Why) -> ReasonPieces
     ensures { pieces_text result ≡ why_text why }
 {
     match why {
         Why::Line(line_why) => line_pieces(line_why),
-        Why::StationNotAbove(site, application) => Pieces {
+        Why::StationNotAbove(site, application) => ReasonPieces {
             first: Words("the address has to be above "),
             second: Number(site as u64),
             third: Words(":"),
@@ -183,7 +183,7 @@ fn why_pieces(why: Why) -> Pieces
             Number(number as u64),
             Words(", the one before at this station: sort the opening lines"),
         ),
-        Why::UnknownStation(site, application) => Pieces {
+        Why::UnknownStation(site, application) => ReasonPieces {
             first: Words("no line says station "),
             second: Number(site as u64),
             third: Words(":"),
@@ -195,13 +195,13 @@ fn why_pieces(why: Why) -> Pieces
 }
 
 /// Text of a place; empty if the reason is about the whole text.
-fn place_pieces(line: usize, column: usize) -> Pieces
+fn place_pieces(line: usize, column: usize) -> ReasonPieces
     ensures { pieces_text result ≡ place_text line column }
 {
     if column == 0 {
         return three(Nothing, Nothing, Nothing);
     }
-    Pieces {
+    ReasonPieces {
         first: Words("line "),
         second: Number(line as u64),
         third: Words(", column "),
@@ -211,7 +211,7 @@ fn place_pieces(line: usize, column: usize) -> Pieces
 }
 
 /// Text of a reason of a typed line.
-fn command_pieces(why: CommandWhy) -> Pieces
+fn command_pieces(why: CommandWhy) -> ReasonPieces
     ensures { pieces_text result ≡ command_why_text why }
 {
     match why {
@@ -224,13 +224,13 @@ fn command_pieces(why: CommandWhy) -> Pieces
     }
 }
 
-fn column_pieces(column: usize) -> Pieces
+fn column_pieces(column: usize) -> ReasonPieces
     ensures { pieces_text result ≡ column_text column }
 {
     three(Words("column "), Number(column as u64), Words(": "))
 }
 
-impl fmt::Display for Piece {
+impl fmt::Display for ReasonPiece {
     ghost output = { λ piece. Some (piece_text piece) };
 
     fn fmt<W: fmt::Write>(&self, f: &mut fmt::Formatter<W>) -> fmt::Result {
@@ -242,11 +242,11 @@ impl fmt::Display for Piece {
     }
 }
 
-impl fmt::Display for Pieces {
+impl fmt::Display for ReasonPieces {
     ghost output = { λ pieces. Some (pieces_text pieces) };
 
     fn fmt<W: fmt::Write>(&self, f: &mut fmt::Formatter<W>) -> fmt::Result {
-        let Pieces {
+        let ReasonPieces {
             first,
             second,
             third,
@@ -280,7 +280,7 @@ impl fmt::Display for CommandReason {
     }
 }
 
-fn put_piece<W: Write>(writer: &mut W, piece: Piece) -> Result<(), WriteFailed>
+fn put_piece<W: Write>(writer: &mut W, piece: ReasonPiece) -> Result<(), WriteFailed>
     ensures { Writes result (W.contents writer.old) (W.contents writer.new) (piece_text piece) }
 {
     match piece {
@@ -294,7 +294,11 @@ fn put_piece<W: Write>(writer: &mut W, piece: Piece) -> Result<(), WriteFailed>
 }
 
 /// Writes two pieces.
-fn put_two<W: Write>(writer: &mut W, first: Piece, second: Piece) -> Result<(), WriteFailed>
+fn put_two<W: Write>(
+    writer: &mut W,
+    first: ReasonPiece,
+    second: ReasonPiece,
+) -> Result<(), WriteFailed>
     ensures { Writes result (W.contents writer.old) (W.contents writer.new) (piece_text first ++ piece_text second) }
 {
     put_piece(writer, first)?;
@@ -304,9 +308,9 @@ fn put_two<W: Write>(writer: &mut W, first: Piece, second: Piece) -> Result<(), 
 /// Writes three pieces.
 fn put_three<W: Write>(
     writer: &mut W,
-    first: Piece,
-    second: Piece,
-    third: Piece,
+    first: ReasonPiece,
+    second: ReasonPiece,
+    third: ReasonPiece,
 ) -> Result<(), WriteFailed>
     ensures { Writes result (W.contents writer.old) (W.contents writer.new) (piece_text first ++ (piece_text second ++ piece_text third)) }
 {
@@ -317,10 +321,10 @@ fn put_three<W: Write>(
 /// Writes four pieces.
 fn put_four<W: Write>(
     writer: &mut W,
-    first: Piece,
-    second: Piece,
-    third: Piece,
-    fourth: Piece,
+    first: ReasonPiece,
+    second: ReasonPiece,
+    third: ReasonPiece,
+    fourth: ReasonPiece,
 ) -> Result<(), WriteFailed>
     ensures { Writes result (W.contents writer.old) (W.contents writer.new) (piece_text first ++ (piece_text second ++ (piece_text third ++ piece_text fourth))) }
 {
@@ -328,7 +332,7 @@ fn put_four<W: Write>(
     put_three(writer, second, third, fourth)
 }
 
-fn put_pieces<W: Write>(writer: &mut W, pieces: Pieces) -> Result<(), WriteFailed>
+fn put_pieces<W: Write>(writer: &mut W, pieces: ReasonPieces) -> Result<(), WriteFailed>
     ensures { Writes result (W.contents writer.old) (W.contents writer.new) (pieces_text pieces) }
 {
     put_piece(writer, pieces.first)?;
@@ -342,7 +346,11 @@ fn put_pieces<W: Write>(writer: &mut W, pieces: Pieces) -> Result<(), WriteFaile
 }
 
 /// Writes two texts in pieces.
-fn put_texts<W: Write>(writer: &mut W, first: Pieces, second: Pieces) -> Result<(), WriteFailed>
+fn put_texts<W: Write>(
+    writer: &mut W,
+    first: ReasonPieces,
+    second: ReasonPieces,
+) -> Result<(), WriteFailed>
     ensures { Writes result (W.contents writer.old) (W.contents writer.new) (pieces_text first ++ pieces_text second) }
 {
     put_pieces(writer, first)?;

@@ -2,17 +2,17 @@
 
 ghost use Rattle.std.specs.Prelude.{◌≡◌, ◌≤◌, length, IfOk, MatchResult, Ok};
 ghost use Rattle.siman_scripts.specs.declared.script.TheConstants.{LARGEST_SCRIPT};
-ghost use Rattle.siman_scripts.specs.Text.{lines_of};
+ghost use Rattle.byte_files.specs.Text.{lines_of};
 ghost use Rattle.siman_scripts.specs.Draft.{blank, Leaves};
 ghost use Rattle.siman_scripts.specs.Script.{line_after, lines_after, script_at, Refuses, Gives};
 
 use crate::act::Move;
 use crate::draft::Draft;
 use crate::forms::statement_of;
-use crate::line_fault::LineFault;
+use crate::line_fault::ScriptLineFault;
 use crate::script_fault::{ScriptFault, fault_at};
-use crate::text::first_line;
 use crate::world_station::WorldStation;
+use byte_files::first_line;
 use std::alloc::Global;
 use std::marker::Model;
 
@@ -38,12 +38,16 @@ impl Model for Script {
 }
 
 /// Takes one more line.
-pub(crate) fn take_line(alloc: Global, draft: &mut Draft, line: &[u8]) -> Result<(), LineFault>
+pub(crate) fn take_line(
+    alloc: Global,
+    draft: &mut Draft,
+    line: &[u8],
+) -> Result<(), ScriptLineFault>
     ensures { Leaves result draft.new (line_after draft.old line.now) }
 {
     match statement_of(alloc, line)? {
         Some(statement) => draft.take(alloc, statement),
-        None => Err(LineFault::Bad),
+        None => Err(ScriptLineFault::Bad),
     }
 }
 

@@ -4,7 +4,7 @@ ghost use Rattle.std.specs.Prelude.{◌≡◌};
 ghost use Rattle.siman_scripts.specs.declared.script_fault.ScriptFault.TheVariants.{Memory};
 ghost use Rattle.siman_scripts.specs.Script.{fault_at};
 
-use crate::line_fault::LineFault;
+use crate::line_fault::ScriptLineFault;
 use std::alloc::AllocError;
 use thiserror::Error;
 
@@ -33,12 +33,12 @@ impl From<AllocError> for ScriptFault {
 }
 
 /// Fault of the line of this number.
-pub(crate) fn fault_at(line: usize, fault: LineFault) -> ScriptFault
+pub(crate) fn fault_at(line: usize, fault: ScriptLineFault) -> ScriptFault
     ensures { result ≡ fault_at line fault }
 {
     match fault {
-        LineFault::Bad => ScriptFault::BadLine(line),
-        LineFault::Unknown => ScriptFault::UnknownStation(line),
-        LineFault::Memory => ScriptFault::Memory,
+        ScriptLineFault::Bad => ScriptFault::BadLine(line),
+        ScriptLineFault::Unknown => ScriptFault::UnknownStation(line),
+        ScriptLineFault::Memory => ScriptFault::Memory,
     }
 }

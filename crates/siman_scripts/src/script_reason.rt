@@ -2,7 +2,7 @@
 
 ghost use Rattle.std.specs.Prelude.{◌≡◌, ◌≤◌, length, IfOk, Ok, None};
 ghost use Rattle.siman_scripts.specs.declared.script.TheConstants.{LARGEST_SCRIPT};
-ghost use Rattle.siman_scripts.specs.Text.{lines_of};
+ghost use Rattle.byte_files.specs.Text.{lines_of};
 ghost use Rattle.siman_scripts.specs.declared.statement.Statement.{Statement as StatementSaid};
 ghost use Rattle.siman_scripts.specs.Draft.{DraftData, blank};
 ghost use Rattle.siman_scripts.specs.HoldsAfter.{HoldsAfter};
@@ -14,8 +14,8 @@ use crate::forms::statement_of;
 use crate::line_reason::line_reason;
 use crate::placed_word::placed_words;
 use crate::script::{LARGEST_SCRIPT, take_line};
-use crate::text::first_line;
 use crate::why::{LineReason, LineWhy, Why};
+use byte_files::first_line;
 use std::alloc::{AllocError, Global};
 
 /// Column of a word of a line; words are counted from 0.
@@ -54,7 +54,7 @@ fn refusal_of(alloc: Global, draft: &Draft, line: &[u8]) -> Result<Option<(usize
 }
 
 /// Takes one more line, or returns why it is refused, and in which column.
-fn take_or_tell(
+fn take_or_refuse(
     alloc: Global,
     draft: &mut Draft,
     line: &[u8],
@@ -83,7 +83,7 @@ fn reason_of_lines(alloc: Global, text: &[u8]) -> Result<Option<LineReason>, All
     while !rest.is_empty() {
         let (line, others) = first_line(rest);
         count += 1;
-        if let Some((column, why)) = take_or_tell(alloc, &mut draft, line)? {
+        if let Some((column, why)) = take_or_refuse(alloc, &mut draft, line)? {
             return Ok(Some(LineReason {
                 line: count,
                 column,

@@ -5,7 +5,7 @@ ghost use Rattle.exercise_model.specs.Station.{is_opening, is_entity, is_absent}
 ghost use Rattle.siman_scripts.specs.Reason.{opening_reason};
 ghost use Rattle.siman_scripts.specs.Draft.{new_station, is_at, last_number, opened_with, holding, knowing};
 
-use crate::line_fault::LineFault;
+use crate::line_fault::ScriptLineFault;
 use crate::statement::ManagerRules;
 use crate::why::Why;
 use crate::world_station::WorldStation;
@@ -66,13 +66,13 @@ impl StationDraft {
 
     /// Adds an entity that the station opens with, of a number in 1..=0xFFFD above those before, in
     /// a state other than Absent.
-    pub fn open(&mut self, entity: u16, state: EntityState) -> Result<(), LineFault>
+    pub fn open(&mut self, entity: u16, state: EntityState) -> Result<(), ScriptLineFault>
         ensures ok { OnOk result (opened_with entity state self.old ≡ Some self.new) }
-        ensures bad { result ≡ Err LineFault.Bad → opened_with entity state self.old ≡ None }
-        ensures known { result ≡ Err LineFault.Unknown → ⊥ }
+        ensures bad { result ≡ Err ScriptLineFault.Bad → opened_with entity state self.old ≡ None }
+        ensures known { result ≡ Err ScriptLineFault.Unknown → ⊥ }
     {
         if !is_next(&self.opening, entity, state) {
-            return Err(LineFault::Bad);
+            return Err(ScriptLineFault::Bad);
         }
         self.opening.push((entity, state))?;
         Ok(())

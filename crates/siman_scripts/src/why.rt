@@ -1,6 +1,6 @@
 //! Why a line of a script is refused.
 
-use crate::form::Form;
+use crate::form::LineForm;
 use crate::word_kind::WordKind;
 
 /// Why a line by itself is refused, whatever is before it.
@@ -19,15 +19,15 @@ pub enum LineWhy {
     /// A blank behind another one.
     TwoBlanks,
     /// A word that begins with `#`, behind a line of this form.
-    Comment(Form),
+    Comment(LineForm),
     /// The first word is no name of a form; this one is near, if any is.
-    UnknownName(Option<Form>),
+    UnknownName(Option<LineForm>),
     /// A line of this form ends before a required word of this kind.
-    Missing(Form, WordKind),
+    Missing(LineForm, WordKind),
     /// A line of this form has a word too many.
-    TooMany(Form),
+    TooMany(LineForm),
     /// A word of a line of this form is not of this kind.
-    Wrong(Form, WordKind),
+    Wrong(LineForm, WordKind),
 }
 
 /// Why a line of a script is refused, or the whole text.
@@ -83,5 +83,5 @@ pub enum CommandWhy {
     /// The line by itself is refused.
     Line(LineWhy),
     /// Lines of this form are no orders for a station.
-    NotForStation(Form),
+    NotForStation(LineForm),
 }

@@ -3,9 +3,9 @@
 ghost use Rattle.std.specs.Prelude.{◌≡◌, is_some};
 ghost use Rattle.siman_scripts.specs.Forms.{entity_of, tries_of, wait_of, fits};
 
-use crate::forms::{address_of, number_16, number_named, state_of, value_of};
+use crate::forms::{address_of, number_named, state_of, value_of};
 use crate::moves::target_of;
-use crate::text::number;
+use byte_files::{number_16, number_to};
 use exercise_model::LARGEST_ENTITY;
 
 /// Kind of a word behind the name of a line.
@@ -53,7 +53,7 @@ fn tries_of(word: &[u8]) -> Option<u32>
 fn wait_of(word: &[u8]) -> Option<u64>
     ensures { result ≡ wait_of word.now }
 {
-    number(value_of(b"wait", word)?, u64::MAX)
+    number_to(value_of(b"wait", word)?, u64::MAX)
 }
 
 /// Whether a word is of a kind.
@@ -61,7 +61,7 @@ pub(crate) fn fits(kind: WordKind, word: &[u8]) -> bool
     ensures { result ≡ fits kind word.now }
 {
     match kind {
-        WordKind::Number(largest) => number(word, largest).is_some(),
+        WordKind::Number(largest) => number_to(word, largest).is_some(),
         WordKind::Address => address_of(word).is_some(),
         WordKind::Receiver => target_of(word).is_some(),
         WordKind::Entity => entity_of(word).is_some(),

@@ -3,12 +3,12 @@ use Rattle.std.proofs.Common.{◌≡◌, ℕ, zero, suc, ◌<◌, Bool, ◌&&◌
 use Rattle.std.specs.Prelude.{slice_get}
 use Rattle.std.specs.List.{list_all}
 use Rattle.exercise_model.specs.Recording.{opened}
-use Rattle.siman_application.specs.Outfit.{Outfit}
+use Rattle.siman_application.specs.AppProfile.{AppProfile}
 use Rattle.siman_application.specs.KeptRequests.{requests}
-use Rattle.siman_application.specs.Ranges.{IsOutfitInRange}
-use Rattle.siman_application.specs.declared.kept.KeptRequest.{KeptRequest}
+use Rattle.siman_application.specs.Ranges.{IsProfileInRange}
+use Rattle.siman_application.specs.declared.kept.AnsweredRequest.{AnsweredRequest}
 use Rattle.siman_manager.specs.Book.{Book}
-use Rattle.siman_manager.specs.declared.kept.KeptOrder.{KeptOrder}
+use Rattle.siman_manager.specs.declared.kept.MadeOrder.{MadeOrder}
 use Rattle.siman_manager.specs.declared.settings.Settings.{Settings}
 use Rattle.siman_stations.specs.declared.turn.Node.{Node}
 use Rattle.siman_stations.specs.declared.world.World.{World}
@@ -50,13 +50,13 @@ new_at x [] (m ∷ ns) d are k n e = absurd are
 new_at x (s ∷ ss) [] d are k n e = absurd are
 
 -- what the application half of a station is begun with
-abbrev outfit_for : ℕ → WorldStationData → Outfit
+abbrev outfit_for : ℕ → WorldStationData → AppProfile
 outfit_for x s = record { exercise = x; station = s.station; datums = s.datums; actions = s.actions }
 
 new_range : (x : ℕ) (ss : List WorldStationData) (ns : List Node) (d : WorldStationData) → AreNewNodes x ss ns → (k : ℕ) → k < length ss
-    → IsOutfitInRange (outfit_for x (get_or ss k d))
+    → IsProfileInRange (outfit_for x (get_or ss k d))
 new_range x [] [] d are k below = absurd (omega arith)
-new_range x (s ∷ ss) (n ∷ ns) d are zero below = subst IsOutfitInRange are.0.outfit are.0.ranges
+new_range x (s ∷ ss) (n ∷ ns) d are zero below = subst IsProfileInRange are.0.outfit are.0.ranges
 new_range x (s ∷ ss) (n ∷ ns) d are (suc k) below = new_range x ss ns d are.1 k (omega arith)
 new_range x [] (n ∷ ns) d are k below = absurd are
 new_range x (s ∷ ss) [] d are k below = absurd are
@@ -64,12 +64,12 @@ new_range x (s ∷ ss) [] d are k below = absurd are
 new_node : (w : WorldData) (s : ℕ) (n : Node) → IsNewNode w.exercise (get_or w.stations s no_station) n → IsNode w s [] [] n
 new_node w s n is = record {
   outfit = is.outfit;
-  came_is = ap (λ (ks : List KeptRequest). requests ks) is.kept_is;
+  came_is = ap (λ (ks : List AnsweredRequest). requests ks) is.kept_is;
   manager = bound n.manager is.settings is.orders;
 } where
   bound : (b : Book) → b.settings ≡ settings_of w s → b.orders ≡ [] → b ≡ record { settings = settings_of w s; orders = [] }
   bound b e f = ap (λ (x : Settings). record b { settings = x }) e
-      ∙ ap (λ (o : List KeptOrder). let r : Book = record { settings = settings_of w s; orders = o } in r) f
+      ∙ ap (λ (o : List MadeOrder). let r : Book = record { settings = settings_of w s; orders = o } in r) f
 
 -- A WORLD AS IT IS BEGUN is after no move
 pub begun : (w : WorldData) (world : World) → AreNewNodes w.exercise w.stations world.nodes.items → world.journal.recording ≡ opened (setting_of w)

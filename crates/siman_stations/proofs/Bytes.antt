@@ -8,10 +8,10 @@ use Rattle.siman_pdus.specs.Ranges.{IsInRange}
 use Rattle.siman_pdus.proofs.Offered.{text_is_bytes, read_in_range}
 use Rattle.exercise_model.specs.Cause.{sends, was_sent}
 use Rattle.exercise_model.specs.History.{Send, Get, Tell, History}
-use Rattle.siman_application.specs.Outfit.{Outfit}
+use Rattle.siman_application.specs.AppProfile.{AppProfile}
 use Rattle.siman_application.specs.OwnLog.{OwnTurn, Tells, Orders, Passes, Takes, Loses, taken_in, sent_after, log_in, is_due, AreTurns}
 use Rattle.siman_application.specs.Play.{reply}
-use Rattle.siman_application.specs.Ranges.{IsOutfitInRange}
+use Rattle.siman_application.specs.Ranges.{IsProfileInRange}
 use Rattle.siman_application.proofs.Offered.{Each, taken_in_range}
 use Rattle.siman_manager.specs.Book.{Book}
 use Rattle.siman_stations.specs.Halves.{HalvesFollow}
@@ -24,13 +24,13 @@ SendsBytes (Send s b ∷ h) = ((i : ℕ) → slice_index b i < 256) × SendsByte
 SendsBytes (Get s b ∷ h) = SendsBytes h
 SendsBytes (Tell s e y ∷ h) = SendsBytes h
 
-reply_bytes : (a : Outfit) (s : ℕ) (qs : List Pdu) (b : List ℕ) (q : Pdu) (stamp : ℕ) (log : History) → IsOutfitInRange a → Each IsInRange qs → IsInRange q
+reply_bytes : (a : AppProfile) (s : ℕ) (qs : List Pdu) (b : List ℕ) (q : Pdu) (stamp : ℕ) (log : History) → IsProfileInRange a → Each IsInRange qs → IsInRange q
     → stamp < 2 ^ 32 → SendsBytes log → (o : Option Pdu) → reply a qs q stamp ≡ o → SendsBytes (sent_after s o (Get s b ∷ log))
 reply_bytes a s qs b q stamp log own came range h all None e = all
 reply_bytes a s qs b q stamp log own came range h all (Some p) e =
     let is = reply_own a qs q p stamp own came range h e in (text_is_bytes p is.ranges is.size, all)
 
-turns_bytes : (a : Outfit) (s : ℕ) (later : Bool) (ts : List OwnTurn) → IsOutfitInRange a → AreTurns a later ts → SendsBytes (log_in a s ts)
+turns_bytes : (a : AppProfile) (s : ℕ) (later : Bool) (ts : List OwnTurn) → IsProfileInRange a → AreTurns a later ts → SendsBytes (log_in a s ts)
 turns_bytes a s later [] own are = tt
 turns_bytes a s later (Tells e y ∷ ts) own are = turns_bytes a s later ts own are
 turns_bytes a s later (Orders b p ∷ ts) own are = (are.0.read.bytes, turns_bytes a s later ts own are.1)
@@ -41,7 +41,7 @@ turns_bytes a s later (Takes b q stamp ∷ ts) own are =
 turns_bytes a s later (Loses b q stamp ∷ ts) own are = turns_bytes a s true ts own are.4
 
 -- WHAT A STATION SENDS consists of bytes
-pub sends_bytes : {wants : Type 0} (s : ℕ) (a : Outfit) (ds : List Pdu) (k : Book) (log : History) (closed : Type 0) → HalvesFollow wants s a ds k log closed
+pub sends_bytes : {wants : Type 0} (s : ℕ) (a : AppProfile) (ds : List Pdu) (k : Book) (log : History) (closed : Type 0) → HalvesFollow wants s a ds k log closed
     → SendsBytes log
 sends_bytes s a ds k log closed is = subst SendsBytes is.own_log.log_is (turns_bytes a s false is.turns is.own_log.outfit is.own_log.turns)
 

@@ -8,7 +8,7 @@ use Rattle.siman_pdus.specs.Role.{is_request_body}
 use Rattle.exercise_model.specs.Entry.{Received, Told}
 use Rattle.exercise_model.specs.Station.{is_entity}
 use Rattle.siman_application.specs.Distinct.{distinct, with_request}
-use Rattle.siman_application.specs.Outfit.{Outfit}
+use Rattle.siman_application.specs.AppProfile.{AppProfile}
 use Rattle.siman_application.specs.Play.{state_over, reply_after}
 use Rattle.siman_application.specs.Application.{came}
 use Rattle.siman_manager.specs.declared.fault.OrderFault.{OrderFault}
@@ -43,7 +43,7 @@ made_same w s now order qs calls n is =
 reply_same : (w : WorldData) (c : Course) (s now : ℕ) (n : Node) (q : Pdu) → IsNode w s (c.came s) (c.calls s) n
     → reply_due n.application (Some q) (stamp_of now) ≡ reply_by w c s now q
 reply_same w c s now n q is =
-    ap (λ (a : Outfit). reply_after a (came n.application) q (stamp_of now)) is.outfit
+    ap (λ (a : AppProfile). reply_after a (came n.application) q (stamp_of now)) is.outfit
     ∙ ap (λ (ds : List Pdu). reply_after (outfit_of w s) ds q (stamp_of now)) is.came_is
 
 due_same : (w : WorldData) (c : Course) (s now : ℕ) (n : Node) (r : Option Pdu) → IsNode w s (c.came s) (c.calls s) n
@@ -71,7 +71,7 @@ entries_same w c s now Tick sends n is are told same =
     ∙ ap (λ (p : Option Pdu). sent_as s now p) (repeat_told (settings_of w s) (c.calls s) are now (stamp_of now))
 entries_same w c s now (Tell e) sends n is are told same =
     ap (λ (y : EntityState). Told s e y ∷ [])
-    (ap (λ (a : Outfit). state_over a (came n.application) e) is.outfit ∙ (ap (λ (ds : List Pdu). state_over (outfit_of w s) ds e) is.came_is ∙ sym (told e)))
+    (ap (λ (a : AppProfile). state_over a (came n.application) e) is.outfit ∙ (ap (λ (ds : List Pdu). state_over (outfit_of w s) ds e) is.came_is ∙ sym (told e)))
 
 -- The fault of an act.
 
@@ -116,7 +116,7 @@ took_on : (w : WorldData) (s : ℕ) (q : Pdu) (qs : List Pdu) (calls : List Call
     → TakesBoth (Some q) before after → IsNode w s (q ∷ qs) (Came q ∷ calls) after
 took_on w s q qs calls before after is goes = record {
   outfit = goes.0.outfit ∙ is.outfit;
-  came_is = goes.0.came_is ∙ (ap (λ (a : Outfit). with_request a (came before.application) q) is.outfit
+  came_is = goes.0.came_is ∙ (ap (λ (a : AppProfile). with_request a (came before.application) q) is.outfit
       ∙ ap (λ (ds : List Pdu). with_request (outfit_of w s) ds q) is.came_is);
   manager = goes.1 ∙ ap (λ (b : Book). taken b q) is.manager;
 }

@@ -22,18 +22,18 @@ use Rattle.exercise_model.specs.Meaning.{meaning}
 use Rattle.exercise_model.specs.Setting.{is_from}
 use Rattle.exercise_model.specs.State.{state_after}
 use Rattle.exercise_model.specs.Station.{StationData}
-use Rattle.siman_application.specs.Outfit.{Outfit}
+use Rattle.siman_application.specs.AppProfile.{AppProfile}
 use Rattle.siman_application.specs.Distinct.{distinct}
-use Rattle.siman_application.specs.OwnLog.{OwnTurn, Tells, Orders, Passes, Takes, Loses, taken_in, sent_after, log_in, is_due, AreTurns, MissNone, TakesAll, HasGet, AreOneOrder, AnswersStand}
+use Rattle.siman_application.specs.OwnLog.{OwnTurn, Tells, Orders, Passes, Takes, Loses, taken_in, sent_after, log_in, is_due, AreTurns, MissNone, TakesAll, HasGet, AreOneOrder, AnswersHaveNoCause}
 use Rattle.siman_application.specs.Play.{reply, state_over}
-use Rattle.siman_application.specs.Ranges.{IsOutfitInRange}
+use Rattle.siman_application.specs.Ranges.{IsProfileInRange}
 use Rattle.siman_application.proofs.Offered.{Each, read_meant, taken_in_range, answers_stand, states_stand}
-use Rattle.siman_manager.specs.declared.kept.KeptOrder.{KeptOrder}
+use Rattle.siman_manager.specs.declared.kept.MadeOrder.{MadeOrder}
 use Rattle.siman_manager.specs.declared.settings.Settings.{Settings}
 use Rattle.siman_manager.specs.Book.{Book}
-use Rattle.siman_manager.specs.Calls.{Call, AreRequests, Life, kept, kept_as, manager_id}
+use Rattle.siman_manager.specs.Calls.{Call, AreRequests, Life, kept, made_order, manager_id}
 use Rattle.siman_manager.proofs.Offered.{agrees, made_as}
-use Rattle.siman_stations.specs.Deeds.{DeedsStand, IsOrdered, RequestsAreOrdered}
+use Rattle.siman_stations.specs.Deeds.{DeedsHaveNoCause, IsOrdered, RequestsAreOrdered}
 use Rattle.siman_stations.specs.Halves.{TellsOwn, HalvesFollow}
 use Rattle.siman_stations.specs.Orders.{AreFit, IsOfLife, SendOwnOrders}
 use Rattle.siman_stations.proofs.Orders.{fit_requests}
@@ -48,7 +48,7 @@ AreOurs x (Send s b ∷ log) = ((p : Pdu) → meaning x b ≡ Some p → (is_req
 AreOurs x (Get s b ∷ log) = AreOurs x log
 AreOurs x (Tell s e y ∷ log) = AreOurs x log
 
-ours_reply : (a : Outfit) (s : ℕ) (qs : List Pdu) (b : List ℕ) (q : Pdu) (stamp : ℕ) (log : History) → IsOutfitInRange a → Each IsInRange qs → IsInRange q
+ours_reply : (a : AppProfile) (s : ℕ) (qs : List Pdu) (b : List ℕ) (q : Pdu) (stamp : ℕ) (log : History) → IsProfileInRange a → Each IsInRange qs → IsInRange q
     → stamp < 2 ^ 32 → AreOurs a.exercise log → (o : Option Pdu) → reply a qs q stamp ≡ o → AreOurs a.exercise (sent_after s o (Get s b ∷ log))
 ours_reply a s qs b q stamp log own came range h ours None e = ours
 ours_reply a s qs b q stamp log own came range h ours (Some p) e = (
@@ -57,7 +57,7 @@ ours_reply a s qs b q stamp log own came range h ours (Some p) e = (
   ours,
 )
 
-ours_turns : (a : Outfit) (s : ℕ) (later : Bool) (ts : List OwnTurn) → IsOutfitInRange a → AreTurns a later ts → AreOurs a.exercise (log_in a s ts)
+ours_turns : (a : AppProfile) (s : ℕ) (later : Bool) (ts : List OwnTurn) → IsProfileInRange a → AreTurns a later ts → AreOurs a.exercise (log_in a s ts)
 ours_turns a s later [] own are = tt
 ours_turns a s later (Tells e y ∷ ts) own are = ours_turns a s later ts own are
 ours_turns a s later (Orders b p ∷ ts) own are = (
@@ -87,10 +87,10 @@ ordered_one : (k : Book) (calls : List Call) → AreFit calls → k.orders ≡ k
     → IsOrdered k p
 ordered_one k calls fit orders p of = record {
   from = life_from k.settings calls (fit_requests calls fit) p of;
-  order = kept_as of.life_is;
+  order = made_order of.life_is;
   number = of.number;
-  there = ap (λ (os : List KeptOrder). slice_get os of.number) orders
-      ∙ (agrees k.settings calls (fit_requests calls fit) of.number ∙ ap (λ (o : Option Life). option_map kept_as o) of.there);
+  there = ap (λ (os : List MadeOrder). slice_get os of.number) orders
+      ∙ (agrees k.settings calls (fit_requests calls fit) of.number ∙ ap (λ (o : Option Life). option_map made_order o) of.there);
   same = of.same;
 }
 
@@ -104,23 +104,23 @@ ordered_all k calls x (Get s b ∷ log) fit orders all = ordered_all k calls x l
 ordered_all k calls x (Tell s e y ∷ log) fit orders all = ordered_all k calls x log fit orders all.1
 
 -- EACH REQUEST THAT A STATION SENDS is an order of its manager half
-pub requests_ordered : {wants : Type 0} (s : ℕ) (a : Outfit) (ds : List Pdu) (k : Book) (log : History) (closed : Type 0)
+pub requests_ordered : {wants : Type 0} (s : ℕ) (a : AppProfile) (ds : List Pdu) (k : Book) (log : History) (closed : Type 0)
     → HalvesFollow wants s a ds k log closed → RequestsAreOrdered a.exercise k log
 requests_ordered s a ds k log closed is = ordered_all k is.calls a.exercise log is.fit is.manager is.ordered
 
 -- Told states.
 
 -- what a log gets without its last event
-own_get : (a : Outfit) (s : ℕ) (o : Option Pdu) (b c : List ℕ) (log : History) → HasGet log c → HasGet (sent_after s o (Get s b ∷ log)) c
+own_get : (a : AppProfile) (s : ℕ) (o : Option Pdu) (b c : List ℕ) (log : History) → HasGet log c → HasGet (sent_after s o (Get s b ∷ log)) c
 own_get a s None b c log h = inr h
 own_get a s (Some p) b c log h = inr h
 
-clear_tail : (a : Outfit) (ts : List OwnTurn) (h log : History) → ((c : List ℕ) → HasGet log c → HasGet h c) → TakesAll ts ⊎ AreOneOrder a h
+clear_tail : (a : AppProfile) (ts : List OwnTurn) (h log : History) → ((c : List ℕ) → HasGet log c → HasGet h c) → TakesAll ts ⊎ AreOneOrder a h
     → TakesAll ts ⊎ AreOneOrder a log
 clear_tail a ts h log on (inl all) = inl all
 clear_tail a ts h log on (inr one) = inr (λ b c p q gb gc. one b c p q (on b gb) (on c gc))
 
-clear_passed : (a : Outfit) (b : List ℕ) (ts : List OwnTurn) (h : History) → ((reading b ≡ None) × TakesAll ts) ⊎ AreOneOrder a h → TakesAll ts ⊎ AreOneOrder a h
+clear_passed : (a : AppProfile) (b : List ℕ) (ts : List OwnTurn) (h : History) → ((reading b ≡ None) × TakesAll ts) ⊎ AreOneOrder a h → TakesAll ts ⊎ AreOneOrder a h
 clear_passed a b ts h (inl all) = inl all.1
 clear_passed a b ts h (inr one) = inr one
 
@@ -141,7 +141,7 @@ told_reply : (x : ℕ) (o : StationData) (s : ℕ) (p : Option Pdu) (b : List �
 told_reply x o s None b log h = h
 told_reply x o s (Some p) b log h = h
 
-told_turns : (a : Outfit) (s : ℕ) (h : History) → IsOutfitInRange a → (later : Bool) (ts : List OwnTurn) → AreTurns a later ts → TellsOwn a ts
+told_turns : (a : AppProfile) (s : ℕ) (h : History) → IsProfileInRange a → (later : Bool) (ts : List OwnTurn) → AreTurns a later ts → TellsOwn a ts
     → TakesAll ts ⊎ AreOneOrder a h → ((c : List ℕ) → HasGet (log_in a s ts) c → HasGet h c) → ToldStand a.exercise a.station (log_in a s ts)
 told_turns a s h own later [] are told clear on = tt
 told_turns a s h own later (Tells e y ∷ ts) are told clear on = (
@@ -183,8 +183,8 @@ order_causes x o log p from request reused =
     (option_map_or (is_impossible x o log p) (request_taken_up x o.address p log) false)
     from (and_right (is_request_body p.body) (is_reused x p log) reused) (request_no_answer p.body request)
 
-deeds_by : (a : Outfit) (st : Settings) (calls : List Call) (log : History) → AreFit calls → st.address ≡ a.station.address → AreOurs a.exercise log
-    → SendOwnOrders st calls a.exercise log → AnswersStand a log → ToldStand a.exercise a.station log → DeedsStand a.exercise a.station log
+deeds_by : (a : AppProfile) (st : Settings) (calls : List Call) (log : History) → AreFit calls → st.address ≡ a.station.address → AreOurs a.exercise log
+    → SendOwnOrders st calls a.exercise log → AnswersHaveNoCause a log → ToldStand a.exercise a.station log → DeedsHaveNoCause a.exercise a.station log
 deeds_by a st calls [] fit at ours all answers told = tt
 deeds_by a st calls (Send s b ∷ log) fit at ours all answers told =
     (λ p e. by p e (ours.0 p e), deeds_by a st calls log fit at ours.1 all.1 answers.1 told) where
@@ -200,8 +200,8 @@ deeds_by a st calls (Get s b ∷ log) fit at ours all answers told = deeds_by a 
 deeds_by a st calls (Tell s e y ∷ log) fit at ours all answers told = (told.0, deeds_by a st calls log fit at ours all.1 answers told.1)
 
 -- NOTHING STANDS AGAINST WHAT A STATION SENDS OR TELLS, where it took all that came, or no site and application used one request identifier for two orders
-pub deeds_stand : {wants : Type 0} (s : ℕ) (a : Outfit) (ds : List Pdu) (k : Book) (log : History) (closed : Type 0) → (is : HalvesFollow wants s a ds k log closed)
-    → k.settings.address ≡ a.station.address → TakesAll is.turns ⊎ AreOneOrder a log → DeedsStand a.exercise a.station log
+pub deeds_stand : {wants : Type 0} (s : ℕ) (a : AppProfile) (ds : List Pdu) (k : Book) (log : History) (closed : Type 0) → (is : HalvesFollow wants s a ds k log closed)
+    → k.settings.address ≡ a.station.address → TakesAll is.turns ⊎ AreOneOrder a log → DeedsHaveNoCause a.exercise a.station log
 deeds_stand s a ds k log closed is at clear =
     let own = is.own_log in
     deeds_by a k.settings is.calls log is.fit at
@@ -210,7 +210,7 @@ deeds_stand s a ds k log closed is at clear =
     (subst (ToldStand a.exercise a.station) own.log_is (told_turns a s log own.outfit false is.turns own.turns is.told clear (λ c g. subst (λ (h : History). HasGet h c) own.log_is g)))
 
 -- THE STATE BY THE LOG of a station that no reply is missing of is that of its application
-pub state_follows : {wants : Type 0} (s : ℕ) (a : Outfit) (ds : List Pdu) (k : Book) (log : History) (closed : Type 0) → (is : HalvesFollow wants s a ds k log closed)
+pub state_follows : {wants : Type 0} (s : ℕ) (a : AppProfile) (ds : List Pdu) (k : Book) (log : History) (closed : Type 0) → (is : HalvesFollow wants s a ds k log closed)
     → MissNone is.turns → TakesAll is.turns ⊎ AreOneOrder a log → (e : ℕ) → state_after a.exercise a.station log e ≡ state_over a ds e
 state_follows s a ds k log closed is none clear e =
     states_stand a s is.turns log (taken_in is.turns) is.own_log clear none e ∙ ap (λ (d : List Pdu). state_over a d e) (sym is.application)

@@ -10,12 +10,12 @@ use Rattle.siman_pdus.specs.Spelling.{HasCarriedStatus, pdu_text}
 use Rattle.siman_pdus.proofs.Offered.{text_is_read, zero_is_carried, read_in_range}
 use Rattle.exercise_model.specs.History.{History, Send, Get, Tell}
 use Rattle.siman_application.specs.Distinct.{with_request}
-use Rattle.siman_application.specs.Outfit.{Outfit}
+use Rattle.siman_application.specs.AppProfile.{AppProfile}
 use Rattle.siman_application.specs.OwnLog.{OwnTurn, Tells, Orders, Passes, Takes, Loses, taken_in, sent_after, AreTurns, IsRead, MissNone, TakesAll}
 use Rattle.siman_application.specs.Play.{reply, reply_after, state_over}
-use Rattle.siman_application.specs.Ranges.{IsOutfitInRange}
+use Rattle.siman_application.specs.Ranges.{IsProfileInRange}
 use Rattle.siman_application.proofs.Offered.{Each, taken_in_range}
-use Rattle.siman_manager.specs.declared.kept.KeptOrder.{KeptOrder}
+use Rattle.siman_manager.specs.declared.kept.MadeOrder.{MadeOrder}
 use Rattle.siman_manager.specs.declared.order.Order.{Order}
 use Rattle.siman_manager.specs.declared.settings.Settings.{Settings}
 use Rattle.siman_manager.specs.Answers.{taken, refusal_of, with_orders, ticked}
@@ -25,7 +25,7 @@ use Rattle.siman_manager.proofs.Offered.{counts}
 use Rattle.siman_stations.specs.StationTurn.{stamp_of}
 use Rattle.siman_stations.specs.Sending.{IsOrderInRange, next_repeat}
 use Rattle.siman_stations.specs.Orders.{AreFit, IsOfLife, SendOwnOrders, ready_after}
-use Rattle.siman_stations.specs.Halves.{came_in, HalvesFollow}
+use Rattle.siman_stations.specs.Halves.{received_in, HalvesFollow}
 use Rattle.siman_stations.proofs.Orders.{stamp_within, fit_requests, IsOwnRequest, text_is_order, IsOwnOrder, made_own, IsRepeat, repeat_is, repeat_own}
 use Rattle.siman_stations.proofs.Requests.{reply_answering, reply_own, reply_read, of_life_on, kept_on, made_life, repeated_life, sent_kept, answer_kept}
 use Rattle.siman_stations.proofs.Repeats.{repeat_told}
@@ -33,7 +33,7 @@ use Rattle.siman_stations.proofs.Repeats.{repeat_told}
 -- Turns.
 
 -- where no reply is missing, it does not matter what is due later
-pub any_later : (a : Outfit) (one other : Bool) (ts : List OwnTurn) → MissNone ts → AreTurns a one ts → AreTurns a other ts
+pub any_later : (a : AppProfile) (one other : Bool) (ts : List OwnTurn) → MissNone ts → AreTurns a one ts → AreTurns a other ts
 any_later a one other [] none are = tt
 any_later a one other (Tells e y ∷ ts) none are = any_later a one other ts none are
 any_later a one other (Orders b p ∷ ts) none are = (are.0, any_later a one other ts none are.1)
@@ -41,15 +41,15 @@ any_later a one other (Passes b ∷ ts) none are = any_later a one other ts none
 any_later a one other (Takes b q stamp ∷ ts) none are = (are.0, are.1, any_later a (one || _) (other || _) ts none are.2)
 any_later a one other (Loses b q stamp ∷ ts) none are = absurd none
 
-reply_kept : (st : Settings) (calls : List Call) (a : Outfit) (s : ℕ) (qs : List Pdu) (log : History) (b : List ℕ) (q : Pdu) (stamp : ℕ)
-    → IsOutfitInRange a → Each IsInRange qs → IsInRange q → stamp < 2 ^ 32 → SendOwnOrders st calls a.exercise log
+reply_kept : (st : Settings) (calls : List Call) (a : AppProfile) (s : ℕ) (qs : List Pdu) (log : History) (b : List ℕ) (q : Pdu) (stamp : ℕ)
+    → IsProfileInRange a → Each IsInRange qs → IsInRange q → stamp < 2 ^ 32 → SendOwnOrders st calls a.exercise log
     → (o : Option Pdu) → reply a qs q stamp ≡ o → SendOwnOrders st calls a.exercise (sent_after s o (Get s b ∷ log))
 reply_kept st calls a s qs log b q stamp own came range h kept None e = (tt, kept)
 reply_kept st calls a s qs log b q stamp own came range h kept (Some p) e =
     (answer_kept st calls a.exercise p (reply_read p (reply_own a qs q p stamp own came range h e)) (reply_answering a qs q p stamp e), (tt, kept))
 
 -- A DATAGRAM is taken by both halves, and the reply that is due is sent
-pub halves_take : {wants : Type 0} (s : ℕ) (a : Outfit) (ds : List Pdu) (k : Book) (log : History) (closed : Type 0) (b : List ℕ) (q : Pdu) (stamp : ℕ)
+pub halves_take : {wants : Type 0} (s : ℕ) (a : AppProfile) (ds : List Pdu) (k : Book) (log : History) (closed : Type 0) (b : List ℕ) (q : Pdu) (stamp : ℕ)
     → (is : HalvesFollow wants s a ds k log closed)
     → MissNone is.turns → IsRead b q → stamp < 2 ^ 32
     → HalvesFollow wants s a (with_request a ds q) (taken k q) (sent_after s (reply_after a ds q stamp) (Get s b ∷ log)) closed
@@ -66,7 +66,7 @@ halves_take s a ds k log closed b q stamp is none read h = record {
   passed = is.passed;
   missing = inl none;
   told = is.told;
-  manager = ap (λ (os : List KeptOrder). after_take k.settings q os) is.manager;
+  manager = ap (λ (os : List MadeOrder). after_take k.settings q os) is.manager;
   fit = is.fit;
   heard = ap (λ (qs : List Pdu). q ∷ qs) is.heard;
   ordered = subst (SendOwnOrders k.settings (Came q ∷ is.calls) a.exercise) same
@@ -78,7 +78,7 @@ halves_take s a ds k log closed b q stamp is none read h = record {
   same = ap (λ (d : List Pdu). sent_after s (reply_after a d q stamp) (Get s b ∷ log)) (sym is.application)
 
 -- A DATAGRAM is received and not taken: it is read as no PDU, or the station wants for memory
-pub halves_pass : {wants : Type 0} (s : ℕ) (a : Outfit) (ds : List Pdu) (k : Book) (log : History) (closed : Type 0) (b : List ℕ)
+pub halves_pass : {wants : Type 0} (s : ℕ) (a : AppProfile) (ds : List Pdu) (k : Book) (log : History) (closed : Type 0) (b : List ℕ)
     → (reading b ≡ None) ⊎ wants → HalvesFollow wants s a ds k log closed → HalvesFollow wants s a ds k (Get s b ∷ log) closed
 halves_pass {wants} s a ds k log closed b why is = record {
   turns = Passes b ∷ is.turns;
@@ -104,7 +104,7 @@ halves_pass {wants} s a ds k log closed b why is = record {
   by (inr h) all = inr h
 
 -- A DATAGRAM is taken by the application half, and the reply that is due is not written
-pub halves_lose : {wants : Type 0} (s : ℕ) (a : Outfit) (ds : List Pdu) (k : Book) (log : History) (closed shut : Type 0) (b : List ℕ) (q : Pdu) (stamp : ℕ)
+pub halves_lose : {wants : Type 0} (s : ℕ) (a : AppProfile) (ds : List Pdu) (k : Book) (log : History) (closed shut : Type 0) (b : List ℕ) (q : Pdu) (stamp : ℕ)
     → (is : HalvesFollow wants s a ds k log closed)
     → MissNone is.turns → IsRead b q → stamp < 2 ^ 32 → is_some (reply_after a ds q stamp) ≡ true → shut
     → HalvesFollow wants s a (with_request a ds q) k (Get s b ∷ log) shut
@@ -135,7 +135,7 @@ halves_lose s a ds k log closed shut b q stamp is none read h due ends = record 
 }
 
 -- A STATE is told
-pub halves_tell : {wants : Type 0} (s : ℕ) (a : Outfit) (ds : List Pdu) (k : Book) (log : History) (closed : Type 0) (e : ℕ) (y : EntityState)
+pub halves_tell : {wants : Type 0} (s : ℕ) (a : AppProfile) (ds : List Pdu) (k : Book) (log : History) (closed : Type 0) (e : ℕ) (y : EntityState)
     → (is : HalvesFollow wants s a ds k log closed)
     → MissNone is.turns → y ≡ state_over a ds e → HalvesFollow wants s a ds k (Tell s e y ∷ log) closed
 halves_tell s a ds k log closed e y is none own = record {
@@ -164,10 +164,10 @@ pub record Goes (k : Book) (calls : List Call) (call : Call) (new : Book) : Type
   pub settings : new.settings ≡ k.settings
   pub orders : new.orders ≡ kept k.settings (call ∷ calls)
   pub fit : AreFit (call ∷ calls)
-  pub none : came_in (call ∷ calls) ≡ came_in calls
+  pub none : received_in (call ∷ calls) ≡ received_in calls
 
 -- nothing is sent
-halves_call : {wants : Type 0} (s : ℕ) (a : Outfit) (ds : List Pdu) (k new : Book) (log : History) (closed : Type 0) (call : Call) → (is : HalvesFollow wants s a ds k log closed)
+halves_call : {wants : Type 0} (s : ℕ) (a : AppProfile) (ds : List Pdu) (k new : Book) (log : History) (closed : Type 0) (call : Call) → (is : HalvesFollow wants s a ds k log closed)
     → Goes k is.calls call new → HalvesFollow wants s a ds new log closed
 halves_call s a ds k new log closed call is goes = record {
   turns = is.turns;
@@ -185,7 +185,7 @@ halves_call s a ds k new log closed call is goes = record {
 }
 
 -- an order is sent
-halves_send : {wants : Type 0} (s : ℕ) (a : Outfit) (ds : List Pdu) (k new : Book) (log : History) (closed : Type 0) (call : Call) (p : Pdu)
+halves_send : {wants : Type 0} (s : ℕ) (a : AppProfile) (ds : List Pdu) (k new : Book) (log : History) (closed : Type 0) (call : Call) (p : Pdu)
     → (is : HalvesFollow wants s a ds k log closed)
     → Goes k is.calls call new → IsOwnRequest a p → HasCarriedStatus p → IsOfLife k.settings (call ∷ is.calls) p → HalvesFollow wants s a ds new (Send s (pdu_text p) ∷ log) closed
 halves_send s a ds k new log closed call p is goes order status of = record {
@@ -216,9 +216,9 @@ goes_order : (k : Book) (calls : List Call) (order : Order) (now : ℕ) → k.or
     → Goes k calls (Requested order now (stamp_of now)) (with_orders k (with_order k.settings order now (stamp_of now) k.orders))
 goes_order k calls order now are fit request none range = record {
   settings = refl;
-  orders = ap (λ (os : List KeptOrder). with_order k.settings order now (stamp_of now) os) are
+  orders = ap (λ (os : List MadeOrder). with_order k.settings order now (stamp_of now) os) are
       ∙ ap (λ r. after_request r k.settings order now (stamp_of now) (kept k.settings calls))
-      (sym (ap (λ (os : List KeptOrder). refusal k.settings (length os) order (stamp_of now)) (sym are) ∙ none));
+      (sym (ap (λ (os : List MadeOrder). refusal k.settings (length os) order (stamp_of now)) (sym are) ∙ none));
   fit = (record { request = request; range = range; stamp_is = stamp_within now }, fit);
   none = refl;
 }
@@ -226,7 +226,7 @@ goes_order k calls order now are fit request none range = record {
 count_is : (k : Book) (calls : List Call) → k.orders ≡ kept k.settings calls → length k.orders ≡ count_made k.settings calls
 count_is k calls are = ap length are ∙ counts k.settings calls
 
-pub halves_order : {wants : Type 0} (s : ℕ) (a : Outfit) (ds : List Pdu) (k : Book) (log : History) (closed : Type 0) (order : Order) (now : ℕ)
+pub halves_order : {wants : Type 0} (s : ℕ) (a : AppProfile) (ds : List Pdu) (k : Book) (log : History) (closed : Type 0) (order : Order) (now : ℕ)
     → HalvesFollow wants s a ds k log closed
     → k.settings.exercise ≡ a.exercise → k.settings.address ≡ a.station.address
     → is_request_body order.body ≡ true → refusal_of k order (stamp_of now) ≡ None → IsOrderInRange order
@@ -252,7 +252,7 @@ halves_order s a ds k log closed order now is x at request none range =
           (subst (λ (m : ℕ). refusal k.settings m order (stamp_of now) ≡ None) (count_is k is.calls is.manager) none))
 
 -- it is made and not written
-pub halves_withhold : {wants : Type 0} (s : ℕ) (a : Outfit) (ds : List Pdu) (k : Book) (log : History) (closed : Type 0) (order : Order) (now : ℕ)
+pub halves_withhold : {wants : Type 0} (s : ℕ) (a : AppProfile) (ds : List Pdu) (k : Book) (log : History) (closed : Type 0) (order : Order) (now : ℕ)
     → HalvesFollow wants s a ds k log closed
     → is_request_body order.body ≡ true → refusal_of k order (stamp_of now) ≡ None → IsOrderInRange order
     → HalvesFollow wants s a ds (with_orders k (with_order k.settings order now (stamp_of now) k.orders)) log closed
@@ -265,12 +265,12 @@ goes_tick : (k : Book) (calls : List Call) (now : ℕ) → k.orders ≡ kept k.s
     → Goes k calls (Ticked now (stamp_of now)) (ticked k now (stamp_of now))
 goes_tick k calls now are fit = record {
   settings = refl;
-  orders = ap (λ (os : List KeptOrder). (ticked (record { settings = k.settings; orders = os }) now (stamp_of now)).orders) are;
+  orders = ap (λ (os : List MadeOrder). (ticked (record { settings = k.settings; orders = os }) now (stamp_of now)).orders) are;
   fit = fit;
   none = refl;
 }
 
-pub halves_tick : {wants : Type 0} (s : ℕ) (a : Outfit) (ds : List Pdu) (k : Book) (log : History) (closed : Type 0) (now : ℕ) → HalvesFollow wants s a ds k log closed
+pub halves_tick : {wants : Type 0} (s : ℕ) (a : AppProfile) (ds : List Pdu) (k : Book) (log : History) (closed : Type 0) (now : ℕ) → HalvesFollow wants s a ds k log closed
     → HalvesFollow wants s a ds (ticked k now (stamp_of now)) log closed
 halves_tick s a ds k log closed now is = halves_call s a ds k _ log closed (Ticked now (stamp_of now)) is (goes_tick k is.calls now is.manager is.fit)
 
@@ -278,7 +278,7 @@ repeat_by : (st : Settings) (calls : List Call) (now : ℕ) (p : Pdu) → AreFit
     → option_map (λ (l : Life). with_stamp (stamp_of now) l.order) (ready_after st calls now) ≡ Some p
 repeat_by st calls now p fit e = sym (repeat_told st calls (fit_requests calls fit) now (stamp_of now)) ∙ e
 
-pub halves_repeat : {wants : Type 0} (s : ℕ) (a : Outfit) (ds : List Pdu) (k : Book) (log : History) (closed : Type 0) (now : ℕ) (p : Pdu)
+pub halves_repeat : {wants : Type 0} (s : ℕ) (a : AppProfile) (ds : List Pdu) (k : Book) (log : History) (closed : Type 0) (now : ℕ) (p : Pdu)
     → HalvesFollow wants s a ds k log closed
     → k.settings.exercise ≡ a.exercise → k.settings.address ≡ a.station.address → next_repeat k now ≡ Some p
     → HalvesFollow wants s a ds (ticked k now (stamp_of now)) (Send s (pdu_text p) ∷ log) closed
@@ -286,7 +286,7 @@ halves_repeat s a ds k log closed now p is x at due =
     halves_send s a ds k _ log closed (Ticked now (stamp_of now)) p is (goes_tick k is.calls now is.manager is.fit) own.order
     (zero_is_carried p own.status) of where
       told : option_map (λ (l : Life). with_stamp (stamp_of now) l.order) (ready_after k.settings is.calls now) ≡ Some p
-      told = repeat_by k.settings is.calls now p is.fit (ap (λ (os : List KeptOrder). repeated k.settings now (stamp_of now) os) (sym is.manager) ∙ due)
+      told = repeat_by k.settings is.calls now p is.fit (ap (λ (os : List MadeOrder). repeated k.settings now (stamp_of now) os) (sym is.manager) ∙ due)
 
       repeat : IsRepeat k.settings is.calls (stamp_of now) p
       repeat = repeat_is k.settings is.calls now p told
@@ -300,7 +300,7 @@ halves_repeat s a ds k log closed now p is x at due =
 -- Beginnings, and what no step changes.
 
 -- nothing came, and no order was made
-pub halves_begun : {wants : Type 0} (s : ℕ) (a : Outfit) (k : Book) (closed : Type 0) (ds : List Pdu) → ds ≡ [] → k.orders ≡ [] → IsOutfitInRange a
+pub halves_begun : {wants : Type 0} (s : ℕ) (a : AppProfile) (k : Book) (closed : Type 0) (ds : List Pdu) → ds ≡ [] → k.orders ≡ [] → IsProfileInRange a
     → HalvesFollow wants s a ds k [] closed
 halves_begun s a k closed ds none orders own = record {
   turns = [];
@@ -317,7 +317,7 @@ halves_begun s a k closed ds none orders own = record {
 }
 
 -- a recorder that takes no further entry stays so
-pub halves_closed : {wants : Type 0} (s : ℕ) (a : Outfit) (ds : List Pdu) (k : Book) (log : History) (closed shut : Type 0) → (closed → shut)
+pub halves_closed : {wants : Type 0} (s : ℕ) (a : AppProfile) (ds : List Pdu) (k : Book) (log : History) (closed shut : Type 0) → (closed → shut)
     → HalvesFollow wants s a ds k log closed → HalvesFollow wants s a ds k log shut
 halves_closed s a ds k log closed shut on is = record {
   turns = is.turns;
@@ -336,7 +336,7 @@ halves_closed s a ds k log closed shut on is = record {
   by (inl h) = inl h
   by (inr h) = inr (on h)
 
-pub none_missing : {wants : Type 0} (s : ℕ) (a : Outfit) (ds : List Pdu) (k : Book) (log : History) (closed : Type 0) → (is : HalvesFollow wants s a ds k log closed)
+pub none_missing : {wants : Type 0} (s : ℕ) (a : AppProfile) (ds : List Pdu) (k : Book) (log : History) (closed : Type 0) → (is : HalvesFollow wants s a ds k log closed)
     → (closed → ⊥) → MissNone is.turns
 none_missing s a ds k log closed is takes = by is.missing where
   by : MissNone is.turns ⊎ closed → MissNone is.turns

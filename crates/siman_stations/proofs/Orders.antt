@@ -12,8 +12,8 @@ use Rattle.siman_pdus.specs.Spelling.{HasCarriedStatus, pdu_size, pdu_text}
 use Rattle.siman_pdus.proofs.Offered.{text_is_bytes, text_is_read}
 use Rattle.dis_records.specs.Address.{Pair}
 use Rattle.exercise_model.specs.Place.{first_below}
-use Rattle.siman_application.specs.Outfit.{Outfit}
-use Rattle.siman_application.specs.Ranges.{IsOutfitInRange}
+use Rattle.siman_application.specs.AppProfile.{AppProfile}
+use Rattle.siman_application.specs.Ranges.{IsProfileInRange}
 use Rattle.siman_application.specs.OwnLog.{IsOrder}
 use Rattle.siman_manager.specs.declared.fault.OrderFault.{OrderFault}
 use Rattle.siman_manager.specs.declared.fault.OrderFault.TheVariants as faults
@@ -60,14 +60,14 @@ pub order_range : (settings : Settings) (id : ℕ) (order : Order) (stamp : ℕ)
 order_range settings id order stamp is = record { target = is.target; body = numbered_in_range id 0 order.body (omega arith) is.body }
 
 -- a request of the exercise, its numbers in their ranges, of at most 8192 bytes
-pub record IsOwnRequest (a : Outfit) (p : Pdu) : Type 0 where
+pub record IsOwnRequest (a : AppProfile) (p : Pdu) : Type 0 where
   pub exercise : p.exercise ≡ a.exercise
   pub request : is_request_body p.body ≡ true
   pub ranges : IsInRange p
   pub size : pdu_size p ≤ LARGEST_DATAGRAM
 
 -- its text is an order
-pub text_is_order : (a : Outfit) (p : Pdu) → IsOwnRequest a p → HasCarriedStatus p → IsOrder a (pdu_text p) p
+pub text_is_order : (a : AppProfile) (p : Pdu) → IsOwnRequest a p → HasCarriedStatus p → IsOrder a (pdu_text p) p
 text_is_order a p is status = record {
   exercise = is.exercise;
   request = is.request;
@@ -75,13 +75,13 @@ text_is_order a p is status = record {
 }
 
 -- an order of a station comes from its manager half
-pub record IsOwnOrder (a : Outfit) (st : Settings) (p : Pdu) : Type 0 where
+pub record IsOwnOrder (a : AppProfile) (st : Settings) (p : Pdu) : Type 0 where
   pub order : IsOwnRequest a p
   pub origin : p.origin ≡ manager_id st
   pub status : p.status ≡ 0
 
 -- the order that is made after n others is one of the station, whose exercise and address its manager half has
-pub made_own : (a : Outfit) (st : Settings) → st.exercise ≡ a.exercise → st.address ≡ a.station.address → IsOutfitInRange a → (n : ℕ) (order : Order) (stamp : ℕ)
+pub made_own : (a : AppProfile) (st : Settings) → st.exercise ≡ a.exercise → st.address ≡ a.station.address → IsProfileInRange a → (n : ℕ) (order : Order) (stamp : ℕ)
     → IsFit order stamp → refusal st n order stamp ≡ None → IsOwnOrder a st (order_pdu st (next_id st n) order stamp)
 made_own a st x at own n order stamp fit none =
     let within : (nat_lt (next_id st n) (2 ^ 32) ≡ true) × (nat_le (pdu_size (order_pdu st (next_id st n) order stamp)) LARGEST_DATAGRAM ≡ true) =
@@ -197,7 +197,7 @@ pub repeat_is : (st : Settings) (past : List Call) (now : ℕ) (p : Pdu)
 repeat_is st past now p e = of_place st past (stamp_of now) p (first_below (λ k. passes (is_ready_at st now) (life st past k)) (count_made st past)) e
 
 -- it is an order with another timestamp
-pub repeat_own : (a : Outfit) (st : Settings) → st.exercise ≡ a.exercise → st.address ≡ a.station.address → IsOutfitInRange a → (past : List Call) → AreFit past
+pub repeat_own : (a : AppProfile) (st : Settings) → st.exercise ≡ a.exercise → st.address ≡ a.station.address → IsProfileInRange a → (past : List Call) → AreFit past
     → (now : ℕ) (p : Pdu) → IsRepeat st past (stamp_of now) p → IsOwnOrder a st p
 repeat_own a st x at own past fit now p is =
     let first = lives_as (IsOwnOrder a st) st (made_own a st x at own) past fit is.number is.life_is is.there in

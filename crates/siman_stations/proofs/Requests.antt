@@ -24,9 +24,9 @@ use Rattle.exercise_model.specs.Meaning.{meaning}
 use Rattle.exercise_model.specs.Exchange.{is_answer_role, is_answer_body}
 use Rattle.exercise_model.specs.Cause.{is_other_order, sends_other, is_reused}
 use Rattle.siman_application.specs.Answer.{answer}
-use Rattle.siman_application.specs.Outfit.{Outfit}
+use Rattle.siman_application.specs.AppProfile.{AppProfile}
 use Rattle.siman_application.specs.Play.{reply}
-use Rattle.siman_application.specs.Ranges.{IsOutfitInRange}
+use Rattle.siman_application.specs.Ranges.{IsProfileInRange}
 use Rattle.siman_application.proofs.Offered.{Each, reply_answers, reply_in_range, reply_is_short, is_answer, read_meant}
 use Rattle.siman_manager.specs.declared.fault.OrderFault.{OrderFault}
 use Rattle.siman_manager.specs.declared.kept.OrderStanding.TheVariants as standings
@@ -70,7 +70,7 @@ some_of P None x e h = absurd cc
 some_of P (Some y) x e h = let same : y ≡ x = cc in subst P same h
 
 -- a reply is an answer
-pub reply_answering : (a : Outfit) (qs : List Pdu) (q p : Pdu) (stamp : ℕ) → reply a qs q stamp ≡ Some p → is_answer_body p.body ≡ true
+pub reply_answering : (a : AppProfile) (qs : List Pdu) (q p : Pdu) (stamp : ℕ) → reply a qs q stamp ≡ Some p → is_answer_body p.body ≡ true
 reply_answering a qs q p stamp e =
     some_of (λ r. is_answer_body r.body ≡ true) (reply a qs q stamp) p e
     (reply_answers (λ r. is_answer_body r.body ≡ true) a qs q stamp
@@ -83,7 +83,7 @@ pub record IsReply (p : Pdu) : Type 0 where
   pub status : HasCarriedStatus p
   pub size : pdu_size p ≤ LARGEST_DATAGRAM
 
-pub reply_own : (a : Outfit) (qs : List Pdu) (q p : Pdu) (stamp : ℕ) → IsOutfitInRange a → Each IsInRange qs → IsInRange q → stamp < 2 ^ 32
+pub reply_own : (a : AppProfile) (qs : List Pdu) (q p : Pdu) (stamp : ℕ) → IsProfileInRange a → Each IsInRange qs → IsInRange q → stamp < 2 ^ 32
     → reply a qs q stamp ≡ Some p → IsReply p
 reply_own a qs q p stamp own came range h e = record {
   ranges = some_of IsInRange (reply a qs q stamp) p e (reply_in_range a qs q stamp own came range h);

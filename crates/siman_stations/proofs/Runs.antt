@@ -15,7 +15,7 @@ use Rattle.exercise_model.specs.Setting.{SettingData, nowhere, station_in, is_fr
 use Rattle.exercise_model.specs.State.{state_after}
 use Rattle.exercise_model.specs.Station.{StationData}
 use Rattle.exercise_model.proofs.Offered.{get_where_sent}
-use Rattle.siman_stations.specs.Deeds.{DeedsStand, ReceivesSent}
+use Rattle.siman_stations.specs.Deeds.{DeedsHaveNoCause, ReceivesSent}
 use Rattle.siman_stations.proofs.Entries.{log-first}
 
 any_at : {X : Type 0} (test : X → Bool) (xs : List X) (k : ℕ) (d : X) → k < length xs → test (slice_index_or xs k d) ≡ true
@@ -24,7 +24,7 @@ any_at test [] k d within e = absurd (omega arith)
 any_at test (x ∷ xs) zero d within e = or_left (test x) (list_any test xs) e
 any_at test (x ∷ xs) (suc k) d within e = or_right (test x) (list_any test xs) (any_at test xs k d (omega arith) e)
 
-stand_tail : (x : ℕ) (o : StationData) (v : Event) (log : History) → DeedsStand x o (v ∷ log) → DeedsStand x o log
+stand_tail : (x : ℕ) (o : StationData) (v : Event) (log : History) → DeedsHaveNoCause x o (v ∷ log) → DeedsHaveNoCause x o log
 stand_tail x o (Send s b) log h = h.1
 stand_tail x o (Get s b) log h = h
 stand_tail x o (Tell s e y) log h = h.1
@@ -33,14 +33,14 @@ log_case : (s : ℕ) (v : Event) (h : History) (b : Bool) → (station_of v == s
 unfolding log_at
 log_case s v h b e = ap (λ (t : Bool). cond t (v ∷ log_at s h) (log_at s h)) e
 
-log_tail : (x : ℕ) (o : StationData) (s : ℕ) (v : Event) (h : History) (b : Bool) → (station_of v == s) ≡ b → DeedsStand x o (log_at s (v ∷ h))
-    → DeedsStand x o (log_at s h)
-log_tail x o s v h true e is = stand_tail x o v (log_at s h) (subst (DeedsStand x o) (log_case s v h true e) is)
-log_tail x o s v h false e is = subst (DeedsStand x o) (log_case s v h false e) is
+log_tail : (x : ℕ) (o : StationData) (s : ℕ) (v : Event) (h : History) (b : Bool) → (station_of v == s) ≡ b → DeedsHaveNoCause x o (log_at s (v ∷ h))
+    → DeedsHaveNoCause x o (log_at s h)
+log_tail x o s v h true e is = stand_tail x o v (log_at s h) (subst (DeedsHaveNoCause x o) (log_case s v h true e) is)
+log_tail x o s v h false e is = subst (DeedsHaveNoCause x o) (log_case s v h false e) is
 
 -- the logs of all stations stand
 abbrev pub AllStand : SettingData → History → Type 0
-AllStand w h = (s : ℕ) → s < length w.stations → DeedsStand w.exercise (station_in w s) (log_at s h)
+AllStand w h = (s : ℕ) → s < length w.stations → DeedsHaveNoCause w.exercise (station_in w s) (log_at s h)
 
 pub all_tail : (w : SettingData) (v : Event) (h : History) → AllStand w (v ∷ h) → AllStand w h
 all_tail w v h all = λ s within. log_tail w.exercise (station_in w s) s v h (station_of v == s) refl (all s within)
@@ -57,7 +57,7 @@ sent_own x o log p e = own_row (is_from o.address p) (drop 1 (send_rows x o log 
 first_stands : (w : SettingData) (s : ℕ) (b : List ℕ) (h : History) → AllStand w (Send s b ∷ h) → s < length w.stations
     → (p : Pdu) → meaning w.exercise b ≡ Some p → send_cause w.exercise (station_in w s) (log_at s h) p ≡ None
 first_stands w s b h all within p e =
-    (subst (DeedsStand w.exercise (station_in w s)) (log-first s (Send s b) h refl) (all s within)).0 p e
+    (subst (DeedsHaveNoCause w.exercise (station_in w s)) (log-first s (Send s b) h refl) (all s within)).0 p e
 
 either : (a b : Bool) → (a || b) ≡ true → (a ≡ true) ⊎ (b ≡ true)
 either true b e = inl refl
@@ -109,7 +109,7 @@ event_allowed w (Send s b) h all within gets =
 event_allowed w (Get s b) h all within gets = none_of (get_cause w h b) (meaning w.exercise b) gets.0
 event_allowed w (Tell s e y) h all within gets =
     tell_none (same_state y (state_after w.exercise (station_in w s) (log_at s h) e))
-    (subst (DeedsStand w.exercise (station_in w s)) (log-first s (Tell s e y) h refl) (all s within)).0
+    (subst (DeedsHaveNoCause w.exercise (station_in w s)) (log-first s (Tell s e y) h refl) (all s within)).0
 
 gets_tail : (w : SettingData) (v : Event) (h : History) → GetsStand w (v ∷ h) → GetsStand w h
 gets_tail w (Send s b) h r = r

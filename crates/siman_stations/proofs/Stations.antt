@@ -29,7 +29,7 @@ use Rattle.siman_scripts.specs.declared.act.Act.{Act}
 use Rattle.siman_scripts.specs.declared.act.Act.TheVariants.{Command, Deliver, Tick, Tell as TellState}
 use Rattle.siman_scripts.specs.declared.act.Move.{Move}
 use Rattle.siman_scripts.specs.Stations.{WorldStationData}
-use Rattle.siman_stations.specs.Deeds.{DeedsStand, ReceivesSent}
+use Rattle.siman_stations.specs.Deeds.{DeedsHaveNoCause, ReceivesSent}
 use Rattle.siman_stations.specs.Halves.{HalvesFollow}
 use Rattle.siman_stations.specs.Orders.{AreFit}
 use Rattle.siman_stations.specs.Sending.{IsOrderInRange, next_repeat}
@@ -349,11 +349,11 @@ all_sound w (m ∷ earlier) own made = sound_on w (course_of w earlier) m (all_s
 -- WHAT HAPPENS IN A WORLD is a run
 pub sound_run : (w : WorldData) (c : Course) → IsSound w c → IsRun (setting_of w) (past c.entries)
 sound_run w c is = all_run (setting_of w) (past c.entries) deeds there is.received where
-  deeds : (s : ℕ) → s < length (setting_of w).stations → DeedsStand w.exercise (station_in (setting_of w) s) (log_at s (past c.entries))
+  deeds : (s : ℕ) → s < length (setting_of w).stations → DeedsHaveNoCause w.exercise (station_in (setting_of w) s) (log_at s (past c.entries))
   deeds s within =
       let log = log_at s (past c.entries) in
       let follows = is.halves s (subst (λ (n : ℕ). s < n) (length-map w.stations (λ (o : WorldStationData). o.station)) within) in
-      subst (λ (o : StationData). DeedsStand w.exercise o log) (sym (station_is w s))
+      subst (λ (o : StationData). DeedsHaveNoCause w.exercise o log) (sym (station_is w s))
       (deeds_stand s (outfit_of w s) (distinct (outfit_of w s) (c.came s)) (book_of w s (c.calls s)) log ⊥ follows refl
       (inl (no_want w s (c.came s) (c.calls s) log follows)))
 

@@ -10,15 +10,15 @@ use Rattle.exercise_model.specs.Meaning.{meaning}
 use Rattle.exercise_model.specs.Setting.{SettingData, is_from}
 use Rattle.exercise_model.specs.State.{state_after}
 use Rattle.exercise_model.specs.Station.{StationData}
-use Rattle.siman_manager.specs.declared.kept.KeptOrder.{KeptOrder}
+use Rattle.siman_manager.specs.declared.kept.MadeOrder.{MadeOrder}
 use Rattle.siman_manager.specs.Book.{Book}
 
 -- nothing that the log of a station sends or tells has a cause against it, after the events before it
-abbrev pub DeedsStand : ℕ → StationData → History → Type 0
-DeedsStand x o [] = Unit {0}
-DeedsStand x o (Send s b ∷ log) = ((p : Pdu) → meaning x b ≡ Some p → send_cause x o log p ≡ None) × DeedsStand x o log
-DeedsStand x o (Get s b ∷ log) = DeedsStand x o log
-DeedsStand x o (Tell s e y ∷ log) = (same_state y (state_after x o log e) ≡ true) × DeedsStand x o log
+abbrev pub DeedsHaveNoCause : ℕ → StationData → History → Type 0
+DeedsHaveNoCause x o [] = Unit {0}
+DeedsHaveNoCause x o (Send s b ∷ log) = ((p : Pdu) → meaning x b ≡ Some p → send_cause x o log p ≡ None) × DeedsHaveNoCause x o log
+DeedsHaveNoCause x o (Get s b ∷ log) = DeedsHaveNoCause x o log
+DeedsHaveNoCause x o (Tell s e y ∷ log) = (same_state y (state_after x o log e) ≡ true) × DeedsHaveNoCause x o log
 
 -- each datagram that is received and is not other was sent before
 abbrev pub ReceivesSent : SettingData → History → Type 0
@@ -30,7 +30,7 @@ ReceivesSent w (Tell s e y ∷ h) = ReceivesSent w h
 -- A REQUEST THAT IS SENT names the manager's address as its originator, and is the same order as one that the manager has
 pub record IsOrdered (k : Book) (p : Pdu) : Type 0 where
   pub from : is_from k.settings.address p ≡ true
-  pub order : KeptOrder
+  pub order : MadeOrder
   pub number : ℕ
   pub there : slice_get k.orders number ≡ Some order
   pub same : IsSameOrder p order.pdu

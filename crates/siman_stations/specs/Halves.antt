@@ -4,7 +4,7 @@ use Rattle.std.specs.Prelude.{◌≡◌, ℕ, List, [], ◌∷◌, ◌⊎◌}
 use Rattle.siman_pdus.specs.declared.pdu.Pdu.{Pdu}
 use Rattle.exercise_model.specs.History.{History}
 use Rattle.siman_application.specs.Distinct.{distinct}
-use Rattle.siman_application.specs.Outfit.{Outfit}
+use Rattle.siman_application.specs.AppProfile.{AppProfile}
 use Rattle.siman_application.specs.OwnLog.{OwnTurn, Tells, Orders, Passes, Takes, Loses, taken_in, IsOwnLog, MissNone, TakesAll}
 use Rattle.siman_application.specs.Play.{state_over}
 use Rattle.siman_manager.specs.Book.{Book}
@@ -12,11 +12,11 @@ use Rattle.siman_manager.specs.Calls.{Call, Requested, Came, Ticked, kept}
 use Rattle.siman_stations.specs.Orders.{AreFit, SendOwnOrders}
 
 -- the PDUs that the manager received in these calls
-abbrev pub came_in : List Call → List Pdu
-came_in [] = []
-came_in (Requested order now stamp ∷ calls) = came_in calls
-came_in (Came p ∷ calls) = p ∷ came_in calls
-came_in (Ticked now stamp ∷ calls) = came_in calls
+abbrev pub received_in : List Call → List Pdu
+received_in [] = []
+received_in (Requested order now stamp ∷ calls) = received_in calls
+received_in (Came p ∷ calls) = p ∷ received_in calls
+received_in (Ticked now stamp ∷ calls) = received_in calls
 
 -- the PDUs of the turns that were done whole
 abbrev pub heard_in : List OwnTurn → List Pdu
@@ -28,7 +28,7 @@ heard_in (Takes b q stamp ∷ ts) = q ∷ heard_in ts
 heard_in (Loses b q stamp ∷ ts) = heard_in ts
 
 -- each told state is that of the application, and no reply is missing before it
-abbrev pub TellsOwn : Outfit → List OwnTurn → Type 0
+abbrev pub TellsOwn : AppProfile → List OwnTurn → Type 0
 TellsOwn a [] = Unit {0}
 TellsOwn a (Tells e y ∷ ts) = (y ≡ state_over a (distinct a (taken_in ts)) e) × MissNone ts × TellsOwn a ts
 TellsOwn a (Orders b p ∷ ts) = TellsOwn a ts
@@ -39,7 +39,7 @@ TellsOwn a (Loses b q stamp ∷ ts) = TellsOwn a ts
 -- APPLICATION AND MANAGER FOLLOW FROM THE LOG OF THEIR STATION: the log is one that such a station writes, whose
 -- turns lead to the state of the application; the manager took exactly the PDUs of these turns, and each request
 -- that the log sends is the same order as one that the manager made
-pub record HalvesFollow (wants : Type 0) (s : ℕ) (a : Outfit) (ds : List Pdu) (k : Book) (log : History) (closed : Type 0) : Type 0 where
+pub record HalvesFollow (wants : Type 0) (s : ℕ) (a : AppProfile) (ds : List Pdu) (k : Book) (log : History) (closed : Type 0) : Type 0 where
   pub turns : List OwnTurn
   pub calls : List Call
   pub own_log : IsOwnLog a s turns log (taken_in turns)
@@ -49,5 +49,5 @@ pub record HalvesFollow (wants : Type 0) (s : ℕ) (a : Outfit) (ds : List Pdu) 
   pub told : TellsOwn a turns
   pub manager : k.orders ≡ kept k.settings calls
   pub fit : AreFit calls
-  pub heard : came_in calls ≡ heard_in turns
+  pub heard : received_in calls ≡ heard_in turns
   pub ordered : SendOwnOrders k.settings calls a.exercise log

@@ -2,7 +2,7 @@
 use Rattle.std.specs.Prelude.{◌≡◌, ℕ, true, List, [], ◌∷◌, length, slice_get, Some, None}
 use Rattle.siman_pdus.specs.declared.pdu.Pdu.{Pdu}
 use Rattle.siman_application.specs.Distinct.{distinct}
-use Rattle.siman_application.specs.Ranges.{IsOutfitInRange}
+use Rattle.siman_application.specs.Ranges.{IsProfileInRange}
 use Rattle.siman_application.specs.Application.{came}
 use Rattle.siman_manager.specs.Calls.{Call, kept}
 use Rattle.siman_scripts.specs.declared.act.Move.{Move}
@@ -26,7 +26,7 @@ pub record IsNode (w : WorldData) (s : ℕ) (qs : List Pdu) (calls : List Call) 
 pub record IsNewNode (x : ℕ) (s : WorldStationData) (n : Node) : Type 0 where
   pub fits : is_world_station s ≡ true
   pub outfit : n.application.outfit ≡ record { exercise = x; station = s.station; datums = s.datums; actions = s.actions }
-  pub ranges : IsOutfitInRange n.application.outfit
+  pub ranges : IsProfileInRange n.application.outfit
   pub kept_is : n.application.kept ≡ []
   pub settings : n.manager.settings ≡ record { exercise = x; address = s.station.address; first_id = s.first_id; tries = s.tries; wait = s.wait }
   pub orders : n.manager.orders ≡ []

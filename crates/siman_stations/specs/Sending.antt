@@ -3,7 +3,7 @@ use Rattle.std.specs.Prelude.{◌≡◌, ℕ, length, Option, None}
 use Rattle.siman_pdus.specs.declared.pdu.Pdu.{Pdu}
 use Rattle.siman_pdus.specs.Ranges.{IsEntityIdInRange, IsBodyInRange}
 use Rattle.siman_manager.specs.declared.order.Order.{Order}
-use Rattle.siman_manager.specs.Answers.{refusal_of, told_by, with_orders, ticked}
+use Rattle.siman_manager.specs.Answers.{refusal_of, reported_by, with_orders, ticked}
 use Rattle.siman_manager.specs.Book.{Book, numbered, order_pdu, next_id, repeated, with_order}
 use Rattle.siman_stations.specs.declared.sending.OrderTextFault.{OrderTextFault}
 use Rattle.siman_stations.specs.declared.sending.OrderTextFault.TheVariants as text_faults
@@ -34,6 +34,6 @@ after_tick n now = record n { manager = ticked n.manager now (stamp_of now) }
 
 -- the effect of a failed order: the node is unchanged, if the order was refused; otherwise the manager has it
 abbrev pub FailsOrder : ℕ → Order → Node → Node → OrderTextFault → Type 0
-FailsOrder now order old new (text_faults.Order fault) = (new ≡ old) × (refusal_of old.manager order (stamp_of now) ≡ told_by fault)
+FailsOrder now order old new (text_faults.Order fault) = (new ≡ old) × (refusal_of old.manager order (stamp_of now) ≡ reported_by fault)
 FailsOrder now order old new text_faults.Memory =
     (new ≡ after_order old now order) × (refusal_of old.manager order (stamp_of now) ≡ None) × IsOrderInRange order

@@ -16,7 +16,7 @@ use Rattle.exercise_model.specs.declared.form.Form.TheVariants.{First}
 use Rattle.exercise_model.specs.Setting.{SettingData, nowhere}
 use Rattle.exercise_model.specs.Station.{is_entity, are_stations}
 use Rattle.exercise_model.specs.State.{state_after}
-use Rattle.siman_application.specs.Outfit.{Outfit}
+use Rattle.siman_application.specs.AppProfile.{AppProfile}
 use Rattle.siman_application.specs.Play.{reply}
 use Rattle.siman_manager.specs.declared.order.Order.{Order}
 use Rattle.siman_manager.specs.declared.settings.Settings.{Settings}
@@ -51,7 +51,7 @@ abbrev pub station_of : WorldData → ℕ → WorldStationData
 station_of w s = slice_index_or w.stations s no_station
 
 -- the configuration of a station's application
-abbrev pub outfit_of : WorldData → ℕ → Outfit
+abbrev pub outfit_of : WorldData → ℕ → AppProfile
 outfit_of w s = record {
   exercise = w.exercise;
   station = (station_of w s).station;

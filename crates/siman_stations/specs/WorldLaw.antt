@@ -1,7 +1,7 @@
 -- What the types imply of a world and of its moves: their numbers are in the ranges of the fields that carry them.
 use Rattle.std.specs.Prelude.{ℕ, ◌<◌, List, length}
 use Rattle.std.specs.List.{AllByRecursion}
-use Rattle.siman_application.specs.Ranges.{IsOutfitInRange}
+use Rattle.siman_application.specs.Ranges.{IsProfileInRange}
 use Rattle.siman_scripts.specs.declared.act.Act.{Act}
 use Rattle.siman_scripts.specs.declared.act.Act.TheVariants.{Command, Deliver, Tick, Tell}
 use Rattle.siman_scripts.specs.declared.act.Move.{Move}
@@ -10,7 +10,7 @@ use Rattle.siman_stations.specs.World.{WorldData, outfit_of}
 
 -- THE NUMBERS OF A WORLD: those of the configuration of each station's application
 abbrev pub IsWorldInRange : WorldData → Type 0
-IsWorldInRange w = (s : ℕ) → s < length w.stations → IsOutfitInRange (outfit_of w s)
+IsWorldInRange w = (s : ℕ) → s < length w.stations → IsProfileInRange (outfit_of w s)
 
 -- the numbers of an act that are sent: those of an order
 abbrev pub IsActInRange : Act → Type 0

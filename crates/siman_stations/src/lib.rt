@@ -12,7 +12,7 @@
 //! The contract for the layer above: what is recorded and how application and manager change
 //! (`specs/StationTurn.antt`, `specs/Sending.antt`); the invariant of a station
 //! (`specs/Halves.antt`), which each step preserves ([`halves_follow_logs`]), and under which
-//! nothing that the station sends or tells has a cause against it ([`deeds_of_stations_stand`]);
+//! nothing that the station sends or tells has a cause against it ([`deeds_have_no_cause`]);
 //! the recording of a world, or its first fault, as functions of the moves (`specs/World.antt`),
 //! and that its entries are a run ([`worlds_are_runs`]).
 #![tactic(auto)]
@@ -28,11 +28,11 @@ mod world;
 mod world_fault;
 mod world_laws;
 
-pub use laws::{deeds_of_stations_stand, halves_follow_logs};
+pub use laws::{deeds_have_no_cause, halves_follow_logs};
 pub use recorder::Recorder;
 pub use sending::{OrderTextFault, order_text, repeat_text};
 pub use station_fault::StationFault;
 pub use turn::{Node, TurnFault, stamp_of, take_turn};
-pub use world::{Beginning, begin_world, run_world};
+pub use world::{InitialWorld, begin_world, run_world};
 pub use world_fault::{MoveFault, WorldFault};
 pub use world_laws::worlds_are_runs;

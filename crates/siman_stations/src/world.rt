@@ -122,7 +122,7 @@ fn recording_of(
 
 /// The stations of a world before its first move.
 #[derive(Drop)]
-pub struct Beginning {
+pub struct InitialWorld {
     /// Recording of the stations, without entries.
     pub recording: Recording,
     /// Manager and application of each station.
@@ -137,7 +137,7 @@ pub fn begin_world(
     alloc: Global,
     exercise: u8,
     stations: Vec<WorldStation>,
-) -> Result<Beginning, WorldFault>
+) -> Result<InitialWorld, WorldFault>
     ensures recording { IfOk result (λ b. b.recording ≡ opened (record { form = First; exercise = exercise; stations = map (λ s. s.station) stations.items })) }
     ensures nodes { IfOk result (λ b. AreNewNodes exercise stations.items b.nodes.items) }
     ensures stations { OnOk result (are_world_stations stations.items ≡ true) }
@@ -145,7 +145,7 @@ pub fn begin_world(
 {
     let nodes = nodes_of(alloc, exercise, &stations)?;
     let recording = recording_of(alloc, exercise, stations)?;
-    Ok(Beginning { recording, nodes })
+    Ok(InitialWorld { recording, nodes })
 }
 
 impl World {
@@ -155,7 +155,7 @@ impl World {
         ensures stations { OnOk result (are_world_stations stations.items ≡ true) }
         ensures fault { IfErr result (λ fault. (fault ≡ WorldFault.Memory) ⊎ ((fault ≡ WorldFault.Stations) × (are_world_stations stations.items ≡ false))) }
     {
-        let Beginning { recording, nodes } = begin_world(alloc, exercise, stations)?;
+        let InitialWorld { recording, nodes } = begin_world(alloc, exercise, stations)?;
         Ok(World {
             journal: Journal::begin(alloc, recording),
             nodes,

@@ -2,7 +2,7 @@
 //! `siman_cases`.
 
 use crate::losses::losses;
-use exercise_conflict::{Field, clash_of, lacks_of, pdu_difference};
+use exercise_conflict::{PduField, clash_of, missing_sends, pdu_difference};
 use exercise_findings::Findings;
 use siman_pdus::view;
 
@@ -14,7 +14,7 @@ fn what_contradicts_nothing_has_no_clash(rt: HostRuntime) {
     for entry in [0, 2, 30] {
         assert!(rt; clash_of(&findings, entry).is_none());
     }
-    let lacks = lacks_of(rt.alloc(), &findings).expect(&rt, "there is memory");
+    let lacks = missing_sends(rt.alloc(), &findings).expect(&rt, "there is memory");
     assert!(rt; lacks.is_empty());
 }
 
@@ -36,10 +36,10 @@ fn report(event: u8) -> [u8; 40] {
 
 #[test]
 fn the_first_difference_is_named(rt: HostRuntime) {
-    let rows: [(&[u8], &[u8], Field); 3] = [
-        (&start(7, 1), &start(9, 1), Field::To),
-        (&start(7, 1), &start(7, 2), Field::Request),
-        (&report(1), &report(9), Field::Event),
+    let rows: [(&[u8], &[u8], PduField); 3] = [
+        (&start(7, 1), &start(9, 1), PduField::To),
+        (&start(7, 1), &start(7, 2), PduField::Request),
+        (&report(1), &report(9), PduField::Event),
     ];
     for (one, other, field) in rows {
         let one = view(one).expect(&rt, "it is a PDU");

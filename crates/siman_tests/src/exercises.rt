@@ -8,7 +8,7 @@ ghost use Rattle.siman_lines.specs.Memory.{sent_of};
 use siman_lines::{AtLineFault, MemoryLine};
 use siman_scripts::{Script, read_script};
 use siman_stations::WorldFault;
-use siman_trials::{ExerciseFault, Halt, record_exercise, record_on_network};
+use siman_trials::{ExerciseFault, LinkMoveFault, record_exercise, record_on_network};
 use std::alloc::Global;
 
 /// The first of two stations orders the creation of 2:3:7.
@@ -38,7 +38,7 @@ const ANSWERED: [u8; 136] = [
 #[test]
 fn a_creation_on_a_network_is_recorded(rt: HostRuntime) {
     let alloc = rt.alloc();
-    let unsent = ExerciseFault::Move(Halt::AtLine(AtLineFault::Line));
+    let unsent = ExerciseFault::Move(LinkMoveFault::AtLine(AtLineFault::Line));
     // The call that fails, the result, and the bytes of the recording behind the order.
     let rows: [(Option<u64>, Result<(), ExerciseFault>, &[u8]); 2] = [
         (None, Ok(()), &ANSWERED),

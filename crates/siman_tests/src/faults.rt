@@ -19,7 +19,7 @@ fn is_told<D: Display + Drop>(alloc: Global, fault: D, text: &str) -> bool {
 }
 
 /// Whether each value displays as its text.
-fn are_told<D: Display + Copy + Drop>(alloc: Global, rows: &[(D, &str)]) -> bool {
+fn are_displayed<D: Display + Copy + Drop>(alloc: Global, rows: &[(D, &str)]) -> bool {
     for (fault, text) in rows {
         if !is_told(alloc, *fault, *text) {
             return false;
@@ -29,7 +29,7 @@ fn are_told<D: Display + Copy + Drop>(alloc: Global, rows: &[(D, &str)]) -> bool
 }
 
 #[test]
-fn faults_of_writers_are_told_by_name(rt: HostRuntime) {
+fn faults_of_writers_have_names(rt: HostRuntime) {
     let alloc = rt.alloc();
     let recordings = [
         (WriterFault::Write, "write"),
@@ -46,12 +46,16 @@ fn faults_of_writers_are_told_by_name(rt: HostRuntime) {
         (EncodeFault::TooLong, "too long"),
         (EncodeFault::Memory, "memory"),
     ];
-    assert!(rt; are_told(alloc, &recordings) && are_told(alloc, &logs) && are_told(alloc, &pdus));
+    assert!(rt;
+        are_displayed(alloc, &recordings)
+            && are_displayed(alloc, &logs)
+            && are_displayed(alloc, &pdus)
+    );
     assert!(rt; is_told(alloc, CertificateWriterFault::Write, "write"));
 }
 
 #[test]
-fn faults_of_datums_stations_and_managers_are_told_by_name(rt: HostRuntime) {
+fn faults_of_datums_stations_and_managers_have_names(rt: HostRuntime) {
     let alloc = rt.alloc();
     let stations = [
         (AppFault::Memory, "memory"),
@@ -62,7 +66,7 @@ fn faults_of_datums_stations_and_managers_are_told_by_name(rt: HostRuntime) {
         (OrderFault::TooLong, "too-long"),
         (OrderFault::Memory, "memory"),
     ];
-    assert!(rt; are_told(alloc, &stations) && are_told(alloc, &managers));
+    assert!(rt; are_displayed(alloc, &stations) && are_displayed(alloc, &managers));
     assert!(rt; is_told(alloc, DatumFault::WrongSize(Vec::new(alloc)), "wrong size"));
     assert!(rt;
         is_told(

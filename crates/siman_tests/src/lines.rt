@@ -6,11 +6,11 @@ mod values;
 use self::examples::*;
 use self::values::*;
 use dis_records::Address;
-use siman_print::{Field, Line, Spelling, Value, put_line};
+use siman_print::{Field, PrintedRow, Spelling, Value, put_line};
 use std::alloc::Global;
 
 /// Whether a row has this text and this JSON, each without its line end.
-fn is_told(alloc: Global, line: &Line<'_>, text: &str, json: &str) -> bool {
+fn is_told(alloc: Global, line: &PrintedRow<'_>, text: &str, json: &str) -> bool {
     for (spelling, wanted) in [(Spelling::Text, text), (Spelling::Json, json)] {
         let mut spelled = String::new(alloc);
         let is_put = put_line(&mut spelled, spelling, line).is_ok();
@@ -23,15 +23,21 @@ fn is_told(alloc: Global, line: &Line<'_>, text: &str, json: &str) -> bool {
 
 #[test]
 fn values_have_two_spellings(rt: HostRuntime) {
-    let (values, shapes) = (Line::named("line", &VALUES), Line::named("line", &SHAPES));
+    let (values, shapes) = (
+        PrintedRow::named("line", &VALUES),
+        PrintedRow::named("line", &SHAPES),
+    );
     assert!(rt; is_told(rt.alloc(), &values, VALUES_TEXT, VALUES_JSON));
     assert!(rt; is_told(rt.alloc(), &shapes, SHAPES_TEXT, SHAPES_JSON));
 }
 
 #[test]
 fn lines_have_two_spellings(rt: HostRuntime) {
-    let (life, datum) = (Line::named("state", &LIFE), Line::named("variable", &DATUM));
-    let entry = Line {
+    let (life, datum) = (
+        PrintedRow::named("state", &LIFE),
+        PrintedRow::named("variable", &DATUM),
+    );
+    let entry = PrintedRow {
         name: "entry",
         opening: Some(Field::Bare("entry", Value::Number(0))),
         fields: &ENTRY,
@@ -52,7 +58,7 @@ fn addresses_have_two_spellings(rt: HostRuntime) {
     assert!(rt;
         is_told(
             rt.alloc(),
-            &Line::named("order", &order),
+            &PrintedRow::named("order", &order),
             ORDER_TEXT,
             ORDER_JSON
         )
@@ -67,6 +73,6 @@ fn addresses_have_two_spellings(rt: HostRuntime) {
     ];
     for (ring, text, json) in rows {
         let fields = [Field::Bare("ring", Value::Ring(ring))];
-        assert!(rt; is_told(rt.alloc(), &Line::named("cycle", &fields), text, json));
+        assert!(rt; is_told(rt.alloc(), &PrintedRow::named("cycle", &fields), text, json));
     }
 }

@@ -59,7 +59,7 @@ fn roles_and_request_identifiers(rt: HostRuntime) {
 
 /// The target of Remove Entity 1; origin, target, flag and request identifier of an Acknowledge;
 /// and whether that Acknowledge answers the order.
-type Answer = (Id, Id, Id, u8, u8, bool);
+type AcknowledgeRow = (Id, Id, Id, u8, u8, bool);
 
 #[test]
 fn an_answer_fits_its_request(rt: HostRuntime) {
@@ -67,7 +67,7 @@ fn an_answer_fits_its_request(rt: HostRuntime) {
     let other_entity = [0, 2, 0, 3, 0, 8];
     let other_manager = [0, 2, 0, 1, 0, 0];
     let everybody = [0xFF; 6];
-    let rows: [Answer; 7] = [
+    let rows: [AcknowledgeRow; 7] = [
         (ENTITY, ENTITY, MANAGER, 2, 1, true),
         (ENTITY, ENTITY, MANAGER, 3, 1, false),
         (ENTITY, ENTITY, MANAGER, 2, 2, false),

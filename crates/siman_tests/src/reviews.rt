@@ -11,10 +11,10 @@ use std::alloc::Global;
 
 /// An order at a station: its first entry, the station's index, the number of its sends, the entry
 /// of its change there, and its fate.
-type Row = (usize, u16, usize, Option<usize>, Fate);
+type FateRow = (usize, u16, usize, Option<usize>, Fate);
 
 /// All orders at all of their parties, by rising entries.
-static ROWS: [Row; 8] = [
+static ROWS: [FateRow; 8] = [
     (0, 1, 1, Some(2), Fate::Done),
     (4, 2, 2, Some(7), Fate::Done),
     (9, 1, 1, Some(12), Fate::Done),
@@ -29,9 +29,9 @@ static ROWS: [Row; 8] = [
 /// station.
 fn is_as_in<L: ExerciseLog>(
     findings: &Register<'_, L>,
-    order: &Order<'_>,
+    order: &RecordedOrder<'_>,
     station: u16,
-    row: Option<&Row>,
+    row: Option<&FateRow>,
 ) -> bool {
     match row {
         Some(&(_, _, sends, change, fate)) => {
@@ -70,7 +70,7 @@ fn are_at<L: ExerciseLog>(
     parties.len() == wanted.len()
         && parties.iter().zip(wanted.iter()).all(|(party, &(site, application))| party.address(
             register,
-        ) == Outsider { site, application })
+        ) == SiteApplication { site, application })
 }
 
 /// Whether outcomes are those at exactly these parties, in order.

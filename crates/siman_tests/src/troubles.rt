@@ -6,7 +6,7 @@ ghost use Rattle.siman_operator.specs.declared.reading.TheConstants.{LONGEST_LIN
 
 use dis_records::Address;
 use siman_lines::{LineCall, LineTrouble, MemoryLine, put_line_trouble};
-use siman_operator::{LONGEST_LINE, record_session, set_up, stand};
+use siman_operator::{LONGEST_LINE, attach_station, record_session, set_up};
 use siman_scripts::read_script;
 use siman_trials::{Calls, WELL, read_from, write_to};
 use std::alloc::{AllocError, Global};
@@ -72,7 +72,7 @@ fn is_told(alloc: Global, trouble: LineTrouble, text: &[u8]) -> bool {
 }
 
 #[test]
-fn calls_that_failed_are_told(rt: HostRuntime) {
+fn failed_calls_are_printed(rt: HostRuntime) {
     let address = SocketAddrV4::new(Ipv4Addr::new(10, 0, 255, 2), 3000);
     for (call, has_peer, kind, text) in TROUBLES {
         let peer = if has_peer { Some(address) } else { None };
@@ -111,12 +111,12 @@ fn room_of(alloc: Global) -> Result<Vec<u8>, AllocError>
 }
 
 /// The faults that a session of these lines writes by a writer with such calls.
-fn told_by(alloc: Global, calls: Calls) -> Option<Vec<u8>> {
+fn reported_by(alloc: Global, calls: Calls) -> Option<Vec<u8>> {
     let address = Address::new(1, 1)?;
     let script = read_script(alloc, SCRIPT.as_bytes()).ok()?;
     let station = set_up(alloc, script, address).ok()?;
     let line = MemoryLine::new(alloc, Vec::new(alloc), None);
-    let ready = stand(alloc, station, address, line).ok()?;
+    let ready = attach_station(alloc, station, address, line).ok()?;
     let Ok(mut room) = room_of(alloc) else {
         drop(ready);
         return None;
@@ -140,7 +140,7 @@ fn told_by(alloc: Global, calls: Calls) -> Option<Vec<u8>> {
 
 /// Whether a session writes exactly this by a writer with such calls.
 fn tells(alloc: Global, calls: Calls, told: &[u8]) -> bool {
-    match told_by(alloc, calls) {
+    match reported_by(alloc, calls) {
         Some(bytes) => bytes.as_slice() == told,
         None => false,
     }

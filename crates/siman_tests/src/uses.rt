@@ -58,14 +58,14 @@ pub use gap::must_be_filled;
 pub use line::{explain_what_they_wrote, leave_a_recording};
 pub use log::{grows_by_no_filter, is_read_by_programs, names_each_datum_once};
 pub use manager::sends_nothing_too_often;
-pub use order::{change_carried_out, fate_told, is_known_to_its_maker};
+pub use order::{change_carried_out, fate_at_party, is_known_to_its_maker};
 pub use part::may_be_blamed_alone;
 pub use picture::{has_a_row_for_each_step, points_no_arrow_upwards, shows_each_state};
 pub use pieces::{are_blamed_one_by_one, come_in_any_order, lose_no_entry, may_be_one};
 pub use post::{is_judged_alone, leaves_what_can_be_mended};
 pub use reason::{
-    is_always_given, is_given_for_each_line, is_given_for_each_typed_line, is_none_of_a_script,
-    is_told_of_every_other, points_at_its_word,
+    every_other_is_counted, is_always_given, is_given_for_each_line, is_given_for_each_typed_line,
+    is_none_of_a_script, points_at_its_word,
 };
 pub use report::{
     names_each_field_once, says_in_json_what_the_text_says, says_the_same_of_the_archive,

@@ -11,8 +11,8 @@ use Rattle.siman_lines.specs.declared.station_at_line.StationAtLine.{StationAtLi
 use Rattle.siman_lines.specs.AtLines.{Telling, AtLines, One}
 use Rattle.siman_lines.specs.Steps.{Each}
 use Rattle.siman_lines.proofs.Offered.{each_as, each_more}
-use Rattle.siman_trials.specs.declared.performed.Halt.{Halt}
-use Rattle.siman_trials.specs.declared.performed.Halt.TheVariants.{AtLine}
+use Rattle.siman_trials.specs.declared.performed.LinkMoveFault.{LinkMoveFault}
+use Rattle.siman_trials.specs.declared.performed.LinkMoveFault.TheVariants.{AtLine}
 use Rattle.siman_trials.specs.Moves.{ActsAt, ServesFour, IsMade, IsHalted, MakesAt, MovesEnd}
 
 -- what holds of a fault holds of what it was passed on as
@@ -80,7 +80,7 @@ move_made told moves ps p old mid new next made is =
     (record { step = p; there = slice_get-get_or moves (length ps) p next.0 ∙ ap Some (sym next.1); made = is }))
 
 -- a move was not made
-pub move_halted : {L : Type 0} (told : Telling L) (moves ps : List Move) (p : Move) (old mid new : AtLines L) (halt : Halt)
+pub move_halted : {L : Type 0} (told : Telling L) (moves ps : List Move) (p : Move) (old mid new : AtLines L) (halt : LinkMoveFault)
     → (length ps < length moves) × (p ≡ get_or moves (length ps) p) → Each (MakesAt told moves) (length ps) old mid → IsHalted told p halt mid new
     → MovesEnd told moves old new (Err halt)
 move_halted told moves ps p old mid new halt next made is = record {

@@ -13,13 +13,13 @@ use Rattle.siman_stations.specs.declared.turn.Node.{Node}
 use Rattle.siman_stations.specs.declared.world_fault.WorldFault.TheVariants as worlds
 use Rattle.siman_stations.specs.Holds.{AreNewNodes}
 use Rattle.siman_stations.specs.World.{WorldData, setting_of, are_world_stations}
-use Rattle.siman_trials.specs.declared.performed.Halt.{Halt}
+use Rattle.siman_trials.specs.declared.performed.LinkMoveFault.{LinkMoveFault}
 use Rattle.siman_trials.specs.declared.recorded.ExerciseFault.{ExerciseFault}
 use Rattle.siman_trials.specs.declared.recorded.ExerciseFault.TheVariants as faults
 use Rattle.siman_trials.specs.Moves.{MovesEnd}
 
 -- The end of a recording, given the result of its moves: the end was written; or the end was refused and nothing more was written; or only a prefix of the end was written; or the moves failed and nothing more was written.
-abbrev pub EndsRecording : (moved : Result (Unit {0}) Halt) → (old new : WriterState) → (ended : Result (Unit {0}) ExerciseFault) → Type 0
+abbrev pub EndsRecording : (moved : Result (Unit {0}) LinkMoveFault) → (old new : WriterState) → (ended : Result (Unit {0}) ExerciseFault) → Type 0
 EndsRecording (Ok x) old new (Ok y) = (finish_refusal old ≡ None) × Finishes old new
 EndsRecording (Ok x) old new (Err (faults.Record fault)) =
     (finish_refusal old ≡ unless_write fault) × (IsSome (unless_write fault) → new ≡ old) × (fault ≡ writers.Write → Tears old new (end_text old.entries))
@@ -30,7 +30,7 @@ EndsRecording (Err halt) old new other = ⊥
 -- WHAT STATIONS DID over a recorder that was started: they made these moves, up to the first that failed, and the recording was ended.
 pub record Performs {L : Type 0} (told : Telling L) (moves : List Move) (old new : AtLines L) (ended : Result (Unit {0}) ExerciseFault) : Type 0 where
   pub mid : WriterState
-  pub moved : Result (Unit {0}) Halt
+  pub moved : Result (Unit {0}) LinkMoveFault
   pub made : let there : AtLines L = record { stations = new.stations; recorder = mid } in MovesEnd told moves old there moved
   pub end : EndsRecording moved mid new.recorder ended
 
@@ -54,8 +54,8 @@ abbrev pub Records : {L : Type 0} → Telling L → SettingData → List Move �
 Records told w moves posts old new ended = IsUnstarted w old new ended ⊎ IsPerformed told w moves posts old new ended
 
 -- STATIONS ARE ATTACHED TO THEIR LINKS, post i with node i, link i and station i, and record what they do. If there are not as many links as stations, or memory ran out, none is attached and nothing is written.
-abbrev pub StandsAndRecords : {L : Type 0} → Telling L → SettingData → List Node → List L → List Move → (old new : Option (List ℕ)) → (ended : Result (Unit {0}) ExerciseFault) → Type 0
-StandsAndRecords told w nodes lines moves old new ended =
+abbrev pub AttachesAndRecords : {L : Type 0} → Telling L → SettingData → List Node → List L → List Move → (old new : Option (List ℕ)) → (ended : Result (Unit {0}) ExerciseFault) → Type 0
+AttachesAndRecords told w nodes lines moves old new ended =
     ((ended ≡ Err (faults.Lines at_lines.Line)) × Misfits nodes lines × (new ≡ old)) ⊎ ((ended ≡ Err (faults.Lines at_lines.Memory)) × (new ≡ old))
     ⊎ ((length lines ≡ length nodes) × Records told w moves (posts_of nodes lines) old new ended)
 
@@ -65,4 +65,4 @@ ComesToEnd told w lines moves old new ended =
     ((ended ≡ Err (faults.World worlds.Stations)) × (are_world_stations w.stations ≡ false) × (new ≡ old))
     ⊎ ((ended ≡ Err (faults.World worlds.Memory)) × (new ≡ old))
     ⊎ ((are_world_stations w.stations ≡ true)
-    × ((nodes : List Node) × AreNewNodes w.exercise w.stations nodes × StandsAndRecords told (setting_of w) nodes lines moves old new ended))
+    × ((nodes : List Node) × AreNewNodes w.exercise w.stations nodes × AttachesAndRecords told (setting_of w) nodes lines moves old new ended))

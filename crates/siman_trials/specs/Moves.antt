@@ -8,8 +8,8 @@ use Rattle.siman_lines.specs.declared.fault.AtLineFault.{AtLineFault}
 use Rattle.siman_lines.specs.declared.station_at_line.StationAtLine.{StationAtLine}
 use Rattle.siman_lines.specs.AtLines.{Telling, AtLines, KeepsCounts, LeavesRefused, OrdersAt, RepeatsAt, TellsAt, One, RoundsEnd}
 use Rattle.siman_lines.specs.Steps.{Each, Stops}
-use Rattle.siman_trials.specs.declared.performed.Halt.{Halt}
-use Rattle.siman_trials.specs.declared.performed.Halt.TheVariants.{NoSuchStation, AtLine}
+use Rattle.siman_trials.specs.declared.performed.LinkMoveFault.{LinkMoveFault}
+use Rattle.siman_trials.specs.declared.performed.LinkMoveFault.TheVariants.{NoSuchStation, AtLine}
 
 -- EFFECT OF AN ACT of a station at its link, before and after, with its recorder: it issues the order, sends the repeat that is due, or records the state; a delivery does nothing. An order and a repeat leave the counts of what was left out as they were; where the station refuses an order or a state, all else is as it was too.
 abbrev pub ActsAt : {L : Type 0} → Telling L → (now : ℕ) → Act → (done : Result (Unit {0}) AtLineFault) → (p : StationAtLine L) → (w : WriterState)
@@ -36,13 +36,13 @@ pub record IsUnserved {L : Type 0} (told : Telling L) (step : Move) (fault : AtL
   pub serves : ServesFour told step.now mid new (Err fault)
 
 -- A MOVE IS NOT MADE: there is no such station, and nothing is done; or its station or the serving of the stations failed, with the fault that is returned.
-abbrev pub IsHalted : {L : Type 0} → Telling L → Move → Halt → AtLines L → AtLines L → Type 0
+abbrev pub IsHalted : {L : Type 0} → Telling L → Move → LinkMoveFault → AtLines L → AtLines L → Type 0
 IsHalted told step NoSuchStation old new = (slice_get old.stations step.station ≡ None) × (new ≡ old)
 IsHalted told step (AtLine fault) old new =
     One (ActsAt told step.now step.act (Err fault)) step.station old new ⊎ IsUnserved told step fault old new
 
 -- RESULT OF A MOVE.
-abbrev pub MoveEnds : {L : Type 0} → Telling L → Move → AtLines L → AtLines L → Result (Unit {0}) Halt → Type 0
+abbrev pub MoveEnds : {L : Type 0} → Telling L → Move → AtLines L → AtLines L → Result (Unit {0}) LinkMoveFault → Type 0
 MoveEnds told step old new (Ok x) = IsMade told step old new
 MoveEnds told step old new (Err halt) = IsHalted told step halt old new
 
@@ -53,12 +53,12 @@ pub record MakesAt {L : Type 0} (told : Telling L) (moves : List Move) (number :
   pub made : IsMade told step old new
 
 -- The move with this number, from 0, is not made, for this reason.
-pub record HaltsAt {L : Type 0} (told : Telling L) (moves : List Move) (halt : Halt) (number : ℕ) (old new : AtLines L) : Type 0 where
+pub record HaltsAt {L : Type 0} (told : Telling L) (moves : List Move) (halt : LinkMoveFault) (number : ℕ) (old new : AtLines L) : Type 0 where
   pub step : Move
   pub there : slice_get moves number ≡ Some step
   pub halted : IsHalted told step halt old new
 
 -- RESULT OF MOVES: all are made, in order; or those before one are, and the reason why that one is not is returned.
-abbrev pub MovesEnd : {L : Type 0} → Telling L → List Move → AtLines L → AtLines L → Result (Unit {0}) Halt → Type 0
+abbrev pub MovesEnd : {L : Type 0} → Telling L → List Move → AtLines L → AtLines L → Result (Unit {0}) LinkMoveFault → Type 0
 MovesEnd told moves old new (Ok x) = Each (MakesAt told moves) (length moves) old new
 MovesEnd told moves old new (Err halt) = Stops (MakesAt told moves) (HaltsAt told moves halt) (length moves) old new

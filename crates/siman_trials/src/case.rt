@@ -2,7 +2,7 @@
 
 use crate::calls::{Calls, WELL};
 use crate::file::{File, Stream, empty};
-use crate::lines::{Asked, Line, Part, Says, read_line};
+use crate::lines::{Asked, CaseLine, CasePart, Says, read_line};
 use std::alloc::{AllocError, Global};
 use std::io::{ErrorKind, Write};
 use std::{io, mem};
@@ -65,7 +65,7 @@ pub struct Case {
     /// Whether the case runs again once for each byte of `left`, with the write of that byte
     /// failing.
     pub each_byte: bool,
-    part: Part,
+    part: CasePart,
 }
 
 // Not derived: who drops it makes one call, and does not take it apart by himself.
@@ -134,7 +134,7 @@ pub fn begin_case(alloc: Global, name: String, files: Vec<File>) -> Case {
         sent: empty(alloc),
         each_call: 0,
         each_byte: false,
-        part: Part::Out,
+        part: CasePart::Out,
     }
 }
 
@@ -149,7 +149,7 @@ fn put_times(out: &mut Vec<u8>, times: u64, text: &str, end: &str) -> Result<(),
 
 /// Appends the text of `line` and a line end for each number from its first to its last, with the
 /// number in place of each `%`.
-fn put_each(out: &mut Vec<u8>, line: Line<'_>) -> io::Result<()> {
+fn put_each(out: &mut Vec<u8>, line: CaseLine<'_>) -> io::Result<()> {
     for number in line.first..=line.last {
         for byte in line.text.as_bytes() {
             if *byte == b'%' {
@@ -180,7 +180,7 @@ fn put_hex(out: &mut Vec<u8>, text: &str) -> io::Result<bool> {
 }
 
 /// The limits and the failure that a `calls` line sets; `None` if it names no kind of failure.
-fn calls_of(line: Line<'_>) -> Option<Calls> {
+fn calls_of(line: CaseLine<'_>) -> Option<Calls> {
     let kind = match line.text {
         "other" => Some(ErrorKind::Other),
         "interrupted" => Some(ErrorKind::Interrupted),
@@ -206,27 +206,30 @@ impl Case {
     /// The bytes that the following lines fill.
     fn filled(&mut self) -> Option<&mut Stream> {
         match self.part {
-            Part::Word => self.words.last_mut(),
-            Part::File => match self.files.last_mut() {
+            CasePart::Word => self.words.last_mut(),
+            CasePart::File => match self.files.last_mut() {
                 Some(file) => Some(&mut file.stream),
                 None => None,
             },
-            Part::Input => Some(&mut self.input),
-            Part::Out => Some(&mut self.out),
-            Part::Errors => Some(&mut self.errors),
-            Part::Reason => Some(&mut self.reason),
-            Part::Behind => Some(&mut self.behind),
-            Part::Left | Part::Discarded => Some(&mut self.left),
-            Part::Coming => self.coming.last_mut(),
-            Part::Sent => Some(&mut self.sent),
+            CasePart::Input => Some(&mut self.input),
+            CasePart::Out => Some(&mut self.out),
+            CasePart::Errors => Some(&mut self.errors),
+            CasePart::Reason => Some(&mut self.reason),
+            CasePart::Behind => Some(&mut self.behind),
+            CasePart::Left | CasePart::Discarded => Some(&mut self.left),
+            CasePart::Coming => self.coming.last_mut(),
+            CasePart::Sent => Some(&mut self.sent),
         }
     }
 
     /// Takes a line that fills bytes. Returns false if the line is invalid here.
-    fn fill(&mut self, line: Line<'_>) -> io::Result<bool> {
+    fn fill(&mut self, line: CaseLine<'_>) -> io::Result<bool> {
         // Words and datagrams are no streams that calls read or write: `calls` is invalid for them.
         if matches!(line.says, Says::Calls)
-            && matches!(self.part, Part::Word | Part::Coming | Part::Sent)
+            && matches!(
+                self.part,
+                CasePart::Word | CasePart::Coming | CasePart::Sent
+            )
         {
             return Ok(false);
         }
@@ -259,7 +262,7 @@ impl Case {
     }
 
     fn add_file(&mut self, name: &str, shut: Option<ErrorKind>) -> Result<(), AllocError> {
-        self.part = Part::File;
+        self.part = CasePart::File;
         self.files.push(File {
             name: String::from_str(self.alloc, name)?,
             stream: empty(self.alloc),
@@ -290,21 +293,21 @@ impl Case {
         Ok(())
     }
 
-    fn begin(&mut self, part: Part) -> Result<(), AllocError> {
+    fn begin(&mut self, part: CasePart) -> Result<(), AllocError> {
         self.part = part;
         match part {
-            Part::Word => self.words.push(empty(self.alloc))?,
-            Part::Coming => self.coming.push(empty(self.alloc))?,
-            Part::Left => self.is_left = true,
-            Part::Discarded => self.is_discarded = true,
-            Part::Reason => self.is_reason = true,
+            CasePart::Word => self.words.push(empty(self.alloc))?,
+            CasePart::Coming => self.coming.push(empty(self.alloc))?,
+            CasePart::Left => self.is_left = true,
+            CasePart::Discarded => self.is_discarded = true,
+            CasePart::Reason => self.is_reason = true,
             _ => {}
         }
         Ok(())
     }
 
     /// Takes a line that sets one value.
-    fn set(&mut self, line: Line<'_>) {
+    fn set(&mut self, line: CaseLine<'_>) {
         match line.says {
             Says::Unread(kind) => self.unread = Some(kind),
             Says::Status => self.status = line.last,
@@ -319,7 +322,7 @@ impl Case {
     }
 
     /// Takes a line that adds an item to the case, or begins the next case.
-    fn enter(&mut self, line: Line<'_>) -> Result<(), AllocError> {
+    fn enter(&mut self, line: CaseLine<'_>) -> Result<(), AllocError> {
         match line.says {
             Says::Case => self.next(line.text),
             Says::Words => self.add_words(line.text),

@@ -4,7 +4,7 @@ use std::io::ErrorKind;
 
 /// The part of a case that the following lines fill.
 #[derive(Clone, Copy)]
-pub(crate) enum Part {
+pub(crate) enum CasePart {
     Word,
     File,
     Input,
@@ -44,7 +44,7 @@ pub(crate) enum Says {
     Words,
     Unread(ErrorKind),
     File(Option<ErrorKind>),
-    Begin(Part),
+    Begin(CasePart),
     Text,
     Piece,
     Times,
@@ -67,7 +67,7 @@ pub(crate) enum Says {
 /// A parsed line: the meaning of its word, the first and the last number behind the word, and the
 /// text behind the numbers.
 #[derive(Clone, Copy)]
-pub(crate) struct Line<'a> {
+pub(crate) struct CaseLine<'a> {
     pub(crate) says: Says,
     pub(crate) first: u64,
     pub(crate) last: u64,
@@ -100,16 +100,16 @@ static WORDS: [(&str, Says, usize, bool); 42] = [
     ("folder", Says::File(Some(ErrorKind::IsADirectory)), 0, true),
     ("odd", Says::File(Some(ErrorKind::NotADirectory)), 0, true),
     ("full", Says::File(Some(ErrorKind::OutOfMemory)), 0, true),
-    ("word", Says::Begin(Part::Word), 0, false),
-    ("input", Says::Begin(Part::Input), 0, false),
-    ("out", Says::Begin(Part::Out), 0, false),
-    ("errors", Says::Begin(Part::Errors), 0, false),
-    ("reason", Says::Begin(Part::Reason), 0, false),
-    ("behind", Says::Begin(Part::Behind), 0, false),
-    ("left", Says::Begin(Part::Left), 0, false),
-    ("discarded", Says::Begin(Part::Discarded), 0, false),
-    ("comes", Says::Begin(Part::Coming), 0, false),
-    ("sent", Says::Begin(Part::Sent), 0, false),
+    ("word", Says::Begin(CasePart::Word), 0, false),
+    ("input", Says::Begin(CasePart::Input), 0, false),
+    ("out", Says::Begin(CasePart::Out), 0, false),
+    ("errors", Says::Begin(CasePart::Errors), 0, false),
+    ("reason", Says::Begin(CasePart::Reason), 0, false),
+    ("behind", Says::Begin(CasePart::Behind), 0, false),
+    ("left", Says::Begin(CasePart::Left), 0, false),
+    ("discarded", Says::Begin(CasePart::Discarded), 0, false),
+    ("comes", Says::Begin(CasePart::Coming), 0, false),
+    ("sent", Says::Begin(CasePart::Sent), 0, false),
     ("text", Says::Text, 0, true),
     ("piece", Says::Piece, 0, true),
     ("times", Says::Times, 1, true),
@@ -157,7 +157,12 @@ fn largest(says: Says) -> u64 {
 
 /// The line of a word, with `numbers` numbers before its text. `None` if a number is missing or too
 /// large, or if there is a text where none is allowed.
-fn with_numbers<'a>(says: Says, numbers: usize, has_text: bool, text: &'a str) -> Option<Line<'a>> {
+fn with_numbers<'a>(
+    says: Says,
+    numbers: usize,
+    has_text: bool,
+    text: &'a str,
+) -> Option<CaseLine<'a>> {
     let (mut first, mut last, mut text) = (0, 0, text);
     for place in 0..numbers {
         let (number, rest) = split(text);
@@ -173,7 +178,7 @@ fn with_numbers<'a>(says: Says, numbers: usize, has_text: bool, text: &'a str) -
     if last > largest(says) || (!has_text && !text.is_empty()) {
         return None;
     }
-    Some(Line {
+    Some(CaseLine {
         says,
         first,
         last,
@@ -182,7 +187,7 @@ fn with_numbers<'a>(says: Says, numbers: usize, has_text: bool, text: &'a str) -
 }
 
 /// The parsed line; `None` if its word is unknown or what follows it is invalid.
-pub(crate) fn read_line(line: &str) -> Option<Line<'_>> {
+pub(crate) fn read_line(line: &str) -> Option<CaseLine<'_>> {
     let (word, text) = split(line);
     for (known, says, numbers, has_text) in &WORDS {
         if *known == word {

@@ -9,7 +9,7 @@ ghost use Rattle.siman_trials.specs.declared.wire.WireLine.{WireLine};
 ghost use Rattle.siman_trials.specs.Ended.{ComesToEnd};
 ghost use Rattle.siman_trials.specs.Recorded.{Leaves};
 
-use crate::recorded::{ExerciseFault, Recorded, record_exercise};
+use crate::recorded::{ExerciseFault, TrialRecording, record_exercise};
 use crate::wire::lines_of;
 use siman_lines::AtLineFault;
 use siman_scripts::{Move, WorldStation};
@@ -27,7 +27,7 @@ pub fn record_on_network<W: Write + Drop>(
     moves: Vec<Move>,
     fails_at: Option<u64>,
     file: W,
-) -> Recorded<W>
+) -> TrialRecording<W>
     ensures comes { let w : WorldData = record { exercise = exercise; stations = stations.items } in
         let told : Telling WireLine = record { received = λ l. None; sent = λ l. None; failures = λ l. length l.failures.items; strangers = λ l. 0 } in
         ((result.ended ≡ Err (Lines at_lines.Memory)) × (W.contents result.file ≡ W.contents file)) ⊎ ((lines : List WireLine) × (length lines ≡ length stations.items) × ComesToEnd told w lines moves.items (W.contents file) (W.contents result.file) result.ended) }
@@ -36,7 +36,7 @@ pub fn record_on_network<W: Write + Drop>(
 {
     match lines_of(alloc, stations.len(), fails_at) {
         Ok(lines) => record_exercise(alloc, exercise, stations, lines, moves, file),
-        Err(_) => Recorded {
+        Err(_) => TrialRecording {
             ended: Err(ExerciseFault::Lines(AtLineFault::Memory)),
             file,
         },

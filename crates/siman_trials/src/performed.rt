@@ -19,21 +19,21 @@ const TURNS: u32 = 64;
 
 /// Why a move was not made, or why the stations were not served behind it.
 #[derive(Clone, Copy, Debug, PartialEq, Eq)]
-pub enum Halt {
+pub enum LinkMoveFault {
     /// No station has the index of the move.
     NoSuchStation,
     /// A station failed at its link.
     AtLine(AtLineFault),
 }
 
-impl From<AtLineFault> for Halt {
+impl From<AtLineFault> for LinkMoveFault {
     ghost use Rattle.std.specs.Prelude.{◌≡◌};
-    ghost use Rattle.siman_trials.specs.declared.performed.Halt.TheVariants.{AtLine};
+    ghost use Rattle.siman_trials.specs.declared.performed.LinkMoveFault.TheVariants.{AtLine};
 
     ghost from_gives = { λ fault halt. halt ≡ AtLine fault };
 
-    fn from(fault: AtLineFault) -> Halt {
-        Halt::AtLine(fault)
+    fn from(fault: AtLineFault) -> LinkMoveFault {
+        LinkMoveFault::AtLine(fault)
     }
 }
 
@@ -64,7 +64,7 @@ fn make_move<L: Line + Drop, W: Write>(
     stations: &mut Vec<StationAtLine<L>>,
     recorder: &mut RecordingWriter<'_, W>,
     step: Move,
-) -> Result<(), Halt>
+) -> Result<(), LinkMoveFault>
     ensures ends { let told : Telling L = record { received = L.received; sent = L.sent; failures = L.failures; strangers = L.strangers } in
         let old : AtLines L = record { stations = stations.old.items; recorder = recorder.old } in
         let new : AtLines L = record { stations = stations.new.items; recorder = recorder.new } in
@@ -77,7 +77,7 @@ fn make_move<L: Line + Drop, W: Write>(
     let Move { now, station, act } = step;
     let number = usize::from(station);
     if number >= stations.len() {
-        return Err(Halt::NoSuchStation);
+        return Err(LinkMoveFault::NoSuchStation);
     }
     act_at(alloc, &mut stations[number], recorder, now, act)?;
     serve_rounds(alloc, stations, recorder, now, ROUNDS, TURNS)?;
@@ -92,7 +92,7 @@ pub fn make_moves<L: Line + Drop, W: Write>(
     stations: &mut Vec<StationAtLine<L>>,
     recorder: &mut RecordingWriter<'_, W>,
     moves: Vec<Move>,
-) -> Result<(), Halt>
+) -> Result<(), LinkMoveFault>
     ensures ends { let told : Telling L = record { received = L.received; sent = L.sent; failures = L.failures; strangers = L.strangers } in
         let old : AtLines L = record { stations = stations.old.items; recorder = recorder.old } in
         let new : AtLines L = record { stations = stations.new.items; recorder = recorder.new } in

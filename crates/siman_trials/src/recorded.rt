@@ -8,14 +8,14 @@ ghost use Rattle.siman_lines.specs.AtLines.{Telling, AtLines, AreFresh};
 ghost use Rattle.siman_stations.specs.Holds.{AreNewNodes};
 ghost use Rattle.siman_stations.specs.World.{WorldData, setting_of};
 ghost use Rattle.siman_trials.specs.Recorded.{Leaves, AreUnused};
-ghost use Rattle.siman_trials.specs.Ended.{Performs, Records, StandsAndRecords, ComesToEnd};
+ghost use Rattle.siman_trials.specs.Ended.{Performs, Records, AttachesAndRecords, ComesToEnd};
 
-use crate::performed::{Halt, make_moves};
+use crate::performed::{LinkMoveFault, make_moves};
 use exercise_model::Recording;
 use exercise_recording::{RecordingWriter, WriterFault};
 use siman_lines::{AtLineFault, Line, StationAtLine, lines_make_a_run, stations_at_lines};
 use siman_scripts::{Move, WorldStation};
-use siman_stations::{Beginning, WorldFault, begin_world};
+use siman_stations::{InitialWorld, WorldFault, begin_world};
 use std::alloc::Global;
 use std::io::Write;
 
@@ -27,25 +27,25 @@ pub enum ExerciseFault {
     /// There are not as many links as stations, or memory ran out.
     Lines(AtLineFault),
     /// A move was not made, or the stations were not served behind it.
-    Move(Halt),
+    Move(LinkMoveFault),
     /// The head or the end of the recording was not written.
     Record(WriterFault),
 }
 
-impl From<Halt> for ExerciseFault {
+impl From<LinkMoveFault> for ExerciseFault {
     ghost use Rattle.std.specs.Prelude.{◌≡◌};
     ghost use Rattle.siman_trials.specs.declared.recorded.ExerciseFault.TheVariants as faults;
 
     ghost from_gives = { λ halt fault. fault ≡ faults.Move halt };
 
-    fn from(halt: Halt) -> ExerciseFault {
+    fn from(halt: LinkMoveFault) -> ExerciseFault {
         ExerciseFault::Move(halt)
     }
 }
 
 /// The recording of an exercise.
 #[derive(Drop)]
-pub struct Recorded<W: Drop> {
+pub struct TrialRecording<W: Drop> {
     /// Whether the recording is complete, or why not.
     pub ended: Result<(), ExerciseFault>,
     /// The file that was written.
@@ -83,7 +83,7 @@ fn record_at_lines<L: Line + Drop, W: Write + Drop>(
     stations: Vec<StationAtLine<L>>,
     moves: Vec<Move>,
     file: W,
-) -> Recorded<W>
+) -> TrialRecording<W>
     ensures records { let told : Telling L = record { received = L.received; sent = L.sent; failures = L.failures; strangers = L.strangers } in
         Records told head.now.setting moves.items stations.items (W.contents file) (W.contents result.file) result.ended }
     ensures leaves { let told : Telling L = record { received = L.received; sent = L.sent; failures = L.failures; strangers = L.strangers } in
@@ -100,7 +100,7 @@ fn record_at_lines<L: Line + Drop, W: Write + Drop>(
     let mut recorder = match begun {
         Ok(recorder) => recorder,
         Err(unstarted) => {
-            return Recorded {
+            return TrialRecording {
                 ended: Err(ExerciseFault::Record(unstarted.fault)),
                 file: unstarted.writer,
             };
@@ -109,26 +109,26 @@ fn record_at_lines<L: Line + Drop, W: Write + Drop>(
     let mut stations = stations;
     let ended = end_moves(alloc, &mut stations, &mut recorder, moves);
     let file = recorder.into_inner();
-    Recorded { ended, file }
+    TrialRecording { ended, file }
 }
 
 /// Attaches the stations of a world to their links, and records their moves.
 fn record_begun<L: Line + Drop, W: Write + Drop>(
     alloc: Global,
-    begun: Beginning,
+    begun: InitialWorld,
     lines: Vec<L>,
     moves: Vec<Move>,
     file: W,
-) -> Recorded<W>
+) -> TrialRecording<W>
     ensures comes { let told : Telling L = record { received = L.received; sent = L.sent; failures = L.failures; strangers = L.strangers } in
-        StandsAndRecords told begun.recording.setting begun.nodes.items lines.items moves.items (W.contents file) (W.contents result.file) result.ended }
+        AttachesAndRecords told begun.recording.setting begun.nodes.items lines.items moves.items (W.contents file) (W.contents result.file) result.ended }
     ensures leaves { (w : WorldData) → begun.recording ≡ opened (setting_of w) → AreNewNodes w.exercise w.stations begun.nodes.items → AreUnused L.sent lines.items
         → Leaves (setting_of w) (W.contents file) (W.contents result.file) result.ended }
 {
-    let Beginning { recording, nodes } = begun;
+    let InitialWorld { recording, nodes } = begun;
     match stations_at_lines(alloc, nodes, lines) {
         Ok(stations) => record_at_lines(alloc, &recording, stations, moves, file),
-        Err(fault) => Recorded {
+        Err(fault) => TrialRecording {
             ended: Err(ExerciseFault::Lines(fault)),
             file,
         },
@@ -156,7 +156,7 @@ pub fn record_exercise<L: Line + Drop, W: Write + Drop>(
     lines: Vec<L>,
     moves: Vec<Move>,
     file: W,
-) -> Recorded<W>
+) -> TrialRecording<W>
     requires unused { AreUnused L.sent lines.items }
     ensures comes { let told : Telling L = record { received = L.received; sent = L.sent; failures = L.failures; strangers = L.strangers } in
         let w : WorldData = record { exercise = exercise; stations = stations.items } in
@@ -166,7 +166,7 @@ pub fn record_exercise<L: Line + Drop, W: Write + Drop>(
 {
     match begin_world(alloc, exercise, stations) {
         Ok(begun) => record_begun(alloc, begun, lines, moves, file),
-        Err(fault) => Recorded {
+        Err(fault) => TrialRecording {
             ended: Err(ExerciseFault::World(fault)),
             file,
         },

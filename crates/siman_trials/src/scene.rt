@@ -11,28 +11,30 @@ pub const ENTITIES: u8 = 4;
 
 /// One event of a scene, at the station with this index.
 #[derive(Clone, Copy)]
-pub enum Deed {
+pub enum RandomEvent {
     Sends(usize, Letter),
     Gets(usize, Letter),
     Tells(usize, u8, EntityState),
 }
 
 /// The station of an event.
-pub fn station_of(deed: Deed) -> usize {
+pub fn station_of(deed: RandomEvent) -> usize {
     match deed {
-        Deed::Sends(station, _) | Deed::Gets(station, _) | Deed::Tells(station, _, _) => station,
+        RandomEvent::Sends(station, _)
+        | RandomEvent::Gets(station, _)
+        | RandomEvent::Tells(station, _, _) => station,
     }
 }
 
 /// A scene: its events so far, and the state that they led to.
 #[derive(Drop)]
-pub struct Scene {
+pub struct RandomExercise {
     pub random: Random,
     pub stations: usize,
     is_wild: bool,
     /// Whether an allocation failed, so that part of the scene is missing.
     pub is_short: bool,
-    pub deeds: Vec<Deed>,
+    pub deeds: Vec<RandomEvent>,
     sent: Vec<Letter>,
     got: Vec<Letter>,
     /// The state of entities 0 to 7 of each station; [`place_of`] is the index.
@@ -65,7 +67,7 @@ fn recent(random: &mut Random, letters: &[Letter]) -> Option<Letter> {
 }
 
 /// An empty scene with 2 to 4 stations, wild or not at random.
-pub fn begin(alloc: Global, mut random: Random) -> Scene {
+pub fn begin(alloc: Global, mut random: Random) -> RandomExercise {
     let stations = random.below(3).saturating_add(2);
     let is_wild = random.one_in(2);
     let mut states = [EntityState::Absent; 32];
@@ -77,7 +79,7 @@ pub fn begin(alloc: Global, mut random: Random) -> Scene {
             _ => EntityState::Absent,
         };
     }
-    Scene {
+    RandomExercise {
         random,
         stations,
         is_wild,
@@ -90,9 +92,9 @@ pub fn begin(alloc: Global, mut random: Random) -> Scene {
     }
 }
 
-impl Scene {
+impl RandomExercise {
     /// Appends an event.
-    fn add(&mut self, deed: Deed) {
+    fn add(&mut self, deed: RandomEvent) {
         if self.deeds.push(deed).is_err() {
             self.is_short = true;
         }
@@ -103,7 +105,7 @@ impl Scene {
         if self.sent.push(letter).is_err() {
             self.is_short = true;
         }
-        self.add(Deed::Sends(station, letter));
+        self.add(RandomEvent::Sends(station, letter));
     }
 
     /// Records that the addressed station receives a letter. If there is no such station, a station
@@ -115,7 +117,7 @@ impl Scene {
         if (letter.kind <= 14 || letter.kind == 16) && self.got.push(letter).is_err() {
             self.is_short = true;
         }
-        self.add(Deed::Gets(letter.to, letter));
+        self.add(RandomEvent::Gets(letter.to, letter));
     }
 
     /// A letter of this PDU type between two different stations, with the next request number.
@@ -259,7 +261,7 @@ impl Scene {
                 _ => EntityState::Running,
             }
         };
-        self.add(Deed::Tells(station, entity, state));
+        self.add(RandomEvent::Tells(station, entity, state));
     }
 
     /// A station sends an answer in which one field may be wrong.

@@ -11,7 +11,7 @@ use std::fmt::Display;
 use std::io::Write;
 use std::vec::IntoIter;
 
-fn tell_served(told: &mut String, served: Result<Served, ServeFault>) -> Result<(), AllocError> {
+fn put_served(told: &mut String, served: Result<Served, ServeFault>) -> Result<(), AllocError> {
     match served {
         Ok(
             Served {
@@ -40,7 +40,7 @@ fn tell<T: Display + Drop>(
     }
 }
 
-fn tell_order(told: &mut String, status: Option<OrderStatus>) -> Result<(), AllocError> {
+fn put_order_status(told: &mut String, status: Option<OrderStatus>) -> Result<(), AllocError> {
     match status {
         None => told.push_str("order: none\n"),
         Some(OrderStatus::Waiting(sends)) => writeln!(told, "order: waiting, sent {sends}"),
@@ -49,7 +49,7 @@ fn tell_order(told: &mut String, status: Option<OrderStatus>) -> Result<(), Allo
     }
 }
 
-fn tell_datum(told: &mut String, value: Option<u32>) -> Result<(), AllocError> {
+fn put_datum(told: &mut String, value: Option<u32>) -> Result<(), AllocError> {
     match value {
         None => told.push_str("datum: none\n"),
         Some(value) => writeln!(told, "datum: {value}"),
@@ -98,7 +98,7 @@ pub fn make_call<W: Write>(
     } = call;
     let (id, entity) = (now.min(0xFFFF_FFFF) as u32, now.min(0xFFFF) as u16);
     match asked {
-        Asked::Serve => tell_served(
+        Asked::Serve => put_served(
             told,
             serve(
                 alloc,
@@ -116,9 +116,9 @@ pub fn make_call<W: Write>(
             "nudge",
             nudge(alloc, line, node, recorder, station, now),
         ),
-        Asked::Order => tell_order(told, node.manager.status(id)),
+        Asked::Order => put_order_status(told, node.manager.status(id)),
         Asked::Entity => writeln!(told, "entity: {}", node.application.state(entity)),
-        Asked::Datum => tell_datum(told, node.application.datum(id)),
+        Asked::Datum => put_datum(told, node.application.datum(id)),
         Asked::GivenUp => writeln!(told, "given up: {}", node.manager.given_up()),
     }
 }

@@ -1,11 +1,11 @@
 //! Runs the calls of a station at its link, and compares the results with the case.
 
 use crate::station_call::make_call;
-use crate::{Calls, Case, Entries, Stream, WELL, Written, entries_of, found, write_to};
+use crate::{Calls, Case, Stream, TextEntries, WELL, Written, entries_of, found, write_to};
 use exercise_recording::RecordingWriter;
 use siman_lines::MemoryLine;
 use siman_scripts::{Move, Script, read_script};
-use siman_stations::{Beginning, Node, begin_world};
+use siman_stations::{InitialWorld, Node, begin_world};
 use std::alloc::{AllocError, Global};
 use std::io;
 use std::io::{ErrorKind, Write};
@@ -62,7 +62,7 @@ fn record_calls(
     alloc: Global,
     case: &Case,
     station: u16,
-    begun: &mut Beginning,
+    begun: &mut InitialWorld,
     moves: &mut IntoIter<Move, Global>,
     left: &mut Left,
 ) -> io::Result<()> {
@@ -126,12 +126,12 @@ pub fn sent_text(alloc: Global, sent: &[Vec<u8>]) -> Result<String, AllocError> 
 
 /// Writes the answers, then the number of datagrams on the link, whether each of them is in a sent
 /// entry of its own, and the number of whole entries.
-fn tell_left(
+fn put_left(
     told: &mut String,
     answers: &str,
     station: u16,
     sent: &[Vec<u8>],
-    written: Entries<'_>,
+    written: TextEntries<'_>,
 ) -> Result<(), AllocError> {
     told.push_str(answers)?;
     let (count, whole) = (sent.len(), written.count());
@@ -150,14 +150,14 @@ fn fail_each_call(alloc: Global, case: &Case, station: u16, told: &mut String) -
         writeln!(told, "call {number} fails")?;
         let left = run_at_line(alloc, case, station, Some(number), WELL)?;
         let written = entries_of(&left.file.bytes);
-        tell_left(told, &left.told, station, left.line.sent(), written)?;
+        put_left(told, &left.told, station, left.line.sent(), written)?;
     }
     Ok(())
 }
 
 /// Whether the results are right if this byte, from 0, is the first that can't be written: the
 /// bytes before it are in the file, and the datagrams on the link are those of its whole entries.
-fn stands_before(alloc: Global, case: &Case, station: u16, byte: usize) -> io::Result<bool> {
+fn is_right_before(alloc: Global, case: &Case, station: u16, byte: usize) -> io::Result<bool> {
     let calls = Calls {
         most: 1,
         fails_at: (byte as u64).saturating_add(1),
@@ -180,7 +180,7 @@ fn fail_each_byte(alloc: Global, case: &Case, station: u16, told: &mut String) -
     }
     let (mut stands, bytes) = (0usize, case.left.bytes.len());
     for byte in 0..bytes {
-        if stands_before(alloc, case, station, byte)? {
+        if is_right_before(alloc, case, station, byte)? {
             stands = stands.saturating_add(1);
         }
     }
@@ -205,9 +205,9 @@ pub fn compare<W: Write>(
 }
 
 /// Writes the results, and those with calls of the link or writes failing.
-fn tell_all(alloc: Global, case: &Case, station: u16, left: &mut Left) -> io::Result<()> {
+fn put_all(alloc: Global, case: &Case, station: u16, left: &mut Left) -> io::Result<()> {
     let Left { line, file, told } = left;
-    tell_left(told, "", station, line.sent(), entries_of(&file.bytes))?;
+    put_left(told, "", station, line.sent(), entries_of(&file.bytes))?;
     fail_each_call(alloc, case, station, told)?;
     fail_each_byte(alloc, case, station, told)
 }
@@ -239,6 +239,6 @@ pub fn try_at_line<W: Write>(
     out: &mut W,
 ) -> io::Result<bool> {
     let mut left = run_at_line(alloc, case, station, case.fails_at, case.left.calls)?;
-    tell_all(alloc, case, station, &mut left)?;
+    put_all(alloc, case, station, &mut left)?;
     compare_left(alloc, case, &left, out)
 }

@@ -2,14 +2,18 @@
 
 use dis_records::{Address, EntityState};
 use exercise_model::{ExerciseLog, Form, LogEntry, LogFault, Recording, Station};
-use siman_trials::{Deed, ENTITIES, Random, Scene, begin, place_of, station_of};
+use siman_trials::{ENTITIES, Random, RandomEvent, RandomExercise, begin, place_of, station_of};
 use std::alloc::{AllocError, Global};
 
 /// Most actions in a scene.
 const MOST_DEEDS: usize = 16;
 
 /// The first `count` stations of a scene, with their states before its first action.
-fn stations(alloc: Global, scene: &Scene, count: usize) -> Result<Vec<Station>, AllocError> {
+fn stations(
+    alloc: Global,
+    scene: &RandomExercise,
+    count: usize,
+) -> Result<Vec<Station>, AllocError> {
     let mut stations = Vec::new(alloc);
     for index in 0..count {
         let mut opening = Vec::new(alloc);
@@ -30,19 +34,19 @@ fn stations(alloc: Global, scene: &Scene, count: usize) -> Result<Vec<Station>, 
 }
 
 /// The log entry of an action.
-fn entry(alloc: Global, deed: Deed, stamp: u64) -> Result<LogEntry, AllocError> {
+fn entry(alloc: Global, deed: RandomEvent, stamp: u64) -> Result<LogEntry, AllocError> {
     Ok(match deed {
-        Deed::Sends(station, letter) => LogEntry::Sent {
+        RandomEvent::Sends(station, letter) => LogEntry::Sent {
             station: (station % 256) as u16,
             stamp,
             bytes: letter.datagram(alloc)?,
         },
-        Deed::Gets(station, letter) => LogEntry::Received {
+        RandomEvent::Gets(station, letter) => LogEntry::Received {
             station: (station % 256) as u16,
             stamp,
             bytes: letter.datagram(alloc)?,
         },
-        Deed::Tells(station, entity, state) => LogEntry::Told {
+        RandomEvent::Tells(station, entity, state) => LogEntry::Told {
             station: (station % 256) as u16,
             entity: u16::from(entity),
             state,
@@ -114,8 +118,8 @@ fn vary_stamp(stamp: &mut u64) {
 }
 
 /// Varies the entry of an action.
-fn vary_entry(entry: &mut LogEntry, deed: Deed) {
-    let (Deed::Sends(_, letter) | Deed::Gets(_, letter)) = deed else {
+fn vary_entry(entry: &mut LogEntry, deed: RandomEvent) {
+    let (RandomEvent::Sends(_, letter) | RandomEvent::Gets(_, letter)) = deed else {
         return;
     };
     match entry {
@@ -132,7 +136,7 @@ fn vary_entry(entry: &mut LogEntry, deed: Deed) {
 }
 
 /// Adds random actions to a scene, and swaps neighbouring ones.
-fn happen(scene: &mut Scene) {
+fn happen(scene: &mut RandomExercise) {
     let deeds = scene.random.below(MOST_DEEDS).saturating_add(1);
     for _ in 0..deeds {
         scene.go_on();
@@ -145,7 +149,7 @@ fn happen(scene: &mut Scene) {
 /// Adds the entries of the first `count` stations' actions, varied or not.
 fn add_deeds(
     alloc: Global,
-    deeds: &[Deed],
+    deeds: &[RandomEvent],
     count: usize,
     is_varied: bool,
     recording: &mut Recording,
@@ -170,7 +174,7 @@ fn recorded(
     alloc: Global,
     form: Form,
     is_varied: bool,
-    scene: &mut Scene,
+    scene: &mut RandomExercise,
 ) -> Result<Recording, LogFault> {
     // In an open recording the last station is not recorded.
     let count = match form {

@@ -7,7 +7,7 @@ use exercise_findings::Findings;
 use exercise_model::{EntryView, ExerciseLog, Form, LARGEST_ENTITY, meaning_view};
 use exercise_review::{
     Fate, FateCounts, OrderAt, Party, Register, Review, ReviewFault, change_of_order, fate_of,
-    head_of, lives_of, missing_at, order_at, receipts_counted, review_of,
+    head_of, lives_of, missing_at, order_at, receipt_counts, review_of,
 };
 use siman_pdus::BodyView;
 use siman_trials::{ENTITIES, Random};
@@ -194,7 +194,7 @@ fn is_single_same<L: ExerciseLog>(
     if !lives || !are_orders_same(register, told) {
         return Ok(false);
     }
-    let receipts = receipts_counted(alloc, register)?;
+    let receipts = receipt_counts(alloc, register)?;
     Ok(are_entries_same(log, register, &receipts))
 }
 
@@ -210,7 +210,7 @@ fn is_found_same<L: ExerciseLog>(
 
 /// Whether the review of a recording equals the plain review, and so do the results for single
 /// orders, entries and lives.
-fn is_told_same<L: ExerciseLog>(
+fn are_results_same<L: ExerciseLog>(
     alloc: Global,
     log: &L,
     plain: &Review,
@@ -252,7 +252,7 @@ impl Reviews {
     /// Compares the review of a recording with the plain review, and counts its fates.
     fn try_log<L: ExerciseLog>(&mut self, alloc: Global, log: &L) -> Result<(), AllocError> {
         let plain = plain_review(alloc, log, most_in(log))?;
-        let same = is_told_same(alloc, log, &plain)?;
+        let same = are_results_same(alloc, log, &plain)?;
         self.note(same, &counts_of(&plain.fates, missing_in(log)));
         Ok(())
     }

@@ -40,12 +40,12 @@ live_text entries left = line_text (live_line entries left)
 
 -- THE OUTPUT for a recording with so many entries and for what its stations left out, or why it has no end: with
 -- status 0 the whole row is written; after a failed write a prefix of it, after any other fault nothing
-abbrev pub TellsEntries : (entries : Result ℕ Fault) → LeftOut → Answered → (out : Stream) → Type 0
-TellsEntries (Ok n) left (Ok status) out = (status ≡ 0) × Appends out.old out.new (live_text n left)
-TellsEntries (Ok n) left (Err Output) out = WritesPart out.old out.new (live_text n left)
-TellsEntries (Ok n) left (Err Memory) out = Keeps out.old out.new
-TellsEntries (Ok n) left (Err other) out = ⊥
-TellsEntries (Err fault) left answered out = (answered ≡ Err fault) × Keeps out.old out.new
+abbrev pub PutsLiveRow : (entries : Result ℕ Fault) → LeftOut → Answered → (out : Stream) → Type 0
+PutsLiveRow (Ok n) left (Ok status) out = (status ≡ 0) × Appends out.old out.new (live_text n left)
+PutsLiveRow (Ok n) left (Err Output) out = WritesPart out.old out.new (live_text n left)
+PutsLiveRow (Ok n) left (Err Memory) out = Keeps out.old out.new
+PutsLiveRow (Ok n) left (Err other) out = ⊥
+PutsLiveRow (Err fault) left answered out = (answered ≡ Err fault) × Keeps out.old out.new
 
 -- The file.
 
@@ -96,7 +96,7 @@ pub record Lives {L : Type 0} (told : Telling L) (w : SettingData) (moves : List
   pub entries : Result ℕ Fault
   pub records : Records told w moves posts after file entries
   pub recorded : IsRecorded w entries file
-  pub tells : TellsEntries entries (left_out_by told.strangers after) answered out
+  pub tells : PutsLiveRow entries (left_out_by told.strangers after) answered out
 
 -- Stations.
 

@@ -19,8 +19,8 @@ use Rattle.siman_stations.specs.Asked.{order_fault, tell_fault}
 use Rattle.siman_stations.specs.Acts.{of_station, as_move}
 use Rattle.siman_outside.specs.declared.fault.Fault.{Fault}
 use Rattle.siman_outside.specs.declared.fault.Fault.TheVariants.{World, LineFailed, Output, Memory}
-use Rattle.siman_exercise_commands.specs.declared.live.moves.Halt.{Halt}
-use Rattle.siman_exercise_commands.specs.declared.live.moves.Halt.TheVariants as halts
+use Rattle.siman_exercise_commands.specs.declared.live.moves.LiveMoveFault.{LiveMoveFault}
+use Rattle.siman_exercise_commands.specs.declared.live.moves.LiveMoveFault.TheVariants as halts
 
 -- WHY A STATION CANNOT DO AN ACT at its link: as in a world, except that a delivery does nothing
 abbrev pub live_fault : Node → ℕ → Act → Option MoveFault
@@ -42,28 +42,28 @@ move_fault entries there now Tick = judged entries there now Tick
 move_fault entries there now (Tell e) = judged entries there now (Tell e)
 
 -- the move is refused for the first reason against it; a link, the recorder or memory may fail at any time
-abbrev pub Gives : Option MoveFault → Halt → Type 0
+abbrev pub Gives : Option MoveFault → LiveMoveFault → Type 0
 Gives reason (halts.Move fault) = reason ≡ Some fault
 Gives reason halts.Line = ⊤
 Gives reason halts.Record = ⊤
 Gives reason halts.Memory = ⊤
 
 -- the fault of a halt at the move of a number
-abbrev pub at_move : ℕ → Halt → Fault
+abbrev pub at_move : ℕ → LiveMoveFault → Fault
 at_move number (halts.Move fault) = World (worlds.Move number fault) None
 at_move number halts.Line = LineFailed
 at_move number halts.Record = Output
 at_move number halts.Memory = Memory
 
 -- the halt of a fault at a link, under the name of that fault
-abbrev pub of_line : AtLineFault → Halt
+abbrev pub of_line : AtLineFault → LiveMoveFault
 of_line (below.Station fault) = halts.Move (of_station fault)
 of_line below.Line = halts.Line
 of_line (below.Record fault) = halts.Record
 of_line below.Memory = halts.Memory
 
 -- the result of a call at a link, as the result of a move
-abbrev pub of_done : Result (Unit {0}) AtLineFault → Result (Unit {0}) Halt
+abbrev pub of_done : Result (Unit {0}) AtLineFault → Result (Unit {0}) LiveMoveFault
 of_done (Ok x) = Ok x
 of_done (Err fault) = Err (of_line fault)
 
@@ -78,9 +78,9 @@ ActsAt told now Tick done p w q v = KeepsCounts p q × RepeatsAt told now p w q 
 ActsAt told now (Tell e) done p w q v = (q ≡ p) × TellsAt e p w v done × IfErr done (LeavesRefused told p w q v)
 
 -- the result of an act at a link: it was done there, or the fault has the name of the one there
-abbrev pub ActEnds : {L : Type 0} → Telling L → (now : ℕ) → Act → (told_as : Result (Unit {0}) Halt) → (p : StationAtLine L) → (w : WriterState)
+abbrev pub ActEnds : {L : Type 0} → Telling L → (now : ℕ) → Act → (reported_as : Result (Unit {0}) LiveMoveFault) → (p : StationAtLine L) → (w : WriterState)
     → (q : StationAtLine L) → (v : WriterState) → Type 0
-ActEnds told now act told_as p w q v = (done : Result (Unit {0}) AtLineFault) × (told_as ≡ of_done done) × ActsAt told now act done p w q v
+ActEnds told now act reported_as p w q v = (done : Result (Unit {0}) AtLineFault) × (reported_as ≡ of_done done) × ActsAt told now act done p w q v
 
 -- why a move is not made by these stations
 abbrev pub reason_against : {L : Type 0} → AtLines L → Move → Option MoveFault
@@ -104,19 +104,19 @@ Moves told now station Tick old new = IsMade told now station Tick old new
 Moves told now station (Tell e) old new = IsMade told now station (Tell e) old new
 
 -- the move is refused before anything is done
-pub record IsRefused {L : Type 0} (halt : Halt) (old new : AtLines L) : Type 0 where
+pub record IsRefused {L : Type 0} (halt : LiveMoveFault) (old new : AtLines L) : Type 0 where
   pub fault : MoveFault
   pub named : halt ≡ halts.Move fault
   pub same : new ≡ old
 
 -- its station failed in its act
-pub record IsHindered {L : Type 0} (told : Telling L) (now station : ℕ) (act : Act) (halt : Halt) (old new : AtLines L) : Type 0 where
+pub record IsHindered {L : Type 0} (told : Telling L) (now station : ℕ) (act : Act) (halt : LiveMoveFault) (old new : AtLines L) : Type 0 where
   pub fault : AtLineFault
   pub named : halt ≡ of_line fault
   pub acts : One (ActsAt told now act (Err fault)) station old new
 
 -- its station did its act, and then one of all stations could not be served
-pub record IsUnserved {L : Type 0} (told : Telling L) (now station : ℕ) (act : Act) (halt : Halt) (old new : AtLines L) : Type 0 where
+pub record IsUnserved {L : Type 0} (told : Telling L) (now station : ℕ) (act : Act) (halt : LiveMoveFault) (old new : AtLines L) : Type 0 where
   pub fault : AtLineFault
   pub named : halt ≡ of_line fault
   pub mid : AtLines L
@@ -125,17 +125,17 @@ pub record IsUnserved {L : Type 0} (told : Telling L) (now station : ℕ) (act :
 
 -- A MOVE IS NOT MADE, with the name of its halt: it is refused, its station failed, or one of all could not be
 -- served
-abbrev pub IsHalted : {L : Type 0} → Telling L → Move → Halt → AtLines L → AtLines L → Type 0
+abbrev pub IsHalted : {L : Type 0} → Telling L → Move → LiveMoveFault → AtLines L → AtLines L → Type 0
 IsHalted told step halt old new =
     IsRefused halt old new ⊎ IsHindered told step.now step.station step.act halt old new ⊎ IsUnserved told step.now step.station step.act halt old new
 
 -- the result of a move that is no delivery
-abbrev pub JudgedEnds : {L : Type 0} → Telling L → Move → AtLines L → AtLines L → Result (Unit {0}) Halt → Type 0
+abbrev pub JudgedEnds : {L : Type 0} → Telling L → Move → AtLines L → AtLines L → Result (Unit {0}) LiveMoveFault → Type 0
 JudgedEnds told step old new (Ok x) = IsMade told step.now step.station step.act old new
 JudgedEnds told step old new (Err halt) = IsHalted told step halt old new
 
 -- THE RESULT OF A MOVE
-abbrev pub MoveEnds : {L : Type 0} → Telling L → Move → AtLines L → AtLines L → Result (Unit {0}) Halt → Type 0
+abbrev pub MoveEnds : {L : Type 0} → Telling L → Move → AtLines L → AtLines L → Result (Unit {0}) LiveMoveFault → Type 0
 MoveEnds told step old new (Ok x) = Moves told step.now step.station step.act old new
 MoveEnds told step old new (Err halt) = IsHalted told step halt old new
 
@@ -150,8 +150,8 @@ pub record MakesAt {L : Type 0} (told : Telling L) (moves : List Move) (number :
 pub record HaltsAt {L : Type 0} (told : Telling L) (moves : List Move) (fault : Fault) (number : ℕ) (old new : AtLines L) : Type 0 where
   pub step : Move
   pub there : slice_get moves number ≡ Some step
-  pub halt : Halt
-  pub told_as : fault ≡ at_move number halt
+  pub halt : LiveMoveFault
+  pub reported_as : fault ≡ at_move number halt
   pub reason : Gives (reason_against old step) halt
   pub halted : IsHalted told step halt old new
 

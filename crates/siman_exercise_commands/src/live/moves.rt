@@ -28,7 +28,7 @@ const TURNS: u32 = 64;
 
 /// Why a move was not made, or why a station could not be served after it.
 #[derive(Clone, Copy)]
-pub(crate) enum Halt {
+pub(crate) enum LiveMoveFault {
     /// The move is refused.
     Move(MoveFault),
     /// A call of a link failed.
@@ -39,16 +39,16 @@ pub(crate) enum Halt {
     Memory,
 }
 
-impl Halt {
+impl LiveMoveFault {
     /// Fault of this halt at the move of this number.
     pub(crate) fn at(self, number: usize) -> Fault<'static>
         ensures { result ≡ at_move number self }
     {
         match self {
-            Halt::Move(fault) => Fault::World(WorldFault::Move(number, fault), None),
-            Halt::Line => Fault::LineFailed,
-            Halt::Record => Fault::Output,
-            Halt::Memory => Fault::Memory,
+            LiveMoveFault::Move(fault) => Fault::World(WorldFault::Move(number, fault), None),
+            LiveMoveFault::Line => Fault::LineFailed,
+            LiveMoveFault::Record => Fault::Output,
+            LiveMoveFault::Memory => Fault::Memory,
         }
     }
 }
@@ -59,7 +59,7 @@ pub(crate) fn trouble_of<L: Line + Drop>(stations: &[StationAtLine<L>]) -> Optio
 }
 
 /// Attaches each station to the link of the same index. There must be as many links as stations.
-pub(crate) fn stand_at_lines<L: Line + Drop>(
+pub(crate) fn attach_stations<L: Line + Drop>(
     alloc: Global,
     nodes: Vec<Node>,
     lines: Vec<L>,
@@ -76,17 +76,17 @@ pub(crate) fn stand_at_lines<L: Line + Drop>(
 }
 
 /// The result of a station's call, as the result of a move.
-fn of_station(done: Result<(), AtLineFault>) -> Result<(), Halt>
+fn of_station(done: Result<(), AtLineFault>) -> Result<(), LiveMoveFault>
     ensures made { (reason : Option StationFault) → OnOk done (reason ≡ None) → OnOk result (as_move reason ≡ None) }
     ensures fault { (reason : Option StationFault) → IfErr done (Hinders reason) → IfErr result (Gives (as_move reason)) }
     ensures named { result ≡ of_done done }
 {
     match done {
         Ok(()) => Ok(()),
-        Err(AtLineFault::Station(fault)) => Err(Halt::Move(MoveFault::from(fault))),
-        Err(AtLineFault::Line) => Err(Halt::Line),
-        Err(AtLineFault::Record(_)) => Err(Halt::Record),
-        Err(AtLineFault::Memory) => Err(Halt::Memory),
+        Err(AtLineFault::Station(fault)) => Err(LiveMoveFault::Move(MoveFault::from(fault))),
+        Err(AtLineFault::Line) => Err(LiveMoveFault::Line),
+        Err(AtLineFault::Record(_)) => Err(LiveMoveFault::Record),
+        Err(AtLineFault::Memory) => Err(LiveMoveFault::Memory),
     }
 }
 
@@ -97,7 +97,7 @@ fn act_at<L: Line + Drop, W: Write>(
     recorder: &mut RecordingWriter<'_, W>,
     now: u64,
     act: Act,
-) -> Result<(), Halt>
+) -> Result<(), LiveMoveFault>
     ensures made { OnOk result (live_fault station.old.node now act ≡ None) }
     ensures fault { IfErr result (Gives (live_fault station.old.node now act)) }
     ensures does { let told : Telling L = record { received = L.received; sent = L.sent; failures = L.failures; strangers = L.strangers } in
@@ -120,7 +120,7 @@ fn make_move<L: Line + Drop, W: Write>(
     stations: &mut Vec<StationAtLine<L>>,
     recorder: &mut RecordingWriter<'_, W>,
     step: Move,
-) -> Result<(), Halt>
+) -> Result<(), LiveMoveFault>
     ensures made { OnOk result (move_fault recorder.old.entries (option_map (λ (p : StationAtLine L). p.node) (slice_get stations.old.items step.station)) step.now step.act ≡ None) }
     ensures fault { IfErr result (Gives (move_fault recorder.old.entries (option_map (λ (p : StationAtLine L). p.node) (slice_get stations.old.items step.station)) step.now step.act)) }
     ensures ends { let told : Telling L = record { received = L.received; sent = L.sent; failures = L.failures; strangers = L.strangers } in
@@ -145,7 +145,7 @@ fn judge_and_make<L: Line + Drop, W: Write>(
     stations: &mut Vec<StationAtLine<L>>,
     recorder: &mut RecordingWriter<'_, W>,
     step: Move,
-) -> Result<(), Halt>
+) -> Result<(), LiveMoveFault>
     ensures made { OnOk result (judged recorder.old.entries (option_map (λ (p : StationAtLine L). p.node) (slice_get stations.old.items step.station)) step.now step.act ≡ None) }
     ensures fault { IfErr result (Gives (judged recorder.old.entries (option_map (λ (p : StationAtLine L). p.node) (slice_get stations.old.items step.station)) step.now step.act)) }
     ensures ends { let told : Telling L = record { received = L.received; sent = L.sent; failures = L.failures; strangers = L.strangers } in
@@ -160,10 +160,10 @@ fn judge_and_make<L: Line + Drop, W: Write>(
 {
     let Move { now, station, act } = step;
     if recorder.entry_count() as usize + 2 > MOST_ENTRIES {
-        return Err(Halt::Move(MoveFault::Records));
+        return Err(LiveMoveFault::Move(MoveFault::Records));
     }
     if usize::from(station) >= stations.len() {
-        return Err(Halt::Move(MoveFault::NoSuchStation));
+        return Err(LiveMoveFault::Move(MoveFault::NoSuchStation));
     }
     act_at(
         alloc,

@@ -4,7 +4,7 @@ ghost use Rattle.std.specs.Prelude.{◌≡◌, IfOk, string_bytes};
 ghost use Rattle.exercise_model.specs.Setting.{IsSetting};
 ghost use Rattle.siman_lines.specs.AtLines.{Telling, AtLines, AreFresh};
 ghost use Rattle.siman_outside.specs.Outside.{Stream};
-ghost use Rattle.siman_exercise_commands.specs.Live.Lived.{live_text, TellsEntries, Records, IsRecorded, Performs};
+ghost use Rattle.siman_exercise_commands.specs.Live.Lived.{live_text, PutsLiveRow, Records, IsRecorded, Performs};
 
 use crate::live::moves::make_moves;
 use byte_files::put;
@@ -19,7 +19,7 @@ use std::io::Write;
 
 /// The result of a recording: how many entries it has, or why it has no end; and its file.
 #[derive(Drop)]
-pub(crate) struct Recorded<F: Drop> {
+pub(crate) struct LiveRecording<F: Drop> {
     pub(crate) entries: Result<u32, Fault<'static>>,
     pub(crate) file: F,
 }
@@ -41,14 +41,14 @@ fn live_line(alloc: Global, entries: u32, left: LeftOut) -> Result<String, Alloc
 }
 
 /// Prints the row of a recording, or returns why it has no end.
-pub(crate) fn tell_entries<W: Write>(
+pub(crate) fn put_live_row<W: Write>(
     alloc: Global,
     entries: Result<u32, Fault<'static>>,
     left: LeftOut,
     out: &mut W,
 ) -> Result<u8, Fault<'static>>
     ensures { let out : Stream = record { old = W.contents out.old; new = W.contents out.new } in
-        TellsEntries entries.entry left result out }
+        PutsLiveRow entries.entry left result out }
 {
     let entries = match entries {
         Ok(entries) => entries,
@@ -94,7 +94,7 @@ pub(crate) fn record_moves<L: Line + Drop, F: Write + Drop>(
     stations: &mut Vec<StationAtLine<L>>,
     moves: Vec<Move>,
     file: F,
-) -> Recorded<F>
+) -> LiveRecording<F>
     requires { let told : Telling L = record { received = L.received; sent = L.sent; failures = L.failures; strangers = L.strangers } in
         IsSetting head.now.setting → AreFresh told head.now.setting stations.old.items }
     ensures records { let told : Telling L = record { received = L.received; sent = L.sent; failures = L.failures; strangers = L.strangers } in
@@ -114,7 +114,7 @@ pub(crate) fn record_moves<L: Line + Drop, F: Write + Drop>(
     let mut recorder = match begun {
         Ok(recorder) => recorder,
         Err(unstarted) => {
-            return Recorded {
+            return LiveRecording {
                 entries: Err(Fault::Output),
                 file: unstarted.writer,
             };
@@ -122,5 +122,5 @@ pub(crate) fn record_moves<L: Line + Drop, F: Write + Drop>(
     };
     let entries = end_moves(alloc, stations, &mut recorder, moves);
     let file = recorder.into_inner();
-    Recorded { entries, file }
+    LiveRecording { entries, file }
 }

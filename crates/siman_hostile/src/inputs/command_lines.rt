@@ -1,7 +1,7 @@
 //! Random command lines, over a folder with files of every kind.
 
 use crate::input::Input;
-use crate::inputs::Answer;
+use crate::inputs::InputResult;
 use crate::ran::{Files, Ran, run_words};
 use crate::refusals::files::STEPS;
 use siman_refusals::RECORDING;
@@ -237,7 +237,7 @@ fn make_up(input: &mut Input) -> ([&'static str; MOST], usize) {
 }
 
 /// Tries a random command line: the run must end as the pages say, and lose no file.
-pub(crate) fn try_command_line(alloc: Global, input: &mut Input) -> Answer {
+pub(crate) fn try_command_line(alloc: Global, input: &mut Input) -> InputResult {
     let (words, count) = make_up(input);
     let words = &words[..count.min(MOST)];
     for word in words {
@@ -250,7 +250,7 @@ pub(crate) fn try_command_line(alloc: Global, input: &mut Input) -> Answer {
         Some(command) => *command,
         None => "",
     };
-    Answer {
+    InputResult {
         status: ended.status,
         good: is_named(&ended, command) && spares_files(&ended, words),
     }

@@ -1,7 +1,7 @@
 //! Random datagrams of each kind, spoilt, and read in every way.
 
 use crate::input::Input;
-use crate::inputs::{Answer, UNTRIED};
+use crate::inputs::{InputResult, UNTRIED};
 use crate::ran::run_words;
 use siman_pdus::{Pdu, PduFault, decode, encode, encoded_size, view};
 use std::alloc::Global;
@@ -101,7 +101,7 @@ fn wanted(alloc: Global, bytes: &[u8]) -> (bool, u8) {
 
 /// Tries a random datagram: decoding and viewing must agree, and `pdu` must show a PDU with status
 /// 0, and refuse any other datagram with status 1.
-pub(crate) fn try_datagram(alloc: Global, input: &mut Input) -> Answer {
+pub(crate) fn try_datagram(alloc: Global, input: &mut Input) -> InputResult {
     put_datagram(input);
     let bytes = input.bytes.as_slice();
     let Ok(hex) = hex::encode(alloc, bytes) else {
@@ -109,7 +109,7 @@ pub(crate) fn try_datagram(alloc: Global, input: &mut Input) -> Answer {
     };
     let shown = run_words(alloc, &["pdu", &hex], &[], &[]);
     let (agrees, status) = wanted(alloc, bytes);
-    Answer {
+    InputResult {
         status: shown.status,
         good: agrees && shown.ends(status) && !shown.out.is_empty(),
     }

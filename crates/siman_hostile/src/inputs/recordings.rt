@@ -1,7 +1,7 @@
 //! Random recordings, spoilt, and their certificates.
 
 use crate::input::{Input, begin_input};
-use crate::inputs::Answer;
+use crate::inputs::InputResult;
 use crate::ran::{Ran, checked, run_words, searched};
 use exercise_model::{EntryView, ExerciseLog, Form, Station};
 use exercise_recording::{RecordingView, read_recording, write_recording};
@@ -236,7 +236,7 @@ fn is_carried(bytes: &[u8], is_read: bool, carried: &Ran) -> bool {
 /// Tries a random recording: reading and viewing must agree, `show` and `audit` must refuse a file
 /// that is none, `check` must accept the certificate that `audit` finds, and `convert` must convert
 /// the first format.
-pub(crate) fn try_recording(alloc: Global, input: &mut Input) -> Answer {
+pub(crate) fn try_recording(alloc: Global, input: &mut Input) -> InputResult {
     put_recording(alloc, input);
     let recording = input.bytes.as_slice();
     let (agrees, is_read) = wanted(alloc, recording);
@@ -247,7 +247,7 @@ pub(crate) fn try_recording(alloc: Global, input: &mut Input) -> Answer {
     let is_shown = run_words(alloc, &["show", "rec"], &files, &[]).ends(status);
     let carried = run_words(alloc, &["convert", "rec", "new"], &files, &[]);
     let is_carried = is_carried(recording, is_read, &carried);
-    Answer {
+    InputResult {
         status: found.status,
         good: agrees && is_searched && is_shown && is_carried,
     }

@@ -1,7 +1,7 @@
 //! Random scripts, spoilt.
 
 use crate::input::Input;
-use crate::inputs::Answer;
+use crate::inputs::InputResult;
 use crate::ran::{Ran, checked, run_words, searched};
 use std::alloc::Global;
 
@@ -148,12 +148,12 @@ fn is_lived(alloc: Global, script: &[u8]) -> bool {
 
 /// Tries a random script: its world and its trial must end alike, and `audit` must explain the
 /// recordings of `world` and `live`.
-pub(crate) fn try_script(alloc: Global, input: &mut Input) -> Answer {
+pub(crate) fn try_script(alloc: Global, input: &mut Input) -> InputResult {
     put_script(input);
     let script = input.bytes.as_slice();
     let files = [("script", script)];
     let made = run_words(alloc, &["world", "script", "rec"], &files, &[]);
-    Answer {
+    InputResult {
         status: made.status,
         good: is_tried(alloc, &made, script) && is_lived(alloc, script),
     }

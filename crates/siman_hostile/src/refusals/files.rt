@@ -1,7 +1,7 @@
 //! The call that checks files.
 
 use siman_console::{FilesFault, check_files};
-use siman_refusals::{Call, RECORDING, Said, refused, usual};
+use siman_refusals::{LibraryCall, RECORDING, Said, refused, usual};
 use std::alloc::Global;
 
 /// The certificate of [`RECORDING`] in the order of its entries.
@@ -20,7 +20,7 @@ entity 2:3:7 stopped
 /// Checks a recording with its certificate, and writes the report.
 pub(crate) struct Judging;
 
-impl Call<Vec<u8>> for Judging {
+impl LibraryCall<Vec<u8>> for Judging {
     fn make(alloc: Global, out: &mut Vec<u8>) -> Said {
         match check_files(alloc, RECORDING.as_slice(), STEPS.as_slice(), out) {
             Ok(yes) => usual(yes && out.as_slice() == REPORT.as_bytes()),

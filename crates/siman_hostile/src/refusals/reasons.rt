@@ -2,7 +2,7 @@
 
 use crate::refusals::reviews::Streams;
 use siman_console::{Spelling, why_command, why_not_command};
-use siman_refusals::{Call, Said, refused, usual};
+use siman_refusals::{LibraryCall, Said, refused, usual};
 use std::alloc::Global;
 
 /// A recording in which 2:3 tells that its entity 7 runs, which is absent.
@@ -44,7 +44,7 @@ fn said(status: u8, streams: &Streams, text: &str) -> Said {
 /// Writes why no sequence explains a recording.
 pub(crate) struct Asking;
 
-impl Call<Streams> for Asking {
+impl LibraryCall<Streams> for Asking {
     fn make(alloc: Global, lent: &mut Streams) -> Said {
         lent.errors.clear();
         let (out, errors) = (&mut lent.out, &mut lent.errors);
@@ -56,7 +56,7 @@ impl Call<Streams> for Asking {
 /// Writes why a certificate is wrong.
 pub(crate) struct AskingOfSteps;
 
-impl Call<Streams> for AskingOfSteps {
+impl LibraryCall<Streams> for AskingOfSteps {
     fn make(alloc: Global, lent: &mut Streams) -> Said {
         lent.errors.clear();
         let (out, errors) = (&mut lent.out, &mut lent.errors);

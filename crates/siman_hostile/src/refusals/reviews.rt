@@ -1,7 +1,7 @@
 //! The call that reviews files.
 
 use siman_console::{Spelling, review_command};
-use siman_refusals::{Call, RECORDING, Said, refused, room, usual};
+use siman_refusals::{LibraryCall, RECORDING, Said, refused, room, usual};
 use std::alloc::Global;
 use std::io;
 
@@ -27,9 +27,9 @@ pub(crate) fn make_streams(alloc: Global) -> io::Result<Streams> {
 }
 
 /// Reviews a recording with a filter, and writes the rows.
-pub(crate) struct Reviewing;
+pub(crate) struct WritingReview;
 
-impl Call<Streams> for Reviewing {
+impl LibraryCall<Streams> for WritingReview {
     fn make(alloc: Global, lent: &mut Streams) -> Said {
         let (recording, words) = (RECORDING.as_slice(), ["fate=done"]);
         lent.errors.clear();

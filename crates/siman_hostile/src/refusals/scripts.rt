@@ -4,7 +4,7 @@ use exercise_model::ExerciseLog;
 use siman_console::{
     Script, ScriptFault, TrialFault, WorldFault, perform, read_script, run_world, trial,
 };
-use siman_refusals::{Call, Said, refused, usual};
+use siman_refusals::{LibraryCall, Said, refused, usual};
 use std::alloc::Global;
 
 /// A script with a loss, a copy and a swap.
@@ -43,7 +43,7 @@ entity 2:3:7 running
 /// Reads a script.
 pub(crate) struct ReadingScript;
 
-impl Call<()> for ReadingScript {
+impl LibraryCall<()> for ReadingScript {
     fn make(alloc: Global, _lent: &mut ()) -> Said {
         match read_script(alloc, SCRIPT.as_bytes()) {
             Ok(script) => usual(script.stations.len() == 2 && script.moves.len() == 12),
@@ -55,7 +55,7 @@ impl Call<()> for ReadingScript {
 /// Runs a world.
 pub(crate) struct RunningWorld;
 
-impl Call<()> for RunningWorld {
+impl LibraryCall<()> for RunningWorld {
     fn make(alloc: Global, _lent: &mut ()) -> Said {
         let Ok(script) = read_script(alloc, SCRIPT.as_bytes()) else {
             return Said::Memory;
@@ -83,7 +83,7 @@ fn said(ended: Result<bool, TrialFault>, out: &[u8]) -> Said {
 /// Performs a script that was read.
 pub(crate) struct Performing;
 
-impl Call<Vec<u8>> for Performing {
+impl LibraryCall<Vec<u8>> for Performing {
     fn make(alloc: Global, out: &mut Vec<u8>) -> Said {
         match read_script(alloc, SCRIPT.as_bytes()) {
             Ok(script) => said(perform(alloc, script, out), out),
@@ -95,7 +95,7 @@ impl Call<Vec<u8>> for Performing {
 /// Tries a script.
 pub(crate) struct Trying;
 
-impl Call<Vec<u8>> for Trying {
+impl LibraryCall<Vec<u8>> for Trying {
     fn make(alloc: Global, out: &mut Vec<u8>) -> Said {
         let mut input = SCRIPT.as_bytes();
         let ended = trial(alloc, &mut input, out);

@@ -7,14 +7,14 @@ ghost use Rattle.siman_scripts.specs.declared.statement.Statement.TheVariants.{E
 
 use super::{Draft, index_of, last_address};
 use crate::act::Act;
-use crate::part::{Part, takes_moves, takes_outfits, takes_stations, wants_exercise};
+use crate::part::{ScriptPart, takes_moves, takes_outfits, takes_stations, wants_exercise};
 use crate::statement::{ManagerRules, Statement};
 use crate::why::{LineReason, Why};
 use dis_records::{Address, EntityState};
 use exercise_model::{MOST_STATIONS, is_above};
 
 /// Reason of a line that is before the exercise, or late for its part.
-fn part_why(part: Part, late: Why) -> Why
+fn part_why(part: ScriptPart, late: Why) -> Why
     ensures { result ≡ part_why part late }
 {
     if wants_exercise(part) {

@@ -4,7 +4,7 @@ ghost use Rattle.std.specs.Prelude.{◌≡◌, ◌∷◌, [], true, Some, IfOk};
 ghost use Rattle.siman_pdus.specs.declared.pdu.Pdu.{Pdu};
 ghost use Rattle.siman_pdus.specs.Reading.{reading};
 ghost use Rattle.siman_pdus.specs.Role.{is_request_body};
-ghost use Rattle.siman_application.specs.OwnLog.{Orders, Takes, log_in, AnswersStand};
+ghost use Rattle.siman_application.specs.OwnLog.{Orders, Takes, log_in, AnswersHaveNoCause};
 
 use crate::applications::station;
 use dis_records::EntityState;
@@ -35,7 +35,7 @@ fn begin_to_answer(
     stamp: u32,
 ) -> Result<Application, AppFault>
     ensures { IfOk result (λ app. (o : Pdu) → reading order.now ≡ Some o → o.exercise ≡ exercise → is_request_body o.body ≡ true
-        → (q : Pdu) → reading request.now ≡ Some q → AnswersStand app.outfit (log_in app.outfit 0 (Takes request.now q stamp ∷ Orders order.now o ∷ []))) }
+        → (q : Pdu) → reading request.now ≡ Some q → AnswersHaveNoCause app.outfit (log_in app.outfit 0 (Takes request.now q stamp ∷ Orders order.now o ∷ []))) }
 {
     own_logs_stand();
     Application::begin(alloc, exercise, station, &[], Vec::new(alloc), &[])

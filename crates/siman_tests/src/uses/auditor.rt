@@ -2,7 +2,7 @@
 
 ghost use Rattle.std.specs.Prelude.{List, OnOk, ◌≡◌};
 ghost use Rattle.exercise_check.specs.Goodness.{IsGood};
-ghost use Rattle.exercise_check.specs.Links.{DifferInOrder};
+ghost use Rattle.exercise_check.specs.Links.{DifferInSequence};
 ghost use Rattle.exercise_check.specs.declared.certificate.Step.{Step};
 ghost use Rattle.exercise_model.specs.Conversion.{converted};
 ghost use Rattle.exercise_model.specs.Recording.{IsRecording};
@@ -23,7 +23,7 @@ pub fn found_what_others_find(
     certificate: &Certificate,
 ) -> Result<Account, CheckFault>
     ensures { (other : List Step) → IsRecording recording.now → IsGood recording.now other
-        → OnOk result (DifferInOrder certificate.now.steps.items other) }
+        → OnOk result (DifferInSequence certificate.now.steps.items other) }
 {
     links_are_of_the_logs();
     check(alloc, recording, certificate)

@@ -4,7 +4,7 @@ ghost use Rattle.std.specs.Prelude.{IfSome, None, length, ◌<◌, ◌≡◌, �
 ghost use Rattle.exercise_conflict.specs.Since.{HasOneState};
 ghost use Rattle.exercise_conflict.specs.Since.{Made};
 
-use exercise_conflict::{made_since, states_are_made};
+use exercise_conflict::{last_change_entry, states_are_made};
 use exercise_findings::Findings;
 use exercise_model::ExerciseLog;
 
@@ -22,5 +22,5 @@ pub fn made_the_state<L: ExerciseLog>(
     ensures start { result ≡ None → HasOneState findings.now station entity 0 before }
 {
     states_are_made();
-    made_since(findings, station, entity, before)
+    last_change_entry(findings, station, entity, before)
 }

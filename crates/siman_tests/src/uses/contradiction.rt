@@ -16,7 +16,7 @@ ghost use Rattle.exercise_review.specs.Life.{state_before};
 use exercise_check::Certificate;
 use exercise_conflict::{
     Clash, bad_steps_have_own_causes, clash_of, clashes_are_the_conflict, earlier_is_the_conflict,
-    earlier_of, final_is_final, own_causes_stand, own_causes_stay,
+    earlier_of, final_is_final, own_causes_are_final, own_causes_stay,
 };
 use exercise_findings::Findings;
 use exercise_model::{Cause, ExerciseLog};
@@ -28,7 +28,7 @@ pub fn is_against_its_own_log<L: ExerciseLog>(findings: &Findings<'_, L>, entry:
     ensures never { result ≡ true → (h : History) → Explains findings.now h → ⊥ }
     ensures sends { result ≡ true → (wide : PlainRecording) (h : History) → HasFurtherSends findings.now wide → Explains wide h → ⊥ }
 {
-    own_causes_stand();
+    own_causes_are_final();
     own_causes_stay();
     match findings.cause(entry) {
         Some(Cause::NeverSent) | None => false,

@@ -6,8 +6,8 @@ ghost use Rattle.dis_records.specs.Datum.{Datum};
 ghost use Rattle.dis_records.specs.declared.datum.FixedDatum.{FixedDatum};
 ghost use Rattle.exercise_model.specs.Recording.{PlainRecording};
 ghost use Rattle.exercise_review.specs.declared.filter.Filter.{Filter};
-ghost use Rattle.exercise_log.specs.Log.{log_lines, log_spelled};
-ghost use Rattle.exercise_log.specs.Records.{fixed_logged, id_logged, variable_logged};
+ghost use Rattle.exercise_log.specs.Log.{log_lines, log_text};
+ghost use Rattle.exercise_log.specs.Records.{fixed_row, id_row, variable_row};
 ghost use Rattle.siman_print.specs.Keys.{has_no_key_twice};
 ghost use Rattle.siman_print.specs.Line.{Line};
 ghost use Rattle.siman_print.specs.Spelled.{line_json, line_text};
@@ -25,7 +25,7 @@ pub fn grows_by_no_filter()
 /// A log in JSON has exactly the rows of the log as text.
 pub fn is_read_by_programs()
     ensures { (r : PlainRecording) (filters : List Filter) → (lines : List Line)
-        × (log_spelled Text r filters ≡ flat_map line_text lines) × (log_spelled Json r filters ≡ flat_map line_json lines) }
+        × (log_text Text r filters ≡ flat_map line_text lines) × (log_text Json r filters ≡ flat_map line_json lines) }
 {
     json_says_the_same();
 }
@@ -33,9 +33,9 @@ pub fn is_read_by_programs()
 /// No row of a datum, or of an identifier in a Data Query, has a key twice, so that a table made of
 /// the JSON rows loses no field.
 pub fn names_each_datum_once()
-    ensures fixed { (entry : ℕ) (datum : FixedDatum) → has_no_key_twice (fixed_logged entry datum) ≡ true }
-    ensures variable { (entry : ℕ) (datum : Datum) → has_no_key_twice (variable_logged entry datum) ≡ true }
-    ensures asked { (name : List ℕ) (entry id : ℕ) → has_no_key_twice (id_logged name entry id) ≡ true }
+    ensures fixed { (entry : ℕ) (datum : FixedDatum) → has_no_key_twice (fixed_row entry datum) ≡ true }
+    ensures variable { (entry : ℕ) (datum : Datum) → has_no_key_twice (variable_row entry datum) ≡ true }
+    ensures asked { (name : List ℕ) (entry id : ℕ) → has_no_key_twice (id_row name entry id) ≡ true }
 {
     log_keys_come_once();
 }

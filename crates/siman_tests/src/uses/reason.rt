@@ -11,15 +11,15 @@ ghost use Rattle.siman_scripts.specs.LineReason.{line_reason};
 ghost use Rattle.siman_scripts.specs.Reason.{command_reason, reason_at};
 ghost use Rattle.siman_scripts.specs.Script.{script_at};
 ghost use Rattle.siman_scripts.specs.Statement.{statement_of};
-ghost use Rattle.siman_scripts.specs.Words.{StandsAt, placed_words_of};
+ghost use Rattle.siman_scripts.specs.Words.{IsPlacedAt, placed_words_of};
 ghost use Rattle.siman_print.specs.Reason.{why_other};
-ghost use Rattle.siman_reviews.specs.Others.{others_told};
+ghost use Rattle.siman_reviews.specs.Others.{other_counts};
 
 use siman_print::others_have_reasons;
 use siman_reviews::others_are_counted;
 use siman_scripts::{
     a_line_has_a_reason_or_is_an_order, a_line_is_refused_for_a_reason,
-    a_text_has_a_reason_or_is_a_script, words_stand_at_their_columns,
+    a_text_has_a_reason_or_is_a_script, words_have_their_columns,
 };
 
 /// A datagram that means nothing always has a reason.
@@ -30,8 +30,8 @@ pub fn is_always_given()
 }
 
 /// If a review has no row with such a reason, every datagram of the recording means something.
-pub fn is_told_of_every_other()
-    ensures { (r : PlainRecording) → others_told r ≡ [] → others_of r ≡ 0 }
+pub fn every_other_is_counted()
+    ensures { (r : PlainRecording) → other_counts r ≡ [] → others_of r ≡ 0 }
 {
     others_are_counted();
 }
@@ -62,7 +62,7 @@ pub fn is_given_for_each_typed_line(line: &[u8])
 
 /// The word that a reason points at is in its column.
 pub fn points_at_its_word(line: &[u8])
-    ensures { All (StandsAt line.now) (placed_words_of line.now) }
+    ensures { All (IsPlacedAt line.now) (placed_words_of line.now) }
 {
-    words_stand_at_their_columns(line);
+    words_have_their_columns(line);
 }

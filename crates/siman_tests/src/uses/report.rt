@@ -7,14 +7,14 @@ ghost use Rattle.exercise_model.specs.Conversion.{converted};
 ghost use Rattle.exercise_model.specs.Entry.{Entry};
 ghost use Rattle.exercise_model.specs.Recording.{PlainRecording};
 ghost use Rattle.exercise_model.specs.declared.form.Form.TheVariants.{First};
-ghost use Rattle.exercise_review.specs.Review.{TellsReview};
+ghost use Rattle.exercise_review.specs.Review.{GivesReview};
 ghost use Rattle.exercise_review.specs.declared.filter.Filter.{Filter};
 ghost use Rattle.exercise_review.specs.declared.told.OrderAt.{OrderAt};
 ghost use Rattle.exercise_conflict.specs.Lines.{clash_line};
 ghost use Rattle.siman_pdus.specs.declared.pdu.Pdu.{Pdu};
 ghost use Rattle.siman_print.specs.EntryLines.{entry_line};
 ghost use Rattle.siman_print.specs.Head.{head_line};
-ghost use Rattle.siman_reviews.specs.Review.{kept_lines, order_line, review_line, review_lines};
+ghost use Rattle.siman_reviews.specs.Review.{filtered_lines, order_line, review_line, review_lines};
 ghost use Rattle.siman_print.specs.Keys.{has_no_key_twice};
 ghost use Rattle.siman_print.specs.Spelled.{line_json};
 
@@ -36,7 +36,7 @@ pub fn says_in_json_what_the_text_says<L: ExerciseLog>(
     filters: &[Filter],
     review: &Review,
 ) -> Result<String, AllocError>
-    requires { TellsReview (L.recording log.now) review.now }
+    requires { GivesReview (L.recording log.now) review.now }
     ensures { IfOk result (λ text. string_bytes text ≡ flat_map line_json (review_lines (L.recording log.now) explained filters.now)) }
 {
     json_says_the_same();
@@ -58,7 +58,7 @@ pub fn names_each_field_once()
 
 /// With any filter the rows of a recording are those of its conversion.
 pub fn says_the_same_of_the_archive(recording: &Recording)
-    ensures { recording.now.setting.form ≡ First → (filters : List Filter) → kept_lines (converted recording.now) filters ≡ kept_lines recording.now filters }
+    ensures { recording.now.setting.form ≡ First → (filters : List Filter) → filtered_lines (converted recording.now) filters ≡ filtered_lines recording.now filters }
 {
     conversion_keeps_lines();
 }

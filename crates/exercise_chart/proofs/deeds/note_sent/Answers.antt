@@ -1,13 +1,13 @@
 use Rattle.exercise_model.specs.Recording.{PlainRecording}
 use Rattle.exercise_review.specs.Entries.{bytes_sent}
-use Rattle.exercise_chart.specs.declared.deeds.Deed.{Deed}
+use Rattle.exercise_chart.specs.declared.deeds.StationDatagram.{StationDatagram}
 use Rattle.exercise_chart.proofs.Firsts.{firsts_still, sent_more, received_sends_nothing, told_sends_nothing}
 use Rattle.exercise_chart.proofs.deeds.note_sent.Goals as goal
 
 pub returns-in_ok-keep_first-in-Sent : goal.returns-in_ok-keep_first-in-Sent
 returns-in_ok-keep_first-in-Sent g c =
     let r : PlainRecording = g.L.ExerciseLog.recording c.args.log.now in
-    let x : Deed = record { station = c.in-Sent.station; bytes = c.in-Sent.bytes } in
+    let x : StationDatagram = record { station = c.in-Sent.station; bytes = c.in-Sent.bytes } in
     sent_more r c.args.entry c.in-Sent.stamp x c.args.firsts.now c.keep_first.new.firsts c.in-Sent.ensures.entry
     c.in_ok-keep_first-in-Sent.ensures c.requires.tied
 

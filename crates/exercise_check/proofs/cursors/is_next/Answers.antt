@@ -3,7 +3,7 @@ use Rattle.std.specs.Prelude.{nat_eq}
 use Rattle.std.proofs.lemmas.List.{get_or_default}
 use Rattle.exercise_model.specs.History.{event_of}
 use Rattle.exercise_model.specs.Held.{shown}
-use Rattle.exercise_check.specs.Order.{is_next}
+use Rattle.exercise_check.specs.Sequence.{is_next}
 use Rattle.exercise_check.proofs.Courses.{at_entry}
 use Rattle.exercise_check.proofs.Nexts.{next_by_cursor}
 use Rattle.exercise_check.proofs.cursors.is_next.Goals as goal

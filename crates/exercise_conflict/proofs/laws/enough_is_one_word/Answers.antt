@@ -2,7 +2,7 @@ use Rattle.std.proofs.Common.{◌≡◌, ⊎_elim, true, false, refl}
 use Rattle.exercise_model.specs.Recording.{PlainRecording}
 use Rattle.exercise_conflict.specs.declared.repair.Enough.{Enough}
 use Rattle.exercise_conflict.specs.declared.repair.Enough.TheVariants.{Yes, No, Unknown}
-use Rattle.exercise_conflict.specs.Repair.{repaired, is_too_long, lacks_able, IsUnexplained, IsEnough}
+use Rattle.exercise_conflict.specs.Repair.{repaired, is_too_long, is_able_missing, IsUnexplained, IsEnough}
 use Rattle.exercise_conflict.proofs.laws.enough_is_one_word.Goals as goal
 
 no_yes : (r : PlainRecording) → IsEnough r Yes → IsEnough r No → ⊥
@@ -11,12 +11,12 @@ no_yes r some none = none.2 some.1.0 some.1.1
 unknown_yes : (r : PlainRecording) → IsEnough r Yes → IsEnough r Unknown → ⊥
 unknown_yes r some unknown =
     ⊎_elim (λ (long : is_too_long r ≡ true). absurd (cc (some.0)))
-    (λ (left : (is_too_long r ≡ false) × (lacks_able r ≡ true) × IsUnexplained (repaired r)). left.2 some.1.0 some.1.1) unknown
+    (λ (left : (is_too_long r ≡ false) × (is_able_missing r ≡ true) × IsUnexplained (repaired r)). left.2 some.1.0 some.1.1) unknown
 
 unknown_no : (r : PlainRecording) → IsEnough r No → IsEnough r Unknown → ⊥
 unknown_no r none unknown =
     ⊎_elim (λ (long : is_too_long r ≡ true). absurd (cc (none.0)))
-    (λ (left : (is_too_long r ≡ false) × (lacks_able r ≡ true) × IsUnexplained (repaired r)). absurd (cc (none.1, left.1))) unknown
+    (λ (left : (is_too_long r ≡ false) × (is_able_missing r ≡ true) × IsUnexplained (repaired r)). absurd (cc (none.1, left.1))) unknown
 
 one_word : (r : PlainRecording) (word other : Enough) → IsEnough r word → IsEnough r other → word ≡ other
 one_word r Yes Yes a b = refl

@@ -4,4 +4,4 @@ use Rattle.exercise_conflict.proofs.question.first_below.Given as goal
 
 -- None that was asked passed.
 abbrev pub invariant-loop-entry : goal.invariant-loop-entry
-invariant-loop-entry g l = first_below (g.Q.Question.test l.question) l.entry ≡ None
+invariant-loop-entry g l = first_below (g.Q.NumberTest.test l.question) l.entry ≡ None

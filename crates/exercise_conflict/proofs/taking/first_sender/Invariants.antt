@@ -1,5 +1,5 @@
 use Rattle.std.proofs.Common.{◌≡◌, drop}
-use Rattle.exercise_check.specs.Order.{first_sender}
+use Rattle.exercise_check.specs.Sequence.{first_sender}
 use Rattle.exercise_conflict.proofs.taking.first_sender.Given as goal
 
 -- No step that was passed sends it.

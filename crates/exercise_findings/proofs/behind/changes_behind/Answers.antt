@@ -17,20 +17,20 @@ loop-able-preserved g c =
     let xs : List ℕ = c.args.ables.now in
     let x : ℕ = get_or xs i 0 in
     let within : x < n = All-get_or (λ k. k < n) xs i 0 c.loop-able-test.true c.requires.ables.within in
-    let more : IsShortColumn 4294967295 (IsNumberOf (change_among r (take i xs ++ x ∷ []))) n c.match-key_behind_at.changes.items =
-    elim c.match-key_behind_at.branch [
+    let more : IsShortColumn 4294967295 (IsNumberOf (change_among r (take i xs ++ x ∷ []))) n c.match-entry_change_key.changes.items =
+    elim c.match-entry_change_key.branch [
       | in-Some+in_ok-put_number w ↦
           let key = w.in-Some.key in
           subst (λ v. IsShortColumn 4294967295 (IsNumberOf (change_among r (take i xs ++ x ∷ []))) n v.items) (sym w.changes-is)
           (among_more r n (take i xs) x key w.entry_number-change.result c.loop-able.changes.items w.put_number.new.column.items
-          within c.entry_count-end.ensures.limits.count (sym w.in-Some.is ∙ c.key_behind_at.ensures)
+          within c.entry_count-end.ensures.limits.count (sym w.in-Some.is ∙ c.entry_change_key.ensures)
           (w.entry_number-change.ensures ∙ ap entry_number (w.first_near.ensures ∙ ap (first_under r key) c.entry_count-end.ensures.count))
           w.in_ok-put_number.ensures c.loop-able.invariant)
       | in_default w ↦
           subst (λ v. IsShortColumn 4294967295 (IsNumberOf (change_among r (take i xs ++ x ∷ []))) n v.items) (sym w.changes-is)
-          (among_still r n (take i xs) x c.loop-able.changes.items (sym w.in_default.is ∙ c.key_behind_at.ensures) c.loop-able.invariant)
+          (among_still r n (take i xs) x c.loop-able.changes.items (sym w.in_default.is ∙ c.entry_change_key.ensures) c.loop-able.invariant)
     ] in
-    subst (λ ys. IsShortColumn 4294967295 (IsNumberOf (change_among r ys)) n c.match-key_behind_at.changes.items) (sym (take_more xs i 0 c.loop-able-test.true)) more
+    subst (λ ys. IsShortColumn 4294967295 (IsNumberOf (change_among r ys)) n c.match-entry_change_key.changes.items) (sym (take_more xs i 0 c.loop-able-test.true)) more
 
 pub returns : goal.returns
 returns g c =

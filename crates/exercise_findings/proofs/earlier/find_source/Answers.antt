@@ -1,6 +1,6 @@
 use Rattle.std.proofs.Common.{◌≡◌, ◌<◌, sym, ap, ◌∙◌, length, subst, arith}
 use Rattle.std.specs.Prelude.{◌≢◌, IfSome, slice_index_or}
-use Rattle.exercise_findings.specs.Earlier.{request_in, IsEarlierAt, IsSoFarAt}
+use Rattle.exercise_findings.specs.Earlier.{request_in, IsBackReference, IsBackReferenceSoFar}
 use Rattle.exercise_findings.proofs.Columns.{short_written, short_within, written_here, written_apart}
 use Rattle.exercise_findings.proofs.EarlierEntries.{source_of_few, known_so_far, looked_up, found_so_far}
 use Rattle.exercise_findings.proofs.earlier.find_source.Goals as goal
@@ -19,8 +19,8 @@ returns-then-number_at-clause-so_far g c =
     let at : slice_index_or xs n 4294967295 ≡ 4294967294 =
     (sym (ap (λ ys. slice_index_or ys n 4294967295) c.deref.ensures.value) ∙ sym c.number_at.ensures) ∙ c.if-number_at.true in
     let kept = c.requires.so_far.each n c.requires.within in
-    short_written 4294967295 (IsSoFarAt r) n (length r.entries) x xs c.replace.new.column.items c.requires.within (c.replace.ensures.each 4294967295)
-    (known_so_far r n x (subst (IsEarlierAt r n) (sym c.source_number-source.ensures)
+    short_written 4294967295 (IsBackReferenceSoFar r) n (length r.entries) x xs c.replace.new.column.items c.requires.within (c.replace.ensures.each 4294967295)
+    (known_so_far r n x (subst (IsBackReference r n) (sym c.source_number-source.ensures)
     (looked_up r n c.source_by_hint.result c.source_by_hint.ensures (subst (λ o. IfSome o (λ s. s < 1048576)) (sym c.source_by_hint.ensures) (source_of_few r n c.requires.limits.count)) (ap request_in (sym at) ∙ kept.pair))))
     c.requires.so_far
 
@@ -32,7 +32,7 @@ returns-then-number_at-clause-here g c =
     let at : slice_index_or xs n 4294967295 ≡ 4294967294 =
     (sym (ap (λ ys. slice_index_or ys n 4294967295) c.deref.ensures.value) ∙ sym c.number_at.ensures) ∙ c.if-number_at.true in
     let kept = c.requires.so_far.each n c.requires.within in
-    subst (IsEarlierAt r n) (sym (written_here 4294967295 n c.source_number-source.result xs c.replace.new.column.items (c.replace.ensures.each 4294967295) ∙ c.source_number-source.ensures))
+    subst (IsBackReference r n) (sym (written_here 4294967295 n c.source_number-source.result xs c.replace.new.column.items (c.replace.ensures.each 4294967295) ∙ c.source_number-source.ensures))
     (looked_up r n c.source_by_hint.result c.source_by_hint.ensures (subst (λ o. IfSome o (λ s. s < 1048576)) (sym c.source_by_hint.ensures) (source_of_few r n c.requires.limits.count)) (ap request_in (sym at) ∙ kept.pair))
 
 pub returns-then-number_at-clause-others : goal.returns-then-number_at-clause-others

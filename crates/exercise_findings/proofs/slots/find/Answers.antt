@@ -1,6 +1,6 @@
 use Rattle.std.proofs.Common.{◌≡◌, true, false, length, sym, ap, ◌∙◌, subst, arith}
 use Rattle.std.specs.Prelude.{slice_get}
-use Rattle.exercise_findings.specs.Slots.{home, slot_behind, HasEntry, Stands}
+use Rattle.exercise_findings.specs.Slots.{home, slot_behind, HasEntry, HasSlot}
 use Rattle.exercise_findings.proofs.Standing.{slot_there, slot_on-none, slot_on-next, passed_none, passed_more, absent_free}
 use Rattle.exercise_findings.proofs.slots.find.Goals as goal
 use Rattle.exercise_findings.proofs.slots.find.Goals.{in-Under+else-is_sought, in-Other}
@@ -37,8 +37,8 @@ returns-then-is_sought-clause-found g c =
     let there = slot_there slots c.loop-step.place c.loop-step.invariant.within in
     let s = there.0 in
     let looks = c.in-Under.ensures s there.1 in
-    let stands : Stands slots s.entry = (c.loop-step.place, s.hash, record { at = there.1; some = looks.0 }) in
-    (subst (Stands slots) looks.2 stands, sym c.is_sought.ensures ∙ c.if-is_sought.true)
+    let stands : HasSlot slots s.entry = (c.loop-step.place, s.hash, record { at = there.1; some = looks.0 }) in
+    (subst (HasSlot slots) looks.2 stands, sym c.is_sought.ensures ∙ c.if-is_sought.true)
 
 pub loop-step-preserved : goal.loop-step-preserved
 loop-step-preserved g c =

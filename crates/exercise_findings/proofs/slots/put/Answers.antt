@@ -1,5 +1,5 @@
 use Rattle.std.proofs.Common.{◌<◌, set, sym, subst}
-use Rattle.exercise_findings.specs.Slots.{IsReached, Stands}
+use Rattle.exercise_findings.specs.Slots.{IsReached, HasSlot}
 use Rattle.exercise_findings.specs.declared.slots.Slot.{Slot}
 use Rattle.std.specs.Prelude.{◌⊎◌}
 use Rattle.std.proofs.Common.{List, ◌≡◌}
@@ -22,4 +22,4 @@ returns-in-Some-clause-kept c h e reached =
 pub returns-in-Some-clause-only : goal.returns-in-Some-clause-only
 returns-in-Some-clause-only c e stands =
     stands_put c.args.slots.now c.args.hash c.in-Some.place c.args.entry c.in-Some.ensures.within e
-    (subst (λ (slots : List Slot). Stands slots e) c.put.ensures stands)
+    (subst (λ (slots : List Slot). HasSlot slots e) c.put.ensures stands)

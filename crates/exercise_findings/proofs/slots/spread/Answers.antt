@@ -3,7 +3,7 @@ use Rattle.std.proofs.Common.{◌≡◌, ℕ, List, length, sym, ◌∙◌, subs
 use Rattle.std.specs.Prelude.{◌≢◌}
 use Rattle.std.proofs.lemmas.Option.{slice_get_within}
 use borrow.Author.Count.{below_more}
-use Rattle.exercise_findings.specs.Slots.{slot_on, HasEntry, IsReached, Stands}
+use Rattle.exercise_findings.specs.Slots.{slot_on, HasEntry, IsReached, HasSlot}
 use Rattle.exercise_findings.proofs.Standing.{one_slot, none_stands}
 use Rattle.exercise_findings.proofs.slots.spread.Goals as goal
 
@@ -23,7 +23,7 @@ loop-place-preserved c =
           let one = one_slot from place h e s has at in
           subst (λ x. IsReached to x e) (sym one.0) (subst (IsReached to s.hash) (sym one.1) (put.reached (λ none. has.some (one.1 ∙ none)))));
       only = λ e stands. ⊎_elim
-          (λ (stood : Stands was e). c.loop-place.invariant.only e stood)
+          (λ (stood : HasSlot was e). c.loop-place.invariant.only e stood)
           (λ (new : (e ≡ s.entry) × (e ≢ 4294967295)).
           (place, s.hash, subst (HasEntry from place s.hash) (sym new.0) (record { at = at; some = λ none. new.1 (new.0 ∙ none) })))
           (put.only e stands);
@@ -39,5 +39,5 @@ returns-clause-kept c h e reached =
 pub loop-place-init : goal.loop-place-init
 loop-place-init c = record {
   kept = λ i l h e has. absurd (omega (arith, l));
-  only = λ e stands. none_stands c.args.count e (subst (λ (slots : List Slot). Stands slots e) c.in_ok-to.ensures stands) (Stands c.args.from.now e);
+  only = λ e stands. none_stands c.args.count e (subst (λ (slots : List Slot). HasSlot slots e) c.in_ok-to.ensures stands) (HasSlot c.args.from.now e);
 }

@@ -5,6 +5,6 @@ pub returns : goal.returns
 returns g c =
     let r = g.L.ExerciseLog.recording c.args.log.now in
     record {
-      firsts = firsts_none r c.nothing_kept.result c.nothing_kept.ensures.slots c.nothing_kept.ensures.order;
+      firsts = firsts_none r c.empty_table.result c.empty_table.ensures.slots c.empty_table.ensures.order;
       states = c.in_ok-states.ensures;
     }

@@ -8,7 +8,7 @@ is_last-requires g c = among_entries c.args.findings.now c.args.order.now.head (
 
 pub returns : goal.returns
 returns g c = record {
-  said = c.said_at_head-said.ensures;
+  said = c.bytes_at_head-said.ensures;
   digest = c.digest_at_head-digest.ensures;
   sends = sent_once c.args.findings.now (order_of c.args.order.now) c.in-Some.maker c.requires c.in-Some.is (c.is_last.ensures c.if-not-is_last.false);
   own = tt;

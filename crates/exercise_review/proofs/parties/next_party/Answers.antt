@@ -17,8 +17,8 @@ loop-place-preserved g c =
       | in-Some w ↦
           let n : ℕ = number_of (pair_at w.in-Some.address) in
           let at : candidate_at r o k ≡ Some n = sym w.in-Some.ensures in
-          subst (IsNearest r o from (k + 1)) (sym (w.next-is ∙ w.nearer-next.ensures.next))
-          (nearest_more r o from k n c.loop-place.next at w.nearer-next.ensures.within c.loop-place.invariant)
+          subst (IsNearest r o from (k + 1)) (sym (w.next-is ∙ w.lower_party-next.ensures.next))
+          (nearest_more r o from k n c.loop-place.next at w.lower_party-next.ensures.within c.loop-place.invariant)
       | in_default w ↦
           let none : candidate_at r o k ≡ None = sym w.in_default.ensures in
           subst (IsNearest r o from (k + 1)) (sym w.next-is) (still_nearest r o from k c.loop-place.next none c.loop-place.invariant)

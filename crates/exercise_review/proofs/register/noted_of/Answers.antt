@@ -17,8 +17,8 @@ loop-entry-init g c =
     let count = c.station_count.ensures.count ∙ ap (λ (x : PlainRecording). length x.setting.stations) c.log-log.ensures in
     record {
       noted = record {
-        few = omega (arith, c.no_ways.ensures.none);
-        orders = c.no_ways.ensures.kept (key_at r);
+        few = omega (arith, c.no_entry_chains.ensures.none);
+        orders = c.no_entry_chains.ensures.kept (key_at r);
         records = record {
           stations = ap length items ∙ length-replicate stations 0 ∙ count;
           each = λ s l. ap (λ xs. slice_index_or xs s 0) items ∙ get_or-replicate stations s 0 0 (omega (arith, l, count)) ∙ sym (none_counted (entry_places r) s);

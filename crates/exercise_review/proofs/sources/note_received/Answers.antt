@@ -8,13 +8,13 @@ use Rattle.exercise_review.proofs.Options.{nothing}
 use Rattle.exercise_review.proofs.Sourced.{from_nowhere, place_got, source_below, source_other, sources_still}
 use Rattle.exercise_review.proofs.sources.note_received.Goals as goal
 
-pub note_from-requires-clause-source : goal.note_from-requires-clause-source
-note_from-requires-clause-source g c =
+pub note_receipt_of-requires-clause-source : goal.note_receipt_of-requires-clause-source
+note_receipt_of-requires-clause-source g c =
     subst (λ (x : PlainRecording). c.in-Some.source < length x.entries) (sym c.log-log.ensures)
     (source_below c.args.findings.now c.args.entry c.in-Some.source c.args.station c.args.bytes.now c.requires.got c.in-Some.ensures)
 
-pub note_from-requires-clause-place : goal.note_from-requires-clause-place
-note_from-requires-clause-place g c =
+pub note_receipt_of-requires-clause-place : goal.note_receipt_of-requires-clause-place
+note_receipt_of-requires-clause-place g c =
     subst (λ (x : PlainRecording). entry_places x c.args.entry ≡ Some c.args.station) (sym c.log-log.ensures)
     (place_got c.args.findings.now c.args.station c.args.entry c.args.bytes.now c.requires.got)
 

@@ -5,8 +5,8 @@ use Rattle.siman_application.specs.declared.kept.RequestKey.{RequestKey}
 use Rattle.indexmap.specs.IndexMap.{values}
 use Rattle.siman_pdus.specs.declared.pdu.Pdu.{Pdu}
 use Rattle.siman_pdus.specs.DatumLists.{DatumLists}
-use Rattle.siman_application.specs.declared.kept.KeptRequest.{KeptRequest}
-use Rattle.siman_application.specs.Answer.{Knowledge, answer, told_of}
+use Rattle.siman_application.specs.declared.kept.AnsweredRequest.{AnsweredRequest}
+use Rattle.siman_application.specs.Answer.{Knowledge, answer, result_of}
 use Rattle.siman_application.specs.Holding.{Holding, held_in}
 use Rattle.siman_application.specs.Knows.{knows}
 use Rattle.siman_application.proofs.TablesStay.{kept_one, right_more, requests_more, given_first}
@@ -26,7 +26,7 @@ returns-clause-right c =
     c.requires.right c.requires.own c.requires.key c.requires.first c.numbers_are_in_range.ensures c.in_ok-outcome.ensures.answer
     (kept c) c.in_ok-outcome.ensures.obeyed
     (λ xs. ap (λ (h : Holding). knows xs h) c.store.ensures
-    ∙ ap (λ (d : DatumLists). told_of d (knows xs (held_in c.args.held.now))) c.in_ok-outcome.ensures.brought)
+    ∙ ap (λ (d : DatumLists). result_of d (knows xs (held_in c.args.held.now))) c.in_ok-outcome.ensures.brought)
 
 pub returns-clause-came : goal.returns-clause-came
 returns-clause-came c =
@@ -34,8 +34,8 @@ returns-clause-came c =
 
 pub returns-clause-answer : goal.returns-clause-answer
 returns-clause-answer c =
-    ap (λ (i : ℕ). option_map (λ (k : KeptRequest). k.answer) (slice_get (values c.keep-place.new.kept) i))
-    (c.keep-place.ensures.place ∙ ap (λ (es : List (RequestKey × KeptRequest)). length (values_of es)) c.reserve.ensures.entries)
+    ap (λ (i : ℕ). option_map (λ (k : AnsweredRequest). k.answer) (slice_get (values c.keep-place.new.kept) i))
+    (c.keep-place.ensures.place ∙ ap (λ (es : List (RequestKey × AnsweredRequest)). length (values_of es)) c.reserve.ensures.entries)
     ∙ given_first c.args.kept.now c.keep-place.new.kept c.args.key (record { request = c.args.pdu.now; answer = c.in_ok-outcome.outcome.answer }) (kept c)
     ∙ ap (λ (p : Pdu). Some p) (c.in_ok-outcome.ensures.answer ∙ ap
     (λ (k : Knowledge). answer c.args.outfit.now k c.args.pdu.now c.args.stamp) c.requires.right.known_is)

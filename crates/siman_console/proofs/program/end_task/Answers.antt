@@ -3,7 +3,7 @@ use Rattle.std.proofs.Common.{◌≡◌, ℕ, List, [], Option, None, refl}
 use Rattle.std.proofs.lemmas.List.Elements.{All-nil}
 use Rattle.siman_command_line.specs.declared.commands.NoWord.{NoWord}
 use Rattle.siman_command_line.specs.declared.commands.NoWord.TheVariants.{Pdus}
-use Rattle.siman_scripts.specs.Text.{lines_of}
+use Rattle.byte_files.specs.Text.{lines_of}
 use Rattle.siman_outside.specs.Outside.{Has, Outcome, WasHeld}
 use Rattle.siman_console.specs.Program.{EndsBare}
 use Rattle.siman_file_commands.specs.Pdus.{EndsLines}

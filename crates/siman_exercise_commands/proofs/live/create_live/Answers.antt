@@ -3,7 +3,7 @@ use Rattle.std.proofs.Common.{refl, ap, subst, ◌∙◌}
 use Rattle.siman_lines.specs.declared.left.LeftOut.{LeftOut}
 use Rattle.siman_lines.specs.LeftOut.{left_out_by}
 use Rattle.siman_outside.specs.Outside.{WasHeld}
-use Rattle.siman_exercise_commands.specs.Live.Lived.{TellsEntries}
+use Rattle.siman_exercise_commands.specs.Live.Lived.{PutsLiveRow}
 use Rattle.siman_outside.proofs.Offered.{adds_then, all_two}
 use Rattle.siman_exercise_commands.proofs.live.create_live.Goals as goal
 
@@ -20,8 +20,8 @@ returns-in-Ok g c = (
       records = c.record_moves-recorded.ensures.records;
       recorded = c.record_moves-recorded.ensures.recorded;
       tells =
-          subst (λ (left : LeftOut). TellsEntries c.record_moves-recorded.result.entries left c.tell_entries-answered.result (record { old = g.W.Write.contents c.args.out.now; new = g.W.Write.contents c.tell_entries-answered.new.out }))
-          (c.left_out.ensures ∙ ap (left_out_by g.O.Line.Line.strangers) c.deref.ensures.value) c.tell_entries-answered.ensures;
+          subst (λ (left : LeftOut). PutsLiveRow c.record_moves-recorded.result.entries left c.put_live_row-answered.result (record { old = g.W.Write.contents c.args.out.now; new = g.W.Write.contents c.put_live_row-answered.new.out }))
+          (c.left_out.ensures ∙ ap (left_out_by g.O.Line.Line.strangers) c.deref.ensures.value) c.put_live_row-answered.ensures;
     },
   ),
   refl,

@@ -32,8 +32,8 @@ returns-in-Err-begin_script g c =
       opened.0 ++ reads,
       adds_then _ _ _ opened.0 reads opened.1 c.read.ensures.done,
       All-append Held opened.0 reads opened.2 (all_one Held _ tt),
-      inr (inl (_, c.in-Err-begin_script.fault, ap (λ (deeds : List Deed). deeds ++ reads) opened.3, none, c.unlived.ensures.answered, Keeps-refl (g.W.Write.contents c.args.out.now))),
-      c.unlived.ensures.created ∙ sym (ap (λ (deeds : List Deed). is_created (deeds ++ reads)) opened.3),
+      inr (inl (_, c.in-Err-begin_script.fault, ap (λ (deeds : List Deed). deeds ++ reads) opened.3, none, c.fault_before_file.ensures.answered, Keeps-refl (g.W.Write.contents c.args.out.now))),
+      c.fault_before_file.ensures.created ∙ sym (ap (λ (deeds : List Deed). is_created (deeds ++ reads)) opened.3),
     )
 
 pub returns-in-Err : goal.returns-in-Err
@@ -42,8 +42,8 @@ returns-in-Err g c =
       opened.0,
       opened.1,
       opened.2,
-      inl (c.in-Err.fault, opened.3, c.unlived-in-Err.ensures.answered, Keeps-refl (g.W.Write.contents c.args.out.now)),
-      c.unlived-in-Err.ensures.created ∙ sym (none_created _ _ opened.0 c.in-Err.fault opened.3),
+      inl (c.in-Err.fault, opened.3, c.fault_before_file-in-Err.ensures.answered, Keeps-refl (g.W.Write.contents c.args.out.now)),
+      c.fault_before_file-in-Err.ensures.created ∙ sym (none_created _ _ opened.0 c.in-Err.fault opened.3),
     )
 
 pub live_text-requires : goal.live_text-requires

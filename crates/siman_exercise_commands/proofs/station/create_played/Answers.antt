@@ -20,5 +20,5 @@ returns-in-Err g c = (
   Creates c.args.name.now (Err (error_kind c.in-Err.error)) ∷ [],
   c.in-Err.ensures.done,
   (λ holds. all_one (WasHeld holds) _ tt),
-  (refl, (c.uncreated.result, c.uncreated.ensures, (refl, refl, Keeps-refl (g.W.Write.contents c.args.out.now), Keeps-refl (g.E.Write.contents c.args.errors.now)))),
+  (refl, (c.creation_fault.result, c.creation_fault.ensures, (refl, refl, Keeps-refl (g.W.Write.contents c.args.out.now), Keeps-refl (g.E.Write.contents c.args.errors.now)))),
 )

@@ -43,5 +43,5 @@ returns-in-Err g c =
       opens ∷ [],
       c.in-Err.ensures.done,
       all_one (WasHeld (g.O.Outside.holds c.args.outside.now)) opens c.in-Err.ensures.held,
-      (refl, (c.unopened.result, c.unopened.ensures, (refl, refl, Keeps-refl (g.W.Write.contents c.args.out.now), Keeps-refl (g.E.Write.contents c.args.errors.now)))),
+      (refl, (c.open_fault.result, c.open_fault.ensures, (refl, refl, Keeps-refl (g.W.Write.contents c.args.out.now), Keeps-refl (g.E.Write.contents c.args.errors.now)))),
     )

@@ -8,7 +8,7 @@ use Rattle.siman_exercise_commands.proofs.station.play_set_up.Goals as goal
 pub returns : goal.returns
 returns g c =
     let looked = LooksFor c.args.name.now false in
-    let rest = c.play_placed.ensures in (
+    let rest = c.open_and_play.ensures in (
       looked ∷ rest.0,
       adds_then _ _ _ (looked ∷ []) rest.0 c.if-is_taken.ensures.done rest.1,
       (λ holds. All-cons (WasHeld holds) looked rest.0 tt (rest.2 holds)),

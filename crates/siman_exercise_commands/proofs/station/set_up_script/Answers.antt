@@ -2,7 +2,7 @@
 use Rattle.std.proofs.Common.{refl, subst, sym}
 use Rattle.std.specs.Prelude.{Ok}
 use Rattle.siman_outside.specs.declared.fault.Fault.{Fault}
-use Rattle.siman_exercise_commands.specs.Explained.{TellsWhy}
+use Rattle.siman_exercise_commands.specs.Explained.{GivesWhy}
 use Rattle.siman_exercise_commands.specs.Station.{SetsUpNone}
 use Rattle.siman_exercise_commands.proofs.Stood.{no_why, none_set_up}
 use Rattle.siman_exercise_commands.proofs.station.set_up_script.Goals as goal
@@ -16,4 +16,4 @@ returns-in-Err-clause-sets_up c =
     (none_set_up c.args.script c.args.address c.in-Err.fault c.in-Err.ensures)
 
 pub returns-in-Err-clause-why : goal.returns-in-Err-clause-why
-returns-in-Err-clause-why c = λ t. subst (TellsWhy t) (sym c.of_set_up.ensures) (no_why t c.in-Err.fault)
+returns-in-Err-clause-why c = λ t. subst (GivesWhy t) (sym c.of_set_up.ensures) (no_why t c.in-Err.fault)

@@ -2,7 +2,7 @@
 use Rattle.std.proofs.Common.{sym}
 use Rattle.dis_records.specs.Header.{header_at}
 use Rattle.siman_pdus.specs.Reading.{pdu_from, refusal_of}
-use Rattle.siman_file_commands.proofs.Readings.{said_of-read, said_of-unread, said_of_hex-encode_lower, told_of_line-encode_lower}
+use Rattle.siman_file_commands.proofs.Readings.{said_of-read, said_of-unread, said_of_hex-encode_lower, result_of_line-encode_lower}
 use Rattle.siman_file_commands.proofs.answer.answers_follow_the_grammar.Goals as goal
 
 pub returns-clause-spelled : goal.returns-clause-spelled
@@ -17,4 +17,4 @@ pub returns-clause-hex : goal.returns-clause-hex
 returns-clause-hex c = λ b bytes short. said_of_hex-encode_lower b bytes short
 
 pub returns-clause-line : goal.returns-clause-line
-returns-clause-line c = λ number b bytes some short. told_of_line-encode_lower number b bytes some short
+returns-clause-line c = λ number b bytes some short. result_of_line-encode_lower number b bytes some short

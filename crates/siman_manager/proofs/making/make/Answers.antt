@@ -1,7 +1,7 @@
 use Rattle.std.proofs.Common.{◌≡◌, ℕ, ◌+◌, List, [], ◌∷◌, ◌++◌, length, ◌∙◌, ap, sym, subst, add-one, rules}
 use Rattle.indexmap.specs.IndexMap.{values, index_map_len}
 use Rattle.siman_pdus.specs.declared.pdu.Pdu.{Pdu}
-use Rattle.siman_manager.specs.declared.kept.KeptOrder.{KeptOrder}
+use Rattle.siman_manager.specs.declared.kept.MadeOrder.{MadeOrder}
 use Rattle.siman_manager.specs.Table.{numbers_from}
 use Rattle.siman_manager.specs.Book.{new_order, order_pdu, next_id}
 use Rattle.siman_manager.specs.Blocks.{AreBlocks}
@@ -19,7 +19,7 @@ pub returns-clause-right : goal.returns-clause-right
 returns-clause-right c = record {
   numbered = (next c).keys ∙ ap (numbers_from c.args.settings.now.first_id) (sym (next c).len);
   blocks =
-      subst (λ (orders : List KeptOrder). AreBlocks c.args.settings.now c.note.new.times.items orders) (sym (next c).values)
+      subst (λ (orders : List MadeOrder). AreBlocks c.args.settings.now c.note.new.times.items orders) (sym (next c).values)
       (c.note.ensures c.args.settings.now (values c.args.orders.now) (new_order c.order_pdu-pdu.result c.args.now)
       (length-values c.args.orders.now ∙ sym c.len-place.ensures.len) c.quiet_until-time.ensures
       (subst (λ (times : List ℕ). AreBlocks c.args.settings.now times (values c.args.orders.now)) (sym c.in_ok-reserve.ensures.items) c.requires.blocks));

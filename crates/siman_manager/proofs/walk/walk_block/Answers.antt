@@ -1,6 +1,6 @@
 use Rattle.std.proofs.Common.{◌≡◌, ℕ, suc, refl, ap, sym, ◌∙◌, subst, arith, add-one, slice_get, option_map}
 use Rattle.indexmap.specs.IndexMap.{values, with_value_at}
-use Rattle.siman_manager.specs.declared.kept.KeptOrder.{KeptOrder}
+use Rattle.siman_manager.specs.declared.kept.MadeOrder.{MadeOrder}
 use Rattle.siman_manager.specs.Book.{is_ready, looked_at, with_stamp}
 use Rattle.siman_manager.specs.Blocks.{AreLater, ticked_from, repeated_from}
 use Rattle.siman_manager.proofs.Steps.{ends_here, sent_here, goes_on, finds_on}
@@ -38,7 +38,7 @@ returns-then-look-clause-after c =
 
 pub returns-then-look-clause-sent : goal.returns-then-look-clause-sent
 returns-then-look-clause-sent c =
-    ap (λ xs. option_map (λ (k : KeptOrder). k.pdu) (slice_get xs c.loop-place.place))
+    ap (λ xs. option_map (λ (k : MadeOrder). k.pdu) (slice_get xs c.loop-place.place))
     (values-with_value_at c.loop-place.orders c.loop-place.place c.look.new.kept)
     ∙ sent_here c.args.settings.now c.args.now c.args.stamp (values c.loop-place.orders) c.loop-place.place c.index_mut.result.now c.look.new.kept
     c.index_mut.ensures.value (sym c.look.ensures.answer ∙ c.if-look.true) c.look.ensures.after
@@ -73,7 +73,7 @@ loop-place-preserved c = record {
       (add-one c.loop-place.place)
       ∙ ap (repeated_from c.args.settings.now c.args.now c.args.stamp (suc c.loop-place.place))
       (values-with_value_at c.loop-place.orders c.loop-place.place c.look.new.kept)
-      ∙ ap (option_map (λ (k : KeptOrder). with_stamp c.args.stamp k.pdu))
+      ∙ ap (option_map (λ (k : MadeOrder). with_stamp c.args.stamp k.pdu))
       (finds_on (is_ready c.args.settings.now c.args.now) (values c.loop-place.orders) c.loop-place.place c.index_mut.result.now c.look.new.kept
       c.index_mut.ensures.value (sym c.look.ensures.answer ∙ c.if-look.false))
       ∙ c.loop-place.invariant.sent;

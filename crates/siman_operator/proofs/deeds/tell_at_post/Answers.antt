@@ -1,5 +1,5 @@
 use Rattle.std.proofs.Common.{refl}
-use Rattle.siman_operator.specs.Noting.{sent_through}
+use Rattle.siman_operator.specs.Noting.{datagrams_sent}
 use Rattle.siman_operator.proofs.Going.{keeps_all}
 use Rattle.siman_operator.proofs.Prints.{tell_prints, untold_prints}
 use Rattle.siman_operator.proofs.deeds.tell_at_post.Goals as goal
@@ -9,8 +9,8 @@ returns-in-Err-clause-goes g c = record {
   index = refl;
   exercise = refl;
   keeps =
-      keeps_all c.args.station.now.index c.args.station.now.node c.args.recorder.now (sent_through c.args.station.now.line) c.args.station.now.node c.tell_at.new.recorder
-      (sent_through c.args.station.now.line) c.in-Err.ensures.keeps;
+      keeps_all c.args.station.now.index c.args.station.now.node c.args.recorder.now (datagrams_sent c.args.station.now.line) c.args.station.now.node c.tell_at.new.recorder
+      (datagrams_sent c.args.station.now.line) c.in-Err.ensures.keeps;
   prints =
       untold_prints g.L.Line.strangers c.args.printer.now.exercise c.args.entity c.args.station.now c.args.recorder.now c.tell_at.new.recorder c.in-Err.fault
       (record { out = g.O.Write.contents c.args.out.now; fault = c.args.printer.now.fault }) c.in-Err.ensures.ends c.in-Err.ensures.refused;
@@ -21,8 +21,8 @@ returns-clause-goes g c = record {
   index = refl;
   exercise = c.print.ensures.exercise;
   keeps =
-      keeps_all c.args.station.now.index c.args.station.now.node c.args.recorder.now (sent_through c.args.station.now.line) c.args.station.now.node c.tell_at.new.recorder
-      (sent_through c.args.station.now.line) c.in_default.ensures.keeps;
+      keeps_all c.args.station.now.index c.args.station.now.node c.args.recorder.now (datagrams_sent c.args.station.now.line) c.args.station.now.node c.tell_at.new.recorder
+      (datagrams_sent c.args.station.now.line) c.in_default.ensures.keeps;
   prints =
       tell_prints c.args.printer.now.exercise c.entry_count-entries.result c.args.entity c.state.result c.args.station.now c.args.recorder.now c.tell_at.new.recorder
       (record { out = g.O.Write.contents c.args.out.now; fault = c.args.printer.now.fault })

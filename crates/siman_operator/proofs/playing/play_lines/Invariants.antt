@@ -3,14 +3,14 @@ use Rattle.std.proofs.Common.{◌≡◌, ◌+◌, length}
 use Rattle.siman_operator.specs.Deeds.{PostState, GoesOn}
 use Rattle.siman_operator.specs.Noting.{telling}
 use Rattle.siman_operator.specs.declared.reading.TheConstants.{LONGEST_LINE}
-use Rattle.siman_operator.specs.Sessions.{AtRecorder}
+use Rattle.siman_operator.specs.Sessions.{RecordedPost}
 use Rattle.siman_operator.proofs.Played.{OnSoFar}
 use Rattle.siman_operator.proofs.playing.play_lines.Given as goal
 
 abbrev pub invariant-loop-number : goal.invariant-loop-number
 invariant-loop-number g l =
-    let old : AtRecorder g.row.L.Denot = record { post = l.fn.post; recorder = l.fn.recorder } in
-    let new : AtRecorder g.row.L.Denot = record { post = l.post; recorder = l.recorder } in
+    let old : RecordedPost g.row.L.Denot = record { post = l.fn.post; recorder = l.fn.recorder } in
+    let new : RecordedPost g.row.L.Denot = record { post = l.post; recorder = l.recorder } in
     let start : PostState g.row.L.Denot = record { station = l.fn.post.station; recorder = l.fn.recorder; exercise = l.fn.post.printer.exercise; printing = record { out = g.O.Write.contents l.fn.out; fault = l.fn.post.printer.fault } } in
     let now : PostState g.row.L.Denot = record { station = l.post.station; recorder = l.recorder; exercise = l.post.printer.exercise; printing = record { out = g.O.Write.contents l.out; fault = l.post.printer.fault } } in
     (length l.buffer ≡ LONGEST_LINE + 1)

@@ -5,7 +5,7 @@ pub returns : goal.returns
 returns g c = record {
   recorder = c.play_lines-played.new.recorder;
   out = g.O.Write.contents c.play_lines-played.new.out;
-  told_so_far = g.E.Write.contents c.play_lines-played.new.errors;
+  errors_so_far = g.E.Write.contents c.play_lines-played.new.errors;
   played = c.play_lines-played.result;
   lines = c.play_lines-played.ensures.plays;
   goes = c.play_lines-played.ensures.goes;

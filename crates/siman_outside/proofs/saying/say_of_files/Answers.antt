@@ -32,5 +32,5 @@ returns-in-Err-open g c =
       first ∷ second ∷ [],
       adds_then _ _ _ (first ∷ []) (second ∷ []) c.in-Ok.ensures.done c.in-Err-open.ensures.done,
       all_two (WasHeld (g.O.Outside.holds c.args.outside.now)) first second c.in-Ok.ensures.held held,
-      (refl, refl, (Keeps-refl (g.W.Write.contents c.args.out.now), (c.unopened-in-Err-open.result, c.unopened-in-Err-open.ensures, refl))),
+      (refl, refl, (Keeps-refl (g.W.Write.contents c.args.out.now), (c.open_fault-in-Err-open.result, c.open_fault-in-Err-open.ensures, refl))),
     )

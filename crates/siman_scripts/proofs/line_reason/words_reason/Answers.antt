@@ -1,12 +1,12 @@
 use Rattle.std.proofs.Common.{◌≡◌, ℕ, List, [], ◌∷◌, length, map, drop, arith, length-drop}
 use Rattle.std.proofs.lemmas.List.{length-map}
-use Rattle.siman_scripts.specs.declared.form.Form.{Form}
+use Rattle.siman_scripts.specs.declared.form.LineForm.{LineForm}
 use Rattle.siman_scripts.specs.Forms.{next_word}
 use Rattle.siman_scripts.specs.LineReason.{end_reason, words_reason}
 use Rattle.siman_scripts.proofs.line_reason.words_reason.Goals as goal
 
 -- with no words left the end of the line tells
-ended : (f : Form) (column place : ℕ) (left all : List (ℕ × List ℕ)) → length left ≡ 0 → words_reason f place column left ≡ words_reason f 0 column all
+ended : (f : LineForm) (column place : ℕ) (left all : List (ℕ × List ℕ)) → length left ≡ 0 → words_reason f place column left ≡ words_reason f 0 column all
     → end_reason f (next_word f place) column ≡ words_reason f 0 column all
 ended f column place [] all n h = h
 ended f column place (p ∷ ps) all n h = absurd (omega arith)

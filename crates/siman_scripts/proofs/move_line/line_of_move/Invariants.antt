@@ -1,5 +1,5 @@
 use Rattle.std.proofs.Common.{◌≡◌, ◌+◌, ◌≤◌, length}
-use Rattle.siman_scripts.specs.Text.{lines_of}
+use Rattle.byte_files.specs.Text.{lines_of}
 use Rattle.siman_scripts.specs.MoveLine.{move_line, line_of_move}
 use Rattle.siman_scripts.proofs.move_line.line_of_move.Given as goal
 

@@ -1,5 +1,5 @@
 use Rattle.std.proofs.Common.{◌≡◌, map, arith}
-use Rattle.siman_scripts.specs.Text.{words_of}
+use Rattle.byte_files.specs.Text.{words_of}
 use Rattle.siman_scripts.proofs.Placed.{width-words}
 use Rattle.siman_scripts.proofs.placed_word.placed_words.Goals as goal
 

@@ -1,5 +1,5 @@
 use Rattle.std.proofs.Common.{◌≡◌, ◌+◌, ◌≤◌, length}
-use Rattle.siman_scripts.specs.Text.{lines_of}
+use Rattle.byte_files.specs.Text.{lines_of}
 use Rattle.siman_scripts.specs.Draft.{blank}
 use Rattle.siman_scripts.specs.Script.{lines_after}
 use Rattle.siman_scripts.proofs.script.take_lines.Given as goal

@@ -1,5 +1,5 @@
 use Rattle.std.proofs.Common.{◌≡◌, ◌+◌, ◌≤◌, length}
-use Rattle.siman_scripts.specs.Text.{lines_of}
+use Rattle.byte_files.specs.Text.{lines_of}
 use Rattle.siman_scripts.specs.Draft.{blank}
 use Rattle.siman_scripts.specs.Reason.{lines_reason}
 use Rattle.siman_scripts.proofs.script_reason.reason_of_lines.Given as goal

@@ -1,7 +1,7 @@
 -- The station at the index does the act, and all are served.
 use Rattle.std.proofs.Common.{arith}
 use Rattle.siman_lines.proofs.Offered.{follows_one, follows_then, stands_at}
-use Rattle.siman_trials.specs.declared.performed.Halt.TheVariants.{AtLine}
+use Rattle.siman_trials.specs.declared.performed.LinkMoveFault.TheVariants.{AtLine}
 use Rattle.siman_trials.specs.Moves.{MoveEnds}
 use Rattle.siman_trials.proofs.Moves.{at_fault, hindered, served, unserved}
 use Rattle.siman_trials.proofs.performed.make_move.Goals as goal

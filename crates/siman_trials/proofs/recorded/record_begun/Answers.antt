@@ -11,7 +11,7 @@ use Rattle.siman_lines.specs.AtLines.{Telling, AreFresh, Misfits}
 use Rattle.siman_scripts.specs.declared.act.Move.{Move}
 use Rattle.siman_stations.specs.declared.turn.Node.{Node}
 use Rattle.siman_trials.specs.declared.recorded.ExerciseFault.TheVariants.{Lines}
-use Rattle.siman_trials.specs.Ended.{Records, StandsAndRecords}
+use Rattle.siman_trials.specs.Ended.{Records, AttachesAndRecords}
 use Rattle.siman_stations.specs.World.{setting_of}
 use Rattle.siman_trials.specs.Recorded.{Leaves}
 use Rattle.siman_trials.proofs.Posts.{begun_at_lines}
@@ -39,7 +39,7 @@ returns-in-Ok-clause-leaves g c = λ w is new unused.
 
 -- which fault came of the lines
 not_stood : {L : Type 0} (told : Telling L) (w : SettingData) (nodes : List Node) (ls : List L) (moves : List Move) (old : Option (List ℕ)) (fault : AtLineFault)
-    → ((fault ≡ Line) × Misfits nodes ls) ⊎ (fault ≡ Memory) → StandsAndRecords told w nodes ls moves old old (Err (Lines fault))
+    → ((fault ≡ Line) × Misfits nodes ls) ⊎ (fault ≡ Memory) → AttachesAndRecords told w nodes ls moves old old (Err (Lines fault))
 not_stood told w nodes ls moves old fault (inl line) = inl (ap (λ (f : AtLineFault). Err (Lines f)) line.0, line.1, refl)
 not_stood told w nodes ls moves old fault (inr memory) = inr (inl (ap (λ (f : AtLineFault). Err (Lines f)) memory, refl))
 

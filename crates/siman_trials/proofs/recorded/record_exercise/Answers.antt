@@ -10,7 +10,7 @@ use Rattle.siman_stations.specs.declared.world_fault.WorldFault.{WorldFault}
 use Rattle.siman_stations.specs.declared.world_fault.WorldFault.TheVariants.{Stations, Memory}
 use Rattle.siman_stations.specs.World.{WorldData, are_world_stations}
 use Rattle.siman_trials.specs.declared.recorded.ExerciseFault.TheVariants.{World}
-use Rattle.siman_trials.specs.Ended.{StandsAndRecords, ComesToEnd}
+use Rattle.siman_trials.specs.Ended.{AttachesAndRecords, ComesToEnd}
 use Rattle.siman_trials.proofs.recorded.record_exercise.Goals as goal
 
 pub returns-in-Ok-clause-comes : goal.returns-in-Ok-clause-comes
@@ -21,7 +21,7 @@ returns-in-Ok-clause-comes g c =
       (
         c.in-Ok.begun.nodes.items,
         c.in-Ok.ensures.nodes,
-        subst (λ (v : SettingData). StandsAndRecords told v c.in-Ok.begun.nodes.items c.args.lines.items c.args.moves.items (g.W.Write.contents c.args.file)
+        subst (λ (v : SettingData). AttachesAndRecords told v c.in-Ok.begun.nodes.items c.args.lines.items c.args.moves.items (g.W.Write.contents c.args.file)
             (g.W.Write.contents c.record_begun.result.file) c.record_begun.result.ended) (ap (λ (r : PlainRecording). r.setting) c.in-Ok.ensures.recording)
             c.record_begun.ensures.comes,
       ),

@@ -7,21 +7,21 @@ use Rattle.exercise_conflict.proofs.logs.Logs.first_own.Goals as goal
 pub loop-next-init : goal.loop-next-init
 loop-next-init g c = record {
   within = c.first-next.ensures.within;
-  none = none_skipped c.args.self.now c.args.station (g.Q.Question.test c.args.question.now) 0 c.first-next.result c.requires.own c.first-next.ensures.first
-      (first_none (g.Q.Question.test c.args.question.now));
+  none = none_skipped c.args.self.now c.args.station (g.Q.NumberTest.test c.args.question.now) 0 c.first-next.result c.requires.own c.first-next.ensures.first
+      (first_none (g.Q.NumberTest.test c.args.question.now));
 }
 
 pub returns-then-passes : goal.returns-then-passes
 returns-then-passes g c =
-    sym (first_here (g.Q.Question.test c.args.question.now) c.loop-next.next c.args.end c.loop-next.invariant.none (sym c.passes.ensures ∙ c.if-passes.true)
+    sym (first_here (g.Q.NumberTest.test c.args.question.now) c.loop-next.next c.args.end c.loop-next.invariant.none (sym c.passes.ensures ∙ c.if-passes.true)
     c.loop-next-test.true)
 
 pub loop-next-preserved : goal.loop-next-preserved
 loop-next-preserved g c = record {
   within = c.follower-next.ensures.within;
-  none = none_skipped c.args.self.now c.args.station (g.Q.Question.test c.args.question.now) (c.loop-next.next + 1) c.follower-next.result c.requires.own
+  none = none_skipped c.args.self.now c.args.station (g.Q.NumberTest.test c.args.question.now) (c.loop-next.next + 1) c.follower-next.result c.requires.own
       c.follower-next.ensures.follows
-      (first_still (g.Q.Question.test c.args.question.now) c.loop-next.next c.loop-next.invariant.none (sym c.passes.ensures ∙ c.if-passes.false));
+      (first_still (g.Q.NumberTest.test c.args.question.now) c.loop-next.next c.loop-next.invariant.none (sym c.passes.ensures ∙ c.if-passes.false));
 }
 
 pub loop-next-smaller : goal.loop-next-smaller
@@ -30,4 +30,4 @@ loop-next-smaller g c = omega (arith, c.follower-next.ensures.follows.on, c.foll
 pub returns : goal.returns
 returns g c =
     let end : c.loop-next.next ≡ c.args.end = omega (arith, c.loop-next-test.false, c.loop-next.invariant.within) in
-    sym (ap (first_below (g.Q.Question.test c.args.question.now)) (sym end) ∙ c.loop-next.invariant.none)
+    sym (ap (first_below (g.Q.NumberTest.test c.args.question.now)) (sym end) ∙ c.loop-next.invariant.none)

@@ -6,7 +6,7 @@ use Rattle.exercise_conflict.proofs.logs.Logs.first_own.Given as goal
 abbrev pub invariant-loop-next : goal.invariant-loop-next
 invariant-loop-next g l = record {
   within : l.next ≤ l.end;
-  none : first_below (g.Q.Question.test l.question) l.next ≡ None;
+  none : first_below (g.Q.NumberTest.test l.question) l.next ≡ None;
 }
 
 abbrev pub decreases-loop-next : goal.decreases-loop-next

@@ -12,4 +12,4 @@ returns-then-entry-entry_count-clause-source g c =
 pub returns-clause-within : goal.returns-clause-within
 returns-clause-within g c =
     let r = g.L.ExerciseLog.recording c.self.inside.log.now in
-    rw (← c.self.view_is) (subst (λ o. IfSome o (λ e. e < length r.entries)) (sym c.source_kept.ensures) (source_within r c.args.entry))
+    rw (← c.self.view_is) (subst (λ o. IfSome o (λ e. e < length r.entries)) (sym c.column_source.ensures) (source_within r c.args.entry))

@@ -9,5 +9,5 @@ returns g c =
     let n : ℕ = c.args.entry in
     let same : r ≡ c.args.self.now = c.self.view_is in
     let within : n < length r.entries = subst (λ (x : PlainRecording). n < length x.entries) (sym same) c.requires in
-    subst (λ (x : PlainRecording). c.key_kept.result ≡ key_at x n) same
-    (c.key_kept.ensures (key_at r) (length r.entries) c.self.invariant.first.orders within)
+    subst (λ (x : PlainRecording). c.key_of_entry.result ≡ key_at x n) same
+    (c.key_of_entry.ensures (key_at r) (length r.entries) c.self.invariant.first.orders within)

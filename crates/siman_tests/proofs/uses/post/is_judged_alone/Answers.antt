@@ -9,7 +9,7 @@ use Rattle.siman_application.specs.OwnLog.{AreOneOrder}
 use Rattle.siman_stations.specs.declared.turn.Node.{Node}
 use Rattle.siman_lines.specs.KeptAtLine.{IsWritten, IsKept}
 use Rattle.siman_lines.specs.LineDatagrams.{Datagrams}
-use Rattle.siman_operator.specs.Noting.{sent_through}
+use Rattle.siman_operator.specs.Noting.{datagrams_sent}
 use Rattle.siman_operator.specs.Explained.{HearsOwnSent}
 use Rattle.siman_tests.proofs.uses.post.is_judged_alone.Goals as goal
 
@@ -37,7 +37,7 @@ pub returns : goal.returns
 returns g c = λ before start w a bs d open_form one index is go.
     let goes = c.posts_keep_their_recordings.ensures.lines a bs d go in
     let left = c.posts_keep_their_recordings.ensures.leaves before start w a d is goes in
-    let handed = Some (sent_through d.station.line) in (
+    let handed = Some (datagrams_sent d.station.line) in (
       left.0.0,
       λ orders hears.
           of_all c.own_recordings_are_explained.ensures before d.station.node d.recorder handed w left.0.0 left.0.1.setting open_form one left.0.1.written

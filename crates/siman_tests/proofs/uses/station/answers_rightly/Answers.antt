@@ -20,5 +20,5 @@ returns c = λ s b q stamp unordered ranges address read small.
     let k = c.args.node.now.manager in
     let begun = c.halves_follow_logs.ensures.begun false s a k false unordered ranges in
     let took = c.halves_follow_logs.ensures.takes false s a [] k [] false b q stamp begun (either begun.missing not_so) read small in
-    c.deeds_of_stations_stand.ensures.deeds false s a (with_request a [] q) (taken k q) (sent_after s (reply_after a [] q stamp) (Get s b ∷ [])) false took address
+    c.deeds_have_no_cause.ensures.deeds false s a (with_request a [] q) (taken k q) (sent_after s (reply_after a [] q stamp) (Get s b ∷ [])) false took address
     (inl (either took.passed not_so))

@@ -1,6 +1,0 @@
-use Rattle.std.proofs.Common.{refl}
-use Rattle.exercise_audit.proofs.Written.{none_written}
-use Rattle.exercise_audit.proofs.explained.runs_as_written.Goals as goal
-
-pub loop-entry-init : goal.loop-entry-init
-loop-entry-init g c = (refl, none_written c.args.findings.now)

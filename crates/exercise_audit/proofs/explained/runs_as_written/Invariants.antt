@@ -1,7 +1,0 @@
-use Rattle.std.proofs.Common.{◌≡◌}
-use Rattle.exercise_audit.specs.Written.{RunsAsWritten}
-use Rattle.exercise_audit.proofs.explained.runs_as_written.Given as goal
-
--- Nothing that was found changes, and the entries so far are a run.
-abbrev pub invariant-loop-entry : goal.invariant-loop-entry
-invariant-loop-entry g l = (l.findings ≡ l.initial.findings) × RunsAsWritten l.findings l.entry

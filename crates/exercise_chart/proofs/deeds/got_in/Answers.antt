@@ -1,6 +1,0 @@
-use Rattle.exercise_review.specs.Entries.{bytes_got}
-use Rattle.exercise_chart.proofs.Firsts.{firsts_none}
-use Rattle.exercise_chart.proofs.deeds.got_in.Goals as goal
-
-pub loop-entry-init : goal.loop-entry-init
-loop-entry-init g c = firsts_none (bytes_got (g.L.ExerciseLog.recording c.args.log.now)) c.no_deeds-firsts.result c.no_deeds-firsts.ensures

@@ -1,8 +1,0 @@
-use Rattle.std.proofs.Common.{◌≡◌}
-use Rattle.exercise_review.specs.Room.{lists_below}
-use Rattle.exercise_chart.specs.Outside.{outside_shown}
-use Rattle.exercise_chart.proofs.outside.outside_of.Given as goal
-
--- What came from outside in the rows so far.
-abbrev pub invariant-loop-number : goal.invariant-loop-number
-invariant-loop-number g l = l.found.items ≡ lists_below (outside_shown l.scene) l.number

@@ -1,7 +1,0 @@
-use Rattle.exercise_chart.proofs.signs.put_deed.Goals as goal
-
-pub returns-in-SentOther : goal.returns-in-SentOther
-returns-in-SentOther c = rw c.in-SentOther.is c.put_sign-in-SentOther.ensures
-
-pub returns-in-ReceivedOther : goal.returns-in-ReceivedOther
-returns-in-ReceivedOther c = rw c.in-ReceivedOther.is c.put_sign-in-ReceivedOther.ensures

@@ -1,9 +1,0 @@
--- The signs so far.
-use Rattle.std.proofs.Common.{◌≡◌, ◌++◌, take, string_bytes}
-use Rattle.std.specs.List.{flat_map}
-use Rattle.exercise_chart.specs.declared.row.Row.{Row}
-use Rattle.exercise_chart.specs.Signs.{deed_text}
-use Rattle.exercise_chart.proofs.signs.put_deeds.Given as goal
-
-abbrev pub invariant-loop-row : goal.invariant-loop-row
-invariant-loop-row l = string_bytes l.text ≡ string_bytes l.initial.text ++ flat_map (λ (row : Row). deed_text l.frame row.at row.did) (take l.row-index l.rows)

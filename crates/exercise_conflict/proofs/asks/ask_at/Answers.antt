@@ -1,8 +1,0 @@
-use Rattle.exercise_conflict.specs.Lacks.{ask_at}
-use Rattle.std.proofs.Common.{arith}
-use Rattle.std.proofs.lemmas.Grind.{elements}
-use Rattle.exercise_conflict.proofs.asks.ask_at.Goals as goal
-
-pub returns-then-entry-entry_count : goal.returns-then-entry-entry_count
-unfolding ask_at
-returns-then-entry-entry_count g c = grind (arith, elements)

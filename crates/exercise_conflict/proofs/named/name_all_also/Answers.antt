@@ -1,9 +1,0 @@
-use Rattle.std.proofs.Common.{arith}
-use Rattle.std.proofs.lemmas.Grind.{common_steps}
-use Rattle.exercise_conflict.proofs.named.name_all_also.Goals as goal
-
-pub loop-also-preserved : goal.loop-also-preserved
-loop-also-preserved c = grind (arith, common_steps)
-
-pub returns : goal.returns
-returns c = grind (arith, common_steps)

@@ -1,7 +1,0 @@
-use Rattle.std.proofs.Common.{◌≡◌, ◌++◌, take, map}
-use Rattle.exercise_conflict.specs.declared.way.Also.{Also}
-use Rattle.exercise_conflict.proofs.named.name_all_also.Given as goal
-
--- The entries that are named so far.
-abbrev pub invariant-loop-also : goal.invariant-loop-also
-invariant-loop-also l = l.entries.items ≡ l.initial.entries.items ++ map (λ (a : Also). a.entry) (take l.also-index l.all)

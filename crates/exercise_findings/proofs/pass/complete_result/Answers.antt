@@ -1,0 +1,13 @@
+use Rattle.exercise_findings.proofs.pass.complete_result.Goals as goal
+
+pub returns : goal.returns
+returns g c = record {
+  tied = c.requires.pass.tied;
+  causes = c.requires.pass.causes;
+  changes = c.requires.pass.changes;
+  earlier = c.requires.pass.earlier;
+  senders = tt;
+  sources = c.requires.pass.later c.requires.found;
+  ables = c.requires.pass.ables;
+  others = c.requires.pass.others;
+}

@@ -1,6 +1,0 @@
-use Rattle.exercise_review.specs.Heard.{AreHeard}
-use Rattle.exercise_review.proofs.hearing.heard_in.Given as goal
-
--- What was received at the entries so far is kept.
-abbrev pub invariant-loop-entry : goal.invariant-loop-entry
-invariant-loop-entry g l = AreHeard (g.L.ExerciseLog.recording l.log) l.entry l.heard

@@ -1,0 +1,22 @@
+use Rattle.std.proofs.Common.{◌≡◌, ℕ, List, Some, None, sym, ap, ◌∙◌}
+use Rattle.std.specs.Borrow.{Bor}
+use Rattle.std.specs.Prelude.{option_map}
+use Rattle.exercise_model.specs.Account.{pair_of}
+use Rattle.exercise_model.specs.Recording.{PlainRecording}
+use Rattle.exercise_review.specs.Entries.{bytes_sent}
+use Rattle.exercise_review.specs.Register.{key_at}
+use Rattle.exercise_review.proofs.Options.{nothing}
+use Rattle.exercise_review.proofs.Stamped.{sent_again}
+use Rattle.exercise_review.proofs.keys.resend_index_key.Goals as goal
+
+pub returns-in-Some : goal.returns-in-Some
+returns-in-Some g c =
+    let r : PlainRecording = c.args.findings.now in
+    let s : ℕ = c.args.station in
+    let j : ℕ = c.in_ok-earlier.earlier in
+    let a : List ℕ = c.in-Some.other.now in
+    let sent : bytes_sent r s j ≡ Some a =
+    sym (ap (λ (x : PlainRecording). bytes_sent x s j) c.log.ensures) ∙ sym c.bytes_sent_in.ensures ∙ ap (option_map (λ (x : Bor (List ℕ)). x.now)) c.in-Some.is in
+    let none : pair_of r j ≡ None = sym c.pair.ensures ∙ nothing c.pair.result (sym c.is_some.ensures ∙ c.if-is_some.false) in
+    c.indexed_key_place.ensures (key_at r) c.args.entry c.requires.tied c.if-earlier-entry.false
+    ∙ sent_again r s j c.args.entry a c.args.bytes.now sent c.requires.sent none c.requires.pair (c.is_resent.ensures c.if-is_resent.true)

@@ -29,6 +29,12 @@ def first_lines(errors):
     lines = errors.split(b"\n")
     if lines[-1] == b"" and len(lines) > 1 and lines[-2].startswith(b"warning: "):
         del lines[-2]
+    return without_reasons(b"\n".join(lines))
+
+
+def without_reasons(errors):
+    """What is told on standard error, with its warnings, without the second lines of faults."""
+    lines = errors.split(b"\n")
     before = [b"", *lines]
     return b"\n".join(line for above, line in zip(before, lines) if not (line.startswith(b"  ") and FAULT.fullmatch(above)))
 

@@ -9,6 +9,7 @@ from .worlds import ORDERS, Stopped, World
 __all__ = ["LONGEST_LINE", "Post"]
 
 LONGEST_LINE = 65_536
+EVERY = 65535  # every site, or every application of one
 
 
 class Post(World):
@@ -17,9 +18,12 @@ class Post(World):
 
     def __init__(self, script, address):
         super().__init__()
+        self.known = set()
         for line in script.decode("ascii").split("\n"):
             if line and not line.startswith("#"):
                 name, part, words = read_line(line)
+                if name == "station":
+                    self.known.add(words[0])
                 if name == "exercise" or part in (2, 3) and words[0] == address:
                     self.take_line(line)
         self.address = address
@@ -55,6 +59,13 @@ class Post(World):
             self.tick(self.address)
         else:
             self.order(self.address, ORDERS[name], words[1], [word[0] for word in words[2:]])
+            self.warn(*words[1][:2])
+
+    def warn(self, site, application):
+        """An order for a station that the script has not is warned of; it was sent, and the status stays."""
+        if site != EVERY and not any(one[0] == site and application in (one[1], EVERY) for one in self.known):
+            text = f"the script has no station {site}:{application}: add it there, or see whether the address is right"
+            self.told.append(f"warning: line {self.number}: {text}\n")
 
     def tell_state(self, entity):
         if entity not in ENTITIES:

@@ -1,5 +1,5 @@
 #!/usr/bin/env python3
-"""Compares the table of commands in the README with that of the program, `ROWS` in siman_command_line.
+"""Compares the table of commands in the README with that of the program, `ROWS` in siman_outside.
 
 Each command of the program needs its row in the README, with the words that usage gives it, in the order of the help;
 and each row of the README that is a command by its name has to be one of the program. Its last line is `N commands, M
@@ -19,7 +19,7 @@ BEHIND = {
     "Picture": ["[from=STEP]", "[to=STEP]", "[--force]"],  # in the place of the word STEP
     **dict.fromkeys(("Audit", "World", "Convert", "Mend"), ["[--force]"]),
 }  # fmt: skip
-TABLE = TOP / "crates" / "siman_command_line" / "src" / "table.rt"
+TABLE = TOP / "crates" / "siman_outside" / "src" / "table.rt"
 
 
 def rows_of_program():

@@ -1,4 +1,4 @@
-"""The commands of the program, read from their table in siman_command_line, and from the table of the README."""
+"""The commands of the program, read from their table in siman_outside, and from the table of the README."""
 import ast
 import re
 from pathlib import Path

@@ -11,7 +11,7 @@ use Rattle.exercise_review.specs.declared.fate.Fate.{Fate}
 use Rattle.exercise_review.specs.declared.fate.Fate.TheVariants.{Done, Answered, Refused, Pending, Unheard, Unanswered, Lost, Unknown, Nobody}
 use Rattle.exercise_review.specs.declared.filter.Filter.{Filter}
 use Rattle.siman_print.specs.declared.spelling.Spelling.{Spelling}
-use Rattle.siman_command_line.specs.declared.commands.ViewWord.{ViewWord}
+use Rattle.siman_outside.specs.declared.commands.ViewWord.{ViewWord}
 use Rattle.siman_outside.specs.declared.fault.Fault.{Fault}
 use Rattle.siman_outside.specs.Ending.{of_recording}
 use Rattle.siman_analysis_commands.specs.FilterWords.{filter_of}

@@ -15,8 +15,8 @@ use Rattle.exercise_review.specs.declared.party.SiteApplication.{SiteApplication
 use Rattle.exercise_review.specs.Fate.{fate_text}
 use Rattle.byte_files.specs.Text.{cut_at, number_to}
 use Rattle.siman_scripts.specs.Statement.{◌>>=◌, target_of}
-use Rattle.siman_command_line.specs.declared.commands.ViewWord.{ViewWord}
-use Rattle.siman_command_line.specs.declared.commands.ViewWord.TheVariants.{Review, Log}
+use Rattle.siman_outside.specs.declared.commands.ViewWord.{ViewWord}
+use Rattle.siman_outside.specs.declared.commands.ViewWord.TheVariants.{Review, Log}
 
 -- `S:A`, a site and an application: each number in 0 to 65535
 abbrev pub outsider_of : List ℕ → Option SiteApplication

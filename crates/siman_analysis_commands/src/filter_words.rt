@@ -6,7 +6,7 @@ ghost use Rattle.siman_analysis_commands.specs.FilterWords.{outsider_of, request
 use byte_files::{number_16, number_32, split_once};
 use dis_records::Kind;
 use exercise_review::{EntryName, Fate, Filter, SiteApplication};
-use siman_command_line::ViewWord;
+use siman_outside::ViewWord;
 use siman_scripts::target_of;
 
 /// The site and the application that a word `S:A` spells.

@@ -5,12 +5,12 @@ use Rattle.std.specs.Io.KnownBytes.{Keeps}
 use Rattle.std.specs.declared.io.ErrorKind.{ErrorKind}
 use Rattle.byte_files.specs.Text.{lines_of}
 use Rattle.siman_print.specs.declared.spelling.Spelling.{Spelling}
-use Rattle.siman_command_line.specs.declared.commands.NoWord.{NoWord}
-use Rattle.siman_command_line.specs.declared.commands.OneWord.{OneWord}
-use Rattle.siman_command_line.specs.declared.commands.TwoWords.{TwoWords}
-use Rattle.siman_command_line.specs.declared.commands.ViewWord.{ViewWord}
-use Rattle.siman_command_line.specs.Words.{Asked, Trial, Bare, One, Two, View, asked, asks_help}
-use Rattle.siman_command_line.specs.Words as asks
+use Rattle.siman_outside.specs.declared.commands.NoWord.{NoWord}
+use Rattle.siman_outside.specs.declared.commands.OneWord.{OneWord}
+use Rattle.siman_outside.specs.declared.commands.TwoWords.{TwoWords}
+use Rattle.siman_outside.specs.declared.commands.ViewWord.{ViewWord}
+use Rattle.siman_outside.specs.Words.{Asked, Trial, Bare, One, Two, View, asked, asks_help}
+use Rattle.siman_outside.specs.Words as asks
 use Rattle.siman_lines.specs.AtLines.{Telling}
 use Rattle.siman_outside.specs.declared.fault.Ended.{Ended}
 use Rattle.siman_outside.specs.declared.fault.Fault.{Fault}

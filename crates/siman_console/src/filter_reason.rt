@@ -1,7 +1,7 @@
 //! Reasons for words that are no filter of a view, or select no steps of a picture.
 
 use crate::pieces::{TextPieces, words};
-use siman_command_line::ViewWord;
+use siman_outside::ViewWord;
 
 /// The values of a key that both views have, if the word begins with one.
 fn shared_words(word: &str) -> Option<&'static str> {

@@ -32,17 +32,15 @@ pub use program::run;
 pub use siman_analysis_commands::{
     audit_command, filter_of, log_command, review_command, why_command, why_not_command,
 };
-pub use siman_command_line::{
-    CommandLine, JoinForm, NoWord, OneWord, Task, TwoWords, ViewWord, asks_help, read_words,
-};
 pub use siman_exercise_commands::{perform, trial, world_command};
 pub use siman_file_commands::{
     LARGEST_OLD_RECORDING, answers_follow_the_grammar, check_command, check_files, pdu_command,
     pdus_command, show_command,
 };
 pub use siman_outside::{
-    Ended, Endpoint, FileKind, FilesFault, Known, LARGEST_CERTIFICATE, LARGEST_RECORDING, Outside,
-    SystemCall, SystemFault, TrialFault, Unread, file_kind_of,
+    CommandLine, Ended, Endpoint, FileKind, FilesFault, JoinForm, Known, LARGEST_CERTIFICATE,
+    LARGEST_RECORDING, NoWord, OneWord, Outside, SystemCall, SystemFault, Task, TrialFault,
+    TwoWords, Unread, ViewWord, asks_help, file_kind_of, read_words,
 };
 pub use siman_print::Spelling;
 pub use siman_scripts::{

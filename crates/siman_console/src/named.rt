@@ -1,6 +1,6 @@
 //! The names in a command line, which explain a fault.
 
-use siman_command_line::{Task, TwoWords, ViewWord};
+use siman_outside::{Task, TwoWords, ViewWord};
 
 /// The names in a command line; a missing name is empty.
 #[derive(Clone, Copy)]

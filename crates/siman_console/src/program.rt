@@ -5,24 +5,21 @@ ghost use Rattle.std.specs.IoError.{error_kind};
 ghost use Rattle.std.specs.List.{All};
 ghost use Rattle.siman_outside.specs.Outside.{Deed, Adds, WasHeld, Stream, outcome_of};
 ghost use Rattle.siman_console.specs.Program.{DoesOne, DoesView, EndsTwo, EndsTask, EndsExplained, EndsWords, EndsProgram, words_by};
-ghost use Rattle.siman_command_line.specs.Words.{asked_by};
+ghost use Rattle.siman_outside.specs.Words.{asked_by};
 ghost use Rattle.siman_lines.specs.AtLines.{Telling};
 
 use crate::explaining::explained;
 use crate::named::{named_by, nothing_named};
 use crate::usage::end_usage;
 use siman_analysis_commands::{Finding, log_named, review_named, why_named};
-use siman_command_line::{
-    NoWord, OneWord, Task, TwoWords, ViewWord, asks_help, read_words, usage_text,
-};
 use siman_exercise_commands::{TrialCommand, WorldFile, end_live, end_station};
 use siman_file_commands::{
     Carried, CheckCommand, MendedFile, ShowCommand, chart_named, end_lines, join_pieces, show_word,
     word_of,
 };
 use siman_outside::{
-    Ended, Ending, Fault, Notes, OfFile, Outside, conclude, make_of_file, of_error, say_of_file,
-    say_of_files,
+    Ended, Ending, Fault, NoWord, Notes, OfFile, OneWord, Outside, Task, TwoWords, ViewWord,
+    asks_help, conclude, make_of_file, of_error, read_words, say_of_file, say_of_files, usage_text,
 };
 use siman_print::Spelling;
 use std::alloc::{AllocError, Global};

@@ -6,8 +6,7 @@ ghost use Rattle.siman_outside.specs.Outside.{Stream, Outcome, outcome_of};
 ghost use Rattle.siman_console.specs.Program.{EndsUsage};
 
 use byte_files::put;
-use siman_command_line::terminal_text;
-use siman_outside::{Ended, Ending, Fault, conclude};
+use siman_outside::{Ended, Ending, Fault, conclude, terminal_text};
 use std::alloc::{AllocError, Global};
 use std::io::Write;
 

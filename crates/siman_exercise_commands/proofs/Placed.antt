@@ -3,7 +3,7 @@ use Rattle.std.proofs.Common.{◌≡◌, Some, inl, inr, refl}
 use Rattle.std.specs.Prelude.{Err}
 use Rattle.dis_records.specs.Address.{Pair}
 use Rattle.siman_scripts.specs.Statement.{address_of}
-use Rattle.siman_command_line.specs.Words.{StationAsked}
+use Rattle.siman_outside.specs.Words.{StationAsked}
 use Rattle.siman_outside.specs.declared.endpoint.Endpoint.{Endpoint}
 use Rattle.siman_outside.specs.declared.fault.Fault.{Fault}
 use Rattle.siman_outside.specs.Endpoints.{endpoint_of}

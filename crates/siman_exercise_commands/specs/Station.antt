@@ -17,7 +17,7 @@ use Rattle.siman_operator.specs.declared.scripted.SetUpFault.TheVariants as set_
 use Rattle.siman_operator.specs.declared.session_report.SessionReport.{SessionReport}
 use Rattle.siman_operator.specs.Recorded.{open_setting, Records, IsLeft}
 use Rattle.siman_operator.specs.Scripted.{IsSetUp, SetsUp}
-use Rattle.siman_command_line.specs.Words.{StationAsked}
+use Rattle.siman_outside.specs.Words.{StationAsked}
 use Rattle.siman_outside.specs.declared.endpoint.Endpoint.{Endpoint}
 use Rattle.siman_outside.specs.declared.fault.Ended.{Ended}
 use Rattle.siman_outside.specs.declared.fault.Fault.{Fault}

@@ -7,22 +7,21 @@ ghost use Rattle.siman_outside.specs.Outside.{Stream, outcome_of, Deed, Found, A
 ghost use Rattle.siman_scripts.specs.Script.{script_at};
 ghost use Rattle.siman_operator.specs.declared.reading.TheConstants.{LONGEST_LINE};
 ghost use Rattle.siman_operator.specs.Recorded.{IsReady};
-ghost use Rattle.siman_command_line.specs.Words.{named_by};
+ghost use Rattle.siman_outside.specs.Words.{named_by};
 ghost use Rattle.siman_exercise_commands.specs.Explained.{TextRead, text_read, GivesReason};
 ghost use Rattle.siman_exercise_commands.specs.Station.{of_set_up, Streams, FindsAddress, FindsEndpoint, FindsEndpoints, Places, SetsUpText, SetsUpFile, IsOfScript, CreatesPlayed, IsAttached, HasLine, PlaysSetUp, PlaysFile, EndsPlayed, EndsStation};
 
 use crate::explained::refused;
 use crate::live::creation_fault;
 use dis_records::Address;
-use siman_command_line::StationWords;
 use siman_lines::Line;
 use siman_operator::{
     LONGEST_LINE, ReadyStation, SessionRecording, SessionReport, SetUp, SetUpFault, attach_station,
     record_session, set_up,
 };
 use siman_outside::{
-    Ended, Ending, Endpoint, Fault, Outside, conclude, end, endpoint_of, of_error, open_fault,
-    read_text,
+    Ended, Ending, Endpoint, Fault, Outside, StationWords, conclude, end, endpoint_of, of_error,
+    open_fault, read_text,
 };
 use siman_scripts::{LARGEST_SCRIPT, Script, address_of, read_script};
 use siman_stations::WorldFault;

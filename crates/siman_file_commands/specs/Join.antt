@@ -13,8 +13,8 @@ use Rattle.exercise_recording.specs.declared.joined.Joined.{Joined}
 use Rattle.exercise_recording.specs.FaultText.{join_fault_text}
 use Rattle.exercise_recording.specs.Joining.{JoiningData, Recorded, Takes, Ends}
 use Rattle.exercise_recording.specs.Reading.{recording_at}
-use Rattle.siman_command_line.specs.declared.commands.JoinForm.{JoinForm}
-use Rattle.siman_command_line.specs.declared.commands.JoinForm.TheVariants as asked
+use Rattle.siman_outside.specs.declared.commands.JoinForm.{JoinForm}
+use Rattle.siman_outside.specs.declared.commands.JoinForm.TheVariants as asked
 use Rattle.siman_print.specs.Line.{Line, Number, Word, Keyed, named_line}
 use Rattle.siman_print.specs.Spelled.{line_text}
 use Rattle.siman_outside.specs.declared.fault.Fault.{Fault}

@@ -7,10 +7,9 @@ ghost use Rattle.siman_file_commands.specs.Join.{word_of, opened_by, seen_by, fo
 
 use exercise_model::Form;
 use exercise_recording::{FormWord, JoinFault, Joined, Joining, Joint};
-use siman_command_line::JoinForm;
 use siman_outside::{
-    Fault, JoinLimit, LARGEST_RECORDING, Making, Outside, flush_and_print, make_file, open_input,
-    spare,
+    Fault, JoinForm, JoinLimit, LARGEST_RECORDING, Making, Outside, flush_and_print, make_file,
+    open_input, spare,
 };
 use siman_print::{Field, Value, named_line};
 use std::alloc::{AllocError, Global};

@@ -6,3 +6,4 @@ mod Shown
 mod Searches
 mod Verdicts
 pub mod Offered
+mod Lasts

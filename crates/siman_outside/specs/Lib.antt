@@ -10,3 +10,4 @@ pub mod Passing
 pub mod Recorded
 pub mod FileKinds
 pub mod Notes
+pub mod Words

@@ -1,8 +1,8 @@
 -- What standard input asks for is answered with no file; what words ask for, as their files have it.
 use Rattle.std.proofs.Common.{◌≡◌, ℕ, List, [], Option, None, refl}
 use Rattle.std.proofs.lemmas.List.Elements.{All-nil}
-use Rattle.siman_command_line.specs.declared.commands.NoWord.{NoWord}
-use Rattle.siman_command_line.specs.declared.commands.NoWord.TheVariants.{Pdus}
+use Rattle.siman_outside.specs.declared.commands.NoWord.{NoWord}
+use Rattle.siman_outside.specs.declared.commands.NoWord.TheVariants.{Pdus}
 use Rattle.byte_files.specs.Text.{lines_of}
 use Rattle.siman_outside.specs.Outside.{Has, Outcome, WasHeld}
 use Rattle.siman_console.specs.Program.{EndsBare}

@@ -4,7 +4,7 @@ use Rattle.std.specs.Io.KnownBytes.{Keeps}
 use Rattle.std.proofs.KnownBytes.{Keeps-refl}
 use Rattle.std.proofs.lemmas.List.Elements.{All-nil}
 use Rattle.siman_lines.specs.AtLines.{Telling}
-use Rattle.siman_command_line.specs.Words.{Asked, CommandLine, asked_by_name}
+use Rattle.siman_outside.specs.Words.{Asked, CommandLine, asked_by_name}
 use Rattle.siman_outside.specs.declared.fault.Fault.TheVariants.{Memory}
 use Rattle.siman_outside.specs.Ending.{Ends}
 use Rattle.siman_outside.specs.Outside.{Outcome, WasHeld, begun_by}

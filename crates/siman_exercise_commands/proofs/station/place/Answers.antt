@@ -1,5 +1,5 @@
 -- The first word that says of no place is told.
-use Rattle.siman_command_line.specs.Words.{named_by}
+use Rattle.siman_outside.specs.Words.{named_by}
 use Rattle.siman_exercise_commands.specs.Station.{Places}
 use Rattle.siman_outside.proofs.Offered.{at_fault}
 use Rattle.siman_exercise_commands.proofs.Placed.{bad_address, bad_bind, bad_peers}

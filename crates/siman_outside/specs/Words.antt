@@ -1,0 +1,337 @@
+-- The task that the words of a command line ask for (profile).
+use Rattle.std.specs.Prelude.{ℕ, ◌+◌, ◌-◌, Bool, true, false, not, List, [], ◌∷◌, length, map, nat_lt, nat_le, slice_index, ◌==◌, ◌&&◌, ◌||◌, codes, Option, Some, None, is_some, option_map, if◌then◌else◌}
+use Rattle.std.specs.List.{starts_with}
+use Rattle.std.specs.Str.{bytes_eq}
+use Rattle.siman_print.specs.declared.spelling.Spelling.{Spelling}
+use Rattle.siman_print.specs.declared.spelling.Spelling.TheVariants.{Text, Json}
+use Rattle.siman_outside.specs.declared.commands.NoWord.{NoWord}
+use Rattle.siman_outside.specs.declared.commands.NoWord.TheVariants.{Pdus}
+use Rattle.siman_outside.specs.declared.commands.OneWord.{OneWord}
+use Rattle.siman_outside.specs.declared.commands.OneWord.TheVariants.{Pdu, Show}
+use Rattle.siman_outside.specs.declared.commands.TwoWords.{TwoWords}
+use Rattle.siman_outside.specs.declared.commands.TwoWords.TheVariants.{Check, Audit, World, Live, Convert, Mend}
+use Rattle.siman_outside.specs.declared.commands.ViewWord.{ViewWord}
+use Rattle.siman_outside.specs.declared.commands.ViewWord.TheVariants.{Review, Log}
+use Rattle.siman_outside.specs.declared.commands.JoinForm.{JoinForm}
+use Rattle.siman_outside.specs.declared.commands.JoinForm.TheVariants.{Open, Closed}
+use Rattle.siman_outside.specs.declared.commands.StationWords.{StationWords}
+use Rattle.siman_outside.specs.declared.commands.Takes.{Takes}
+use Rattle.siman_outside.specs.declared.commands.Takes.TheVariants as shapes
+use Rattle.siman_outside.specs.declared.commands.Task.{Task}
+use Rattle.siman_outside.specs.declared.commands.Task.TheVariants as tasks
+
+-- the words of a station: a script, the station's address, its recording, its socket and its peers,
+-- and whether it listens to strangers too
+pub record StationAsked : Type 0 where
+  pub setup : List ℕ
+  pub address : List ℕ
+  pub recording : List ℕ
+  pub bind : List ℕ
+  pub peers : List (List ℕ)
+  pub anyone : Bool
+
+-- a task: a command, and the words that it takes
+pub data Asked : Type 0 where
+  Trial : Asked
+  Bare : NoWord → Asked
+  One : OneWord → (word : List ℕ) → Asked
+  -- a command, its two words, and whether an existing file with the second name is replaced, for a
+  -- command that makes one
+  Two : TwoWords → (first second : List ℕ) → (force : Bool) → Asked
+  -- the pieces of an exercise, the file to make, the form that it is to have, if the words give
+  -- one, and whether an existing file is replaced
+  Join : (pieces : List (List ℕ)) → (made : List ℕ) → Option JoinForm → (force : Bool) → Asked
+  -- a station that runs over the network
+  Station : StationAsked → Asked
+  -- a view of a recording, the words that choose among its rows, and their spelling
+  View : ViewWord → (recording : List ℕ) → (filters : List (List ℕ)) → Spelling → Asked
+  -- what contradicts what in a recording, or in a certificate of it, if the words name one
+  Why : (recording : List ℕ) → (certificate : Option (List ℕ)) → Spelling → Asked
+  -- the picture of a recording in the sequence of a certificate, the file to make, the words that
+  -- choose the shown steps, and whether an existing file is replaced
+  Chart : (recording certificate picture : List ℕ) → (steps : List (List ℕ)) → (force : Bool) → Asked
+
+-- the task with its words as texts, given the text of each word
+abbrev pub named_by : {S : Type 0} → (text : S → List ℕ) → StationWords S → StationAsked
+named_by text words = record {
+  setup = words.setup.now;
+  address = words.address.now;
+  recording = words.recording.now;
+  bind = words.bind.now;
+  peers = map text words.peers.now;
+  anyone = words.anyone;
+}
+
+abbrev pub asked_by : {S : Type 0} → (text : S → List ℕ) → Task S → Asked
+asked_by text tasks.Trial = Trial
+asked_by text (tasks.Bare command) = Bare command
+asked_by text (tasks.One command word) = One command word.now
+asked_by text (tasks.Two command first second force) = Two command first.now second.now force
+asked_by text (tasks.Join pieces made form force) = Join (map text pieces.now) made.now form force
+asked_by text (tasks.Station words) = Station (named_by text words)
+asked_by text (tasks.View view recording filters spelling) = View view recording.now (map text filters.now) spelling
+asked_by text (tasks.Why recording certificate spelling) = Why recording.now (option_map (λ word. word.now) certificate) spelling
+asked_by text (tasks.Chart recording certificate picture steps force) = Chart recording.now certificate.now picture.now (map text steps.now) force
+
+-- an option: a word that begins with a hyphen and is longer than one byte
+abbrev pub is_option : List ℕ → Bool
+is_option word = nat_lt 1 (length word) && (slice_index word 0 == 45)
+
+-- how many times a word occurs among words
+abbrev pub times : (wanted : List ℕ) → List (List ℕ) → ℕ
+times wanted [] = 0
+times wanted (word ∷ words) = if bytes_eq word wanted then times wanted words + 1 else times wanted words
+
+-- an option that some commands take, anywhere after the command
+abbrev pub is_choice : List ℕ → Bool
+is_choice word = bytes_eq word (codes "--json") || bytes_eq word (codes "--force")
+
+-- the words after a command without these options
+abbrev pub names_in : List (List ℕ) → List (List ℕ)
+names_in [] = []
+names_in (word ∷ words) = if is_choice word then names_in words else word ∷ names_in words
+
+-- the names after a command, and how many times `--json` and `--force` occur among them
+pub record Behind : Type 0 where
+  pub names : List (List ℕ)
+  pub json : ℕ
+  pub force : ℕ
+
+abbrev pub behind_of : List (List ℕ) → Behind
+behind_of words = record { names = names_in words; json = times (codes "--json") words; force = times (codes "--force") words }
+
+-- what the named command takes by a table, if it is in the table
+abbrev pub takes_of : List (List ℕ × Takes) → (name : List ℕ) → Option Takes
+takes_of [] name = None
+takes_of (row ∷ rows) name = if bytes_eq row.0 name then Some row.1 else takes_of rows name
+
+-- THE TABLE OF COMMANDS
+unfoldable pub takes_named : List ℕ → Option Takes
+takes_named = takes_of (
+    (codes "pdu", shapes.One Pdu) ∷ (codes "pdus", shapes.Nothing Pdus) ∷ (codes "show", shapes.One Show) ∷ (codes "check", shapes.Two Check)
+    ∷ (codes "audit", shapes.Two Audit) ∷ (codes "world", shapes.Two World) ∷ (codes "live", shapes.Two Live) ∷ (codes "station", shapes.Station) ∷ (codes "convert", shapes.Two Convert) ∷ (codes "mend", shapes.Two Mend)
+    ∷ (codes "join", shapes.Pieces) ∷ (codes "review", shapes.View Review) ∷ (codes "log", shapes.View Log) ∷ (codes "why", shapes.PerhapsTwo)
+    ∷ (codes "chart", shapes.Picture) ∷ [])
+
+-- a task of a command: exactly the words that it takes, none of them an option
+abbrev pub bare_asked : NoWord → List (List ℕ) → Option Asked
+bare_asked command [] = Some (Bare command)
+bare_asked command words = None
+
+abbrev pub one_asked : OneWord → List (List ℕ) → Option Asked
+one_asked command (word ∷ []) = if is_option word then None else Some (One command word)
+one_asked command words = None
+
+abbrev pub two_asked : TwoWords → (force : Bool) → List (List ℕ) → Option Asked
+two_asked command force (first ∷ second ∷ []) = if is_option first || is_option second then None else Some (Two command first second force)
+two_asked command force words = None
+
+-- the split of a word and the words after it, given the split of those
+abbrev pub before_last : List ℕ → Option (List (List ℕ) × List ℕ) → List (List ℕ) × List ℕ
+before_last word None = ([], word)
+before_last word (Some p) = (word ∷ p.0, p.1)
+
+-- the words before the last one, and the last one
+abbrev pub last_apart : List (List ℕ) → Option (List (List ℕ) × List ℕ)
+last_apart [] = None
+last_apart (word ∷ words) = Some (before_last word (last_apart words))
+
+abbrev pub has_option : List (List ℕ) → Bool
+has_option [] = false
+has_option (word ∷ words) = is_option word || has_option words
+
+-- a word that begins with `form=`, and the form that it names, if it names one
+abbrev pub is_form_word : List ℕ → Bool
+is_form_word word = starts_with (◌==◌) word (codes "form=")
+
+abbrev pub form_named : List ℕ → Option JoinForm
+form_named word = if bytes_eq word (codes "form=open") then Some Open else if bytes_eq word (codes "form=closed") then Some Closed else None
+
+abbrev pub form_behind : List (List ℕ) → Option (List (List ℕ) × List ℕ) → List (List ℕ) × Option JoinForm
+form_behind words None = (words, None)
+form_behind words (Some p) = if is_some (form_named p.1) then (p.0, form_named p.1) else (words, None)
+
+-- the words without a form at the end, and that form
+abbrev pub form_apart : List (List ℕ) → List (List ℕ) × Option JoinForm
+form_apart words = form_behind words (last_apart words)
+
+-- words without an option and without `form=`
+abbrev pub are_names : List (List ℕ) → Bool
+are_names [] = true
+are_names (word ∷ words) = not (is_option word || is_form_word word) && are_names words
+
+-- the smallest number of pieces: two, or one if a form is given
+abbrev pub fewest_pieces : Option JoinForm → ℕ
+fewest_pieces None = 2
+fewest_pieces (Some form) = 1
+
+-- JOIN needs enough pieces before the file to make, and a form nowhere but at the end
+abbrev pub pieces_asked : Option JoinForm → (force : Bool) → Option (List (List ℕ) × List ℕ) → Option Asked
+pieces_asked form force None = None
+pieces_asked form force (Some p) = if nat_le (fewest_pieces form) (length p.0) then Some (Join p.0 p.1 form force) else None
+
+abbrev pub join_asked : (force : Bool) → List (List ℕ) → Option Asked
+join_asked force words = let p = form_apart words in if are_names p.0 then pieces_asked p.1 force (last_apart p.0) else None
+
+abbrev pub anyone_behind : List (List ℕ) → Option (List (List ℕ) × List ℕ) → List (List ℕ) × Bool
+anyone_behind words None = (words, false)
+anyone_behind words (Some p) = if bytes_eq p.1 (codes "from=any") then (p.0, true) else (words, false)
+
+-- the words without `from=any` at the end, and whether it was there
+abbrev pub anyone_apart : List (List ℕ) → List (List ℕ) × Bool
+anyone_apart words = anyone_behind words (last_apart words)
+
+-- the station of these names, if they include a peer
+abbrev pub station_named : (anyone : Bool) → List (List ℕ) → Option Asked
+station_named anyone (setup ∷ address ∷ recording ∷ bind ∷ peers) =
+    if length peers == 0 then None
+    else Some (Station (record { setup = setup; address = address; recording = recording; bind = bind; peers = peers; anyone = anyone }))
+station_named anyone words = None
+
+-- STATION needs a script, an address, a recording, a socket's address and at least one peer;
+-- `from=any` is allowed at the end
+abbrev pub station_asked : List (List ℕ) → Option Asked
+station_asked words = let p = anyone_apart words in if has_option p.0 then None else station_named p.1 p.0
+
+-- the spelling of rows, given how many times `--json` occurs
+abbrev pub spelling_by : (json : ℕ) → Spelling
+spelling_by json = if json == 0 then Text else Json
+
+-- A VIEW needs a recording; the words after it choose among the rows
+abbrev pub view_asked : ViewWord → Spelling → List (List ℕ) → Option Asked
+view_asked view spelling [] = None
+view_asked view spelling (recording ∷ filters) =
+    if is_option recording || has_option filters then None else Some (View view recording filters spelling)
+
+-- WHY needs a recording, and takes a certificate
+abbrev pub why_asked : Spelling → List (List ℕ) → Option Asked
+why_asked spelling (recording ∷ []) = if is_option recording then None else Some (Why recording None spelling)
+why_asked spelling (recording ∷ certificate ∷ []) =
+    if is_option recording || is_option certificate then None else Some (Why recording (Some certificate) spelling)
+why_asked spelling words = None
+
+-- CHART needs a recording, its certificate and the file to make; the words after choose the shown
+-- steps
+abbrev pub chart_asked : (force : Bool) → List (List ℕ) → Option Asked
+chart_asked force (recording ∷ certificate ∷ picture ∷ steps) =
+    if has_option (recording ∷ certificate ∷ picture ∷ steps) then None else Some (Chart recording certificate picture steps force)
+chart_asked force words = None
+
+-- the commands that take `--json`
+abbrev pub takes_json : Takes → Bool
+takes_json (shapes.View view) = true
+takes_json shapes.PerhapsTwo = true
+takes_json takes = false
+
+-- the commands that make a file and can replace an existing one, and so take `--force`
+abbrev pub makes_file : TwoWords → Bool
+makes_file Check = false
+makes_file Live = false
+makes_file command = true
+
+abbrev pub takes_force : Takes → Bool
+takes_force (shapes.Two command) = makes_file command
+takes_force shapes.Pieces = true
+takes_force shapes.Picture = true
+takes_force takes = false
+
+-- the largest number of times that something may occur: once if it is allowed
+abbrev pub most : Bool → ℕ
+most true = 1
+most false = 0
+
+-- A WORD `-` IS STANDARD INPUT, which is read once; a station reads its lines there
+abbrev pub reads_lines : Takes → Bool
+reads_lines shapes.Station = true
+reads_lines takes = false
+
+-- each option occurs at most once, if the command takes it, and standard input is read at most once
+abbrev pub are_taken : Takes → Behind → Bool
+are_taken takes b =
+    nat_le b.json (most (takes_json takes))
+    && (nat_le b.force (most (takes_force takes)) && nat_le (times (codes "-") b.names) (most (not (reads_lines takes))))
+
+abbrev pub taken : Takes → Spelling → (force : Bool) → List (List ℕ) → Option Asked
+taken (shapes.Nothing command) spelling force names = bare_asked command names
+taken (shapes.One command) spelling force names = one_asked command names
+taken (shapes.Two command) spelling force names = two_asked command force names
+taken shapes.Pieces spelling force names = join_asked force names
+taken shapes.Station spelling force names = station_asked names
+taken (shapes.View view) spelling force names = view_asked view spelling names
+taken shapes.PerhapsTwo spelling force names = why_asked spelling names
+taken shapes.Picture spelling force names = chart_asked force names
+
+-- the task of the words after a command
+abbrev pub asked_behind : Option Takes → Behind → Option Asked
+asked_behind None b = None
+asked_behind (Some takes) b = if are_taken takes b then taken takes (spelling_by b.json) (not (b.force == 0)) b.names else None
+
+-- a command line: its command, if it names one, and the words after it
+pub record CommandLine : Type 0 where
+  pub command : Option (List ℕ)
+  pub behind : Behind
+
+-- the command line of words; the first is the program's name
+abbrev pub line_of : List (List ℕ) → CommandLine
+line_of (program ∷ name ∷ words) = record { command = Some name; behind = behind_of words }
+line_of words = record { command = None; behind = behind_of [] }
+
+abbrev pub asked_by_name : Option (List ℕ) → Behind → Option Asked
+asked_by_name None b = Some Trial
+asked_by_name (Some name) b = asked_behind (takes_named name) b
+
+-- THE TASK OF WORDS, the program's name first; other words ask for help, or are a fault of usage
+abbrev pub asked : List (List ℕ) → Option Asked
+asked words = let line = line_of words in asked_by_name line.command line.behind
+
+-- `--help`, or `-h` and more; `--version`, or `-V` and more
+abbrev pub is_short : (letter : ℕ) → List ℕ → Bool
+is_short letter word = nat_lt 1 (length word) && ((slice_index word 0 == 45) && (slice_index word 1 == letter))
+
+abbrev pub is_help : List ℕ → Bool
+is_help word = bytes_eq word (codes "--help") || is_short 104 word
+
+abbrev pub is_version : List ℕ → Bool
+is_version word = bytes_eq word (codes "--version") || is_short 86 word
+
+-- how many times an option is still allowed after this word
+abbrev pub left_of : (option word : List ℕ) → (left : ℕ) → ℕ
+left_of option word left = if bytes_eq word option then left - 1 else left
+
+-- a refused word: an option that is not allowed any more or not taken, or one name too many
+abbrev pub is_refused : (names json force : ℕ) → List ℕ → Bool
+is_refused names json force word =
+    if bytes_eq word (codes "--json") then json == 0
+    else if bytes_eq word (codes "--force") then force == 0
+    else (names == 0) || is_option word
+
+-- words after a command ask for its help, before any word that it refuses
+abbrev pub helps_behind : (names json force : ℕ) → List (List ℕ) → Bool
+helps_behind names json force [] = false
+helps_behind names json force (word ∷ words) =
+    is_help word
+    || (if is_refused names json force word then false
+    else helps_behind (if is_choice word then names else names - 1) (left_of (codes "--json") word json) (left_of (codes "--force") word force) words)
+
+-- the largest number of names that a command takes, of so many words
+abbrev pub most_names : Takes → (words : ℕ) → ℕ
+most_names (shapes.Nothing command) words = 0
+most_names (shapes.One command) words = 1
+most_names (shapes.Two command) words = 2
+most_names shapes.PerhapsTwo words = 2
+most_names takes words = words
+
+abbrev pub helps : Option Takes → List (List ℕ) → Bool
+helps None words = false
+helps (Some takes) words = helps_behind (most_names takes (length words)) (most (takes_json takes)) (most (takes_force takes)) words
+
+-- `help` alone, or before the name of a command or itself
+abbrev pub is_topic : List (List ℕ) → Bool
+is_topic [] = true
+is_topic (name ∷ []) = bytes_eq name (codes "help") || is_some (takes_named name)
+is_topic words = false
+
+-- WHICH WORDS that ask for no task ASK FOR HELP; the others are a fault of usage
+abbrev pub asks_help : List (List ℕ) → Bool
+asks_help (program ∷ first ∷ rest) = is_help first || (is_version first || ((bytes_eq first (codes "help") && is_topic rest) || helps (takes_named first) rest))
+asks_help words = false

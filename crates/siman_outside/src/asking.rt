@@ -1,0 +1,279 @@
+//! Reads words by the table of commands: the task that they ask for.
+
+ghost use Rattle.std.specs.Prelude.{◌≡◌, ◌≤◌, length, map, option_map};
+ghost use Rattle.siman_outside.specs.Words.{asked_by, is_option, takes_of, takes_named, bare_asked, one_asked, two_asked, taken, last_apart, has_option, is_form_word, form_named, form_apart, are_names, fewest_pieces, pieces_asked, join_asked, anyone_apart, station_named, station_asked, view_asked, why_asked, chart_asked};
+
+use crate::commands::{JoinForm, NoWord, OneWord, StationWords, Takes, Task, TwoWords, ViewWord};
+use crate::rows::CommandRow;
+use crate::table::rows;
+use siman_print::Spelling;
+use std::convert::AsStr;
+
+/// Whether a word is an option: it begins with a hyphen and is longer than one byte.
+pub(crate) fn is_option(word: &str) -> bool
+    ensures { result ≡ is_option word.now }
+{
+    let word = word.as_bytes();
+    word.len() > 1 && word[0] == b'-'
+}
+
+/// What the named command takes, by the rows of a table.
+fn takes_of(mut table: &[CommandRow], name: &str) -> Option<Takes>
+    ensures { result ≡ takes_of (map (λ row. (row.name.now, row.takes)) table.entry.now) name.now }
+{
+    while let [row, rest @ ..] = table {
+        if row.name == name {
+            return Some(row.takes);
+        }
+        table = rest;
+    }
+    None
+}
+
+/// What the named command takes.
+pub(crate) fn takes_named(name: &str) -> Option<Takes>
+    ensures { result ≡ takes_named name.now }
+{
+    takes_of(rows(), name)
+}
+
+fn no_word<S: AsStr>(command: NoWord, words: &[S]) -> Option<Task<'_, S>>
+    ensures { option_map (asked_by S.text) result ≡ bare_asked command (map S.text words.now) }
+{
+    match words {
+        [] => Some(Task::Bare(command)),
+        _ => None,
+    }
+}
+
+fn one_word<S: AsStr>(command: OneWord, words: &[S]) -> Option<Task<'_, S>>
+    ensures { option_map (asked_by S.text) result ≡ one_asked command (map S.text words.now) }
+{
+    match words {
+        [word] if !is_option(word.as_str()) => Some(Task::One(command, word.as_str())),
+        _ => None,
+    }
+}
+
+fn two_words<S: AsStr>(command: TwoWords, force: bool, words: &[S]) -> Option<Task<'_, S>>
+    ensures { option_map (asked_by S.text) result ≡ two_asked command force (map S.text words.now) }
+{
+    match words {
+        [first, second] if !is_option(first.as_str()) && !is_option(second.as_str()) => {
+            Some(Task::Two(command, first.as_str(), second.as_str(), force))
+        }
+        _ => None,
+    }
+}
+
+/// The words before the last one, and the last one.
+#[tactic(auto, using(crate::proofs::Lasts::last_behind))]
+fn last_apart<S: AsStr>(words: &[S]) -> Option<(&[S], &str)>
+    ensures { option_map (λ p. (map S.text p.0.now, p.1.now)) result ≡ last_apart (map S.text words.now) }
+{
+    match words.split_last() {
+        Some((last, before)) => Some((before, last.as_str())),
+        None => None,
+    }
+}
+
+/// Whether any of the words is an option.
+fn has_option<S: AsStr>(words: &[S]) -> bool
+    ensures { result ≡ has_option (map S.text words.now) }
+{
+    let mut others = words;
+    while let [word, rest @ ..] = others {
+        if is_option(word.as_str()) {
+            return true;
+        }
+        others = rest;
+    }
+    false
+}
+
+/// Whether a word begins with `form=`.
+fn is_form_word(word: &str) -> bool
+    ensures { result ≡ is_form_word word.now }
+{
+    word.as_bytes().starts_with(b"form=")
+}
+
+/// The form that a word names, if it names one.
+fn form_named(word: &str) -> Option<JoinForm>
+    ensures { result ≡ form_named word.now }
+{
+    if word == "form=open" {
+        return Some(JoinForm::Open);
+    }
+    if word == "form=closed" {
+        return Some(JoinForm::Closed);
+    }
+    None
+}
+
+/// The words without a form at the end, and that form, if the last word is one.
+fn form_apart<S: AsStr>(words: &[S]) -> (&[S], Option<JoinForm>)
+    ensures { (map S.text result.0.now, result.1) ≡ form_apart (map S.text words.now) }
+{
+    match last_apart(words) {
+        Some((before, last)) => match form_named(last) {
+            Some(form) => (before, Some(form)),
+            None => (words, None),
+        },
+        None => (words, None),
+    }
+}
+
+/// Whether all words may be file names of `join`: no option, and nothing that begins with `form=`.
+fn are_names<S: AsStr>(words: &[S]) -> bool
+    ensures { result ≡ are_names (map S.text words.now) }
+{
+    let mut others = words;
+    while let [word, rest @ ..] = others {
+        let word = word.as_str();
+        if is_option(word) || is_form_word(word) {
+            return false;
+        }
+        others = rest;
+    }
+    true
+}
+
+/// Smallest number of pieces: 1 if a form is given, else 2.
+fn fewest_pieces(form: Option<JoinForm>) -> usize
+    ensures { result ≡ fewest_pieces form }
+{
+    match form {
+        None => 2,
+        Some(_) => 1,
+    }
+}
+
+/// The task of `join`, if there are enough pieces before the file to be made.
+fn pieces<S: AsStr>(form: Option<JoinForm>, force: bool, words: &[S]) -> Option<Task<'_, S>>
+    ensures { option_map (asked_by S.text) result ≡ pieces_asked form force (last_apart (map S.text words.now)) }
+{
+    match last_apart(words) {
+        Some((pieces, made)) if pieces.len() >= fewest_pieces(form) => {
+            Some(Task::Join(pieces, made, form, force))
+        }
+        _ => None,
+    }
+}
+
+fn join_words<S: AsStr>(force: bool, words: &[S]) -> Option<Task<'_, S>>
+    ensures { option_map (asked_by S.text) result ≡ join_asked force (map S.text words.now) }
+{
+    let (names, form) = form_apart(words);
+    if are_names(names) {
+        return pieces(form, force, names);
+    }
+    None
+}
+
+/// The words without `from=any` at the end, and whether it was there.
+fn anyone_apart<S: AsStr>(words: &[S]) -> (&[S], bool)
+    ensures { (map S.text result.0.now, result.1) ≡ anyone_apart (map S.text words.now) }
+{
+    match last_apart(words) {
+        Some((before, last)) if last == "from=any" => (before, true),
+        _ => (words, false),
+    }
+}
+
+/// The task of `station`, if the names include at least one peer.
+fn named_station<S: AsStr>(anyone: bool, names: &[S]) -> Option<Task<'_, S>>
+    ensures { option_map (asked_by S.text) result ≡ station_named anyone (map S.text names.now) }
+{
+    match names {
+        [setup, address, recording, bind, peers @ ..] if !peers.is_empty() => {
+            Some(Task::Station(StationWords {
+                setup: setup.as_str(),
+                address: address.as_str(),
+                recording: recording.as_str(),
+                bind: bind.as_str(),
+                peers,
+                anyone,
+            }))
+        }
+        _ => None,
+    }
+}
+
+fn station_words<S: AsStr>(words: &[S]) -> Option<Task<'_, S>>
+    ensures { option_map (asked_by S.text) result ≡ station_asked (map S.text words.now) }
+{
+    let (names, anyone) = anyone_apart(words);
+    if has_option(names) {
+        return None;
+    }
+    named_station(anyone, names)
+}
+
+fn view_words<S: AsStr>(view: ViewWord, spelling: Spelling, words: &[S]) -> Option<Task<'_, S>>
+    ensures { option_map (asked_by S.text) result ≡ view_asked view spelling (map S.text words.now) }
+{
+    match words {
+        [recording, filters @ ..] if !is_option(recording.as_str()) && !has_option(filters) => {
+            Some(Task::View(view, recording.as_str(), filters, spelling))
+        }
+        _ => None,
+    }
+}
+
+/// The task of `why`, for a recording, or for a recording and a certificate.
+fn why_words<S: AsStr>(spelling: Spelling, names: &[S]) -> Option<Task<'_, S>>
+    ensures { option_map (asked_by S.text) result ≡ why_asked spelling (map S.text names.now) }
+{
+    match names {
+        [recording] if !is_option(recording.as_str()) => {
+            Some(Task::Why(recording.as_str(), None, spelling))
+        }
+        [recording, certificate]
+            if !is_option(recording.as_str()) && !is_option(certificate.as_str()) => {
+            let certificate = Some(certificate.as_str());
+            Some(Task::Why(recording.as_str(), certificate, spelling))
+        }
+        _ => None,
+    }
+}
+
+/// The task of `chart`: recording, certificate and picture, and the words that choose the shown
+/// steps.
+fn chart_words<S: AsStr>(force: bool, words: &[S]) -> Option<Task<'_, S>>
+    ensures { option_map (asked_by S.text) result ≡ chart_asked force (map S.text words.now) }
+{
+    match words {
+        [recording, certificate, picture, steps @ ..] if !has_option(words) => {
+            Some(Task::Chart(
+                recording.as_str(),
+                certificate.as_str(),
+                picture.as_str(),
+                steps,
+                force,
+            ))
+        }
+        _ => None,
+    }
+}
+
+/// The task of a command with these names, if it takes exactly such names.
+pub(crate) fn taken<S: AsStr>(
+    takes: Takes,
+    spelling: Spelling,
+    force: bool,
+    names: &[S],
+) -> Option<Task<'_, S>>
+    ensures { option_map (asked_by S.text) result ≡ taken takes spelling force (map S.text names.now) }
+{
+    match takes {
+        Takes::Nothing(command) => no_word(command, names),
+        Takes::One(command) => one_word(command, names),
+        Takes::Two(command) => two_words(command, force, names),
+        Takes::Pieces => join_words(force, names),
+        Takes::Station => station_words(names),
+        Takes::View(view) => view_words(view, spelling, names),
+        Takes::PerhapsTwo => why_words(spelling, names),
+        Takes::Picture => chart_words(force, names),
+    }
+}

@@ -1,0 +1,158 @@
+//! The commands, and the tasks that words ask for.
+
+ghost use Rattle.std.specs.Prelude.{◌≡◌};
+ghost use Rattle.siman_outside.specs.Words.{makes_file, takes_json, takes_force};
+
+use siman_print::Spelling;
+
+/// A command that takes no words.
+#[derive(Clone, Copy)]
+pub enum NoWord {
+    /// Shows the datagrams in hex text on standard input, one a line.
+    Pdus,
+}
+
+/// A command that takes one word.
+#[derive(Clone, Copy)]
+pub enum OneWord {
+    /// Shows the datagram of this hex text.
+    Pdu,
+    /// Shows the recording in this file.
+    Show,
+}
+
+/// A command that takes two words.
+#[derive(Clone, Copy)]
+pub enum TwoWords {
+    /// Judges the recording in the first file by the certificate in the second.
+    Check,
+    /// Searches the recording in the first file for a sequence that explains it, and writes its
+    /// certificate to the second.
+    Audit,
+    /// Runs the script in the first file, and writes its recording to the second.
+    World,
+    /// Makes the moves of the script in the first file over sockets, and writes their recording to
+    /// the second.
+    Live,
+    /// Converts the recording in the first file to the second format, and writes it to the second
+    /// file.
+    Convert,
+    /// Writes the whole entries of the torn recording in the first file to the second.
+    Mend,
+}
+
+/// A view of a recording: a command that takes its file, and words that choose among its rows.
+#[derive(Clone, Copy)]
+pub enum ViewWord {
+    /// The fate of each order, and the life of each entity.
+    Review,
+    /// Each entry, with every datum and the entries that it belongs to.
+    Log,
+}
+
+/// The form that words ask for, for a joined recording.
+#[derive(Clone, Copy)]
+pub enum JoinForm {
+    /// Stations may have taken part that nobody recorded.
+    Open,
+    /// Every station that took part is recorded.
+    Closed,
+}
+
+/// The words of `station`.
+#[derive(Drop)]
+pub struct StationWords<'a, S> {
+    /// The file of the script that configures the station.
+    pub setup: &'a str,
+    /// Its address in the exercise.
+    pub address: &'a str,
+    /// The file of the recording that it writes.
+    pub recording: &'a str,
+    /// The address and port of its socket.
+    pub bind: &'a str,
+    /// The addresses and ports of its peers, at least one.
+    pub peers: &'a [S],
+    /// Whether it listens to strangers too, and not to its peers alone.
+    pub anyone: bool,
+}
+
+/// The task that the words of a command line ask for.
+#[derive(Drop)]
+pub enum Task<'a, S> {
+    /// No words: run the script on standard input, search the recording of its world for a
+    /// sequence, and judge it.
+    Trial,
+    /// A command alone.
+    Bare(NoWord),
+    /// A command and its word.
+    One(OneWord, &'a str),
+    /// A command, its two words, and whether an existing file with the second name is replaced, for
+    /// a command that makes one.
+    Two(TwoWords, &'a str, &'a str, bool),
+    /// Joins the pieces of an exercise: their files, the file to make, the form that it is to have,
+    /// if the words give one, and whether an existing file is replaced.
+    Join(&'a [S], &'a str, Option<JoinForm>, bool),
+    /// Runs a station of a script over the network, by the lines of standard input.
+    Station(StationWords<'a, S>),
+    /// A view: the file of the recording, the words that choose among the rows, and their spelling.
+    View(ViewWord, &'a str, &'a [S], Spelling),
+    /// What contradicts what: the file of the recording, that of a certificate, if the words name
+    /// one, and the spelling of the rows.
+    Why(&'a str, Option<&'a str>, Spelling),
+    /// Draws the picture of an exercise: the file of the recording, that of its certificate, the
+    /// file to make, the words that choose the shown steps, and whether an existing file is
+    /// replaced.
+    Chart(&'a str, &'a str, &'a str, &'a [S], bool),
+}
+
+/// The words that a command takes, and so the kind of the command.
+#[derive(Clone, Copy)]
+pub enum Takes {
+    Nothing(NoWord),
+    One(OneWord),
+    Two(TwoWords),
+    /// Files of pieces, the file to make, and perhaps a form.
+    Pieces,
+    /// A script, an address, a recording, a socket's address, at least one peer, and perhaps
+    /// `from=any`.
+    Station,
+    /// The file of a recording, and words that choose among the rows.
+    View(ViewWord),
+    /// The file of a recording, and perhaps that of a certificate.
+    PerhapsTwo,
+    /// The file of a recording, that of a certificate, the file to make, and words that choose the
+    /// shown steps.
+    Picture,
+}
+
+impl TwoWords {
+    /// Whether the command makes the file of its second word and can replace an existing one.
+    fn makes_file(self) -> bool
+        ensures { result ≡ makes_file self }
+    {
+        match self {
+            TwoWords::Check | TwoWords::Live => false,
+            TwoWords::Audit | TwoWords::World | TwoWords::Convert | TwoWords::Mend => true,
+        }
+    }
+}
+
+impl Takes {
+    /// Whether the command takes `--json`.
+    pub(crate) fn json(self) -> bool
+        ensures { result ≡ takes_json self }
+    {
+        matches!(self, Takes::View(_) | Takes::PerhapsTwo)
+    }
+
+    /// Whether the command takes `--force`.
+    pub(crate) fn force(self) -> bool
+        ensures { result ≡ takes_force self }
+    {
+        match self {
+            Takes::Two(command) => command.makes_file(),
+            Takes::Pieces | Takes::Picture => true,
+            _ => false,
+        }
+    }
+}

@@ -1,0 +1,289 @@
+//! The table of commands, from which the reading of words, the usage and the help follow.
+
+ghost use Rattle.std.specs.Prelude.{ℕ, List, ◌≡◌, map};
+ghost use Rattle.siman_outside.specs.Words.{takes_of, takes_named};
+
+use crate::commands::{NoWord, OneWord, Takes, TwoWords, ViewWord};
+use crate::rows::{CommandRow, CommandWord, Often};
+
+/// The table of the commands, in the order of the help.
+pub(crate) const ROWS: [CommandRow; 15] = [
+    CommandRow {
+        name: "pdu",
+        takes: Takes::One(OneWord::Pdu),
+        about: "Shows the PDU of a datagram",
+        example: "Example:\n  siman pdu 07010B0500000000001C000000010001000000020003000700000001",
+        words: &[CommandWord {
+            name: "HEX",
+            often: Often::Once,
+            about: "The bytes of the datagram, as pairs of hex digits",
+        }],
+    },
+    CommandRow {
+        name: "pdus",
+        takes: Takes::Nothing(NoWord::Pdus),
+        about: "Shows the PDUs of many datagrams, whose hex texts are read from standard input, one a line",
+        example: "Example:\n  siman pdus < datagrams.hex",
+        words: &[],
+    },
+    CommandRow {
+        name: "show",
+        takes: Takes::One(OneWord::Show),
+        about: "Shows a recording, a line for each entry",
+        example: "Example:\n  siman show exercise.dsrc",
+        words: &[CommandWord {
+            name: "REC",
+            often: Often::Once,
+            about: "The file of the recording",
+        }],
+    },
+    CommandRow {
+        name: "check",
+        takes: Takes::Two(TwoWords::Check),
+        about: "Checks whether a certificate explains a recording, and reports what it says",
+        example: "Example:\n  siman check exercise.dsrc exercise.dsct",
+        words: &[
+            CommandWord {
+                name: "REC",
+                often: Often::Once,
+                about: "The file of the recording",
+            },
+            CommandWord {
+                name: "CERT",
+                often: Often::Once,
+                about: "The file of the certificate",
+            },
+        ],
+    },
+    CommandRow {
+        name: "audit",
+        takes: Takes::Two(TwoWords::Audit),
+        about: "Searches a recording for a sequence that explains it, and writes its certificate",
+        example: "Example:\n  siman audit exercise.dsrc exercise.dsct",
+        words: &[
+            CommandWord {
+                name: "REC",
+                often: Often::Once,
+                about: "The file of the recording",
+            },
+            CommandWord {
+                name: "CERT",
+                often: Often::Once,
+                about: "The file of the certificate; it must not be there yet, or be empty",
+            },
+        ],
+    },
+    CommandRow {
+        name: "world",
+        takes: Takes::Two(TwoWords::World),
+        about: "Runs the exercise that a script describes, and writes its recording",
+        example: "Example:\n  siman world exercise.script exercise.dsrc",
+        words: &[
+            CommandWord {
+                name: "SCRIPT",
+                often: Often::Once,
+                about: "The file of the script",
+            },
+            CommandWord {
+                name: "REC",
+                often: Often::Once,
+                about: "The file of the recording; it must not be there yet, or be empty",
+            },
+        ],
+    },
+    CommandRow {
+        name: "live",
+        takes: Takes::Two(TwoWords::Live),
+        about: "Makes the moves of a script over UDP sockets of the loopback, one a station, and writes their recording",
+        example: "Example:\n  siman live exercise.script exercise.dsrc",
+        words: &[
+            CommandWord {
+                name: "SCRIPT",
+                often: Often::Once,
+                about: "The file of the script",
+            },
+            CommandWord {
+                name: "REC",
+                often: Often::Once,
+                about: "The file of the recording, which must not be there yet",
+            },
+        ],
+    },
+    CommandRow {
+        name: "station",
+        takes: Takes::Station,
+        about: "Plays a station of a script over UDP, by the lines of standard input, and writes what it sends, receives and tells",
+        example: "Example:\n  siman station exercise.script 1:1 manager.dsrc 10.0.0.1:3000 10.0.0.2:3000 < orders",
+        words: &[
+            CommandWord {
+                name: "SETUP",
+                often: Often::Once,
+                about: "The file of the script that sets the station up; its moves are passed over",
+            },
+            CommandWord {
+                name: "ADDRESS",
+                often: Often::Once,
+                about: "The address of the station, S:A",
+            },
+            CommandWord {
+                name: "REC",
+                often: Often::Once,
+                about: "The file of the recording, which must not be there yet",
+            },
+            CommandWord {
+                name: "BIND",
+                often: Often::Once,
+                about: "Where its socket is, IP:PORT; 0.0.0.0:PORT hears broadcasts",
+            },
+            CommandWord {
+                name: "PEER",
+                often: Often::OnceOrMore,
+                about: "Where a peer is, or those of a network, IP:PORT. Behind the last one from=any may stand: then others are heard, too",
+            },
+        ],
+    },
+    CommandRow {
+        name: "convert",
+        takes: Takes::Two(TwoWords::Convert),
+        about: "Carries a recording of the first format over to the second, closed",
+        example: "Example:\n  siman convert old.dsrc new.dsrc",
+        words: &[
+            CommandWord {
+                name: "OLD",
+                often: Often::Once,
+                about: "The file of the recording, of the first format",
+            },
+            CommandWord {
+                name: "NEW",
+                often: Often::Once,
+                about: "The file of the same recording in the second format; it must not be there yet, or be empty",
+            },
+        ],
+    },
+    CommandRow {
+        name: "mend",
+        takes: Takes::Two(TwoWords::Mend),
+        about: "Keeps the entries of a torn recording that stand whole, and writes them with an end",
+        example: "Example:\n  siman mend torn.dsrc mended.dsrc",
+        words: &[
+            CommandWord {
+                name: "OLD",
+                often: Often::Once,
+                about: "The file of the recording, whose end may be torn",
+            },
+            CommandWord {
+                name: "NEW",
+                often: Often::Once,
+                about: "The file for its whole entries; it must not be there yet, or be empty",
+            },
+        ],
+    },
+    CommandRow {
+        name: "join",
+        takes: Takes::Pieces,
+        about: "Joins the recordings of one exercise that several recorders made",
+        example: "Example:\n  siman join manager.dsrc simulator.dsrc exercise.dsrc",
+        words: &[
+            CommandWord {
+                name: "PIECE",
+                often: Often::OnceOrMore,
+                about: "The file of a recording, of stations that no other piece has",
+            },
+            CommandWord {
+                name: "NEW",
+                often: Often::Once,
+                about: "The file of the joined recording; it must not be there yet, or be empty. Behind it form=open or form=closed may stand: the form that it is to have. Of one piece a recording is made in such a form alone",
+            },
+        ],
+    },
+    CommandRow {
+        name: "review",
+        takes: Takes::View(ViewWord::Review),
+        about: "Prints what became of each order of a recording, and how each entity lived",
+        example: "Example:\n  siman review exercise.dsrc fate=lost",
+        words: &[
+            CommandWord {
+                name: "REC",
+                often: Often::Once,
+                about: "The file of the recording",
+            },
+            CommandWord {
+                name: "FILTER",
+                often: Often::AnyTimes,
+                about: "Which rows are printed: station=S:A, entity=S:A:E, request=S:A/N or fate=WORD; words of one key add to each other",
+            },
+        ],
+    },
+    CommandRow {
+        name: "log",
+        takes: Takes::View(ViewWord::Log),
+        about: "Prints each entry of a recording in names, with every datum and what goes with it",
+        example: "Example:\n  siman log exercise.dsrc request=1:1/104 station=2:4",
+        words: &[
+            CommandWord {
+                name: "REC",
+                often: Often::Once,
+                about: "The file of the recording",
+            },
+            CommandWord {
+                name: "FILTER",
+                often: Often::AnyTimes,
+                about: "Which entries are printed: station=S:A, entity=S:A:E, request=S:A/N or kind=NAME; words of one key add to each other",
+            },
+        ],
+    },
+    CommandRow {
+        name: "why",
+        takes: Takes::PerhapsTwo,
+        about: "Prints what contradicts what: in a certificate that is not good, or in a recording that no sequence explains",
+        example: "Example:\n  siman why exercise.dsrc",
+        words: &[
+            CommandWord {
+                name: "REC",
+                often: Often::Once,
+                about: "The file of the recording",
+            },
+            CommandWord {
+                name: "CERT",
+                often: Often::AtMostOnce,
+                about: "The file of the certificate; without it the recording is asked alone",
+            },
+        ],
+    },
+    CommandRow {
+        name: "chart",
+        takes: Takes::Picture,
+        about: "Draws an exercise in the sequence of its certificate, and writes the picture",
+        example: "Example:\n  siman chart exercise.dsrc exercise.dsct exercise.svg",
+        words: &[
+            CommandWord {
+                name: "REC",
+                often: Often::Once,
+                about: "The file of the recording",
+            },
+            CommandWord {
+                name: "CERT",
+                often: Often::Once,
+                about: "The file of the certificate",
+            },
+            CommandWord {
+                name: "SVG",
+                often: Often::Once,
+                about: "The file of the picture, in SVG; it must not be there yet, or be empty",
+            },
+            CommandWord {
+                name: "STEP",
+                often: Often::AnyTimes,
+                about: "Which steps of the certificate are shown, counted from 0: from=STEP says the first, to=STEP the last; each may stand once",
+            },
+        ],
+    },
+];
+
+/// The rows of the table of commands, with the contract that callers use.
+#[tactic(auto, unfolding(crate::specs::Words::takes_named))]
+pub(crate) fn rows() -> &'static [CommandRow]
+    ensures { (name : List ℕ) → takes_of (map (λ row. (row.name.now, row.takes)) result.now) name ≡ takes_named name }
+{
+    &ROWS
+}

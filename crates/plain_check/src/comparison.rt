@@ -10,5 +10,5 @@ mod reviews;
 
 pub use agreement::compare_case;
 pub use generated::{Answers, try_generated};
-pub use recordings::recording;
+pub use recordings::put_random_recording;
 pub use reviews::{Reviews, try_reviews};

@@ -7,7 +7,8 @@
 //! single entries and entities.
 //!
 //! They never store results between questions, and their time is at least cubic in the number of
-//! entries, so they are for small recordings.
+//! entries, so they are for small recordings. They are compared on cases and on random recordings;
+//! [`put_random_recording`] writes the file of a random recording, spoilt.
 //!
 //! No theorem depends on them; the layer above may use only that each function is proved to be safe
 //! and to end for every number, where past the last entry or station there is nothing.
@@ -39,4 +40,6 @@ pub use search::{plain_audit, plain_steps};
 
 mod comparison;
 
-pub use comparison::{Answers, Reviews, compare_case, recording, try_generated, try_reviews};
+pub use comparison::{
+    Answers, Reviews, compare_case, put_random_recording, try_generated, try_reviews,
+};

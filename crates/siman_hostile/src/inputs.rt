@@ -6,13 +6,12 @@ mod datagrams;
 mod recordings;
 mod scripts;
 
-use crate::input::{Input, begin_input};
 use crate::inputs::command_lines::try_command_line;
 use crate::inputs::datagrams::try_datagram;
 use crate::inputs::recordings::try_recording;
 pub(crate) use crate::inputs::scripts::is_tried;
 use crate::inputs::scripts::try_script;
-use siman_trials::Random;
+use siman_trials::{Random, RandomInput, begin_input};
 use std::alloc::Global;
 use std::io;
 use std::io::Write;
@@ -45,7 +44,7 @@ pub(crate) struct Ends {
 const THROWS: [usize; 8] = [0, 0, 0, 0, 1, 2, 3, 3];
 
 /// Chooses a random input of a kind and tries it.
-fn try_kind(alloc: Global, kind: usize, input: &mut Input) -> InputResult {
+fn try_kind(alloc: Global, kind: usize, input: &mut RandomInput) -> InputResult {
     match kind {
         0 => try_datagram(alloc, input),
         1 => try_recording(alloc, input),

@@ -13,7 +13,6 @@
 #![tactic(auto)]
 
 mod full;
-mod input;
 mod inputs;
 mod load;
 mod ran;

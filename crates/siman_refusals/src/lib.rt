@@ -1,18 +1,22 @@
-//! Calls of the library that take memory, each with the inputs of a worked example, and calls of a
-//! manager, an application and a station that are made 100,000 times; `siman_hostile` runs them. It
-//! never calls a command, opens a file or uses a socket. The layer above may use no contract of it,
-//! only the outcomes that [`put_library_calls`], [`put_halves`] and [`put_station`] print.
+//! Calls of the library that take memory, each with the inputs of a worked example, calls of a
+//! manager, an application and a station that are made 100,000 times, and a recording that is
+//! filled; `siman_hostile` runs them. It never calls a command, opens a file or uses a socket. The
+//! layer above may use no contract of it, only the outcomes that [`put_library_calls`],
+//! [`put_full_recording`], [`put_halves`] and [`put_station`] print, and those of [`ReadingScript`]
+//! and [`RunningWorld`].
 #![tactic(auto)]
 
 mod call;
 mod conflicts;
 mod datagrams;
+mod full;
 mod load;
 mod machines;
 mod pictures;
 mod pieces;
 mod recordings;
 mod reviews;
+mod scripts;
 mod stations;
 
 use crate::conflicts::{Contradicting, FindingConflict, FindingRefusal, RING};
@@ -22,13 +26,15 @@ use crate::pictures::Drawing;
 use crate::pieces::{Adding, Bringing, EndingJoin, to_add};
 use crate::recordings::{
     APART, Carrying, Checking, Explaining, FetchingSteps, Pushing, Reading, ReadingSteps,
-    Searching, Seeing, recording_of, to_check,
+    Searching, Seeing, recording_of, station, to_check,
 };
 use crate::reviews::{Putting, Reviewing, Telling};
 use crate::stations::{Issuing, Nudging, Serving, to_issue, to_nudge, to_serve};
 pub use call::{LibraryCall, Said, refused, result_of, usual};
+pub use full::put_full_recording;
 pub use load::{put_halves, put_station};
-pub use recordings::{RECORDING, room, station, unmade};
+pub use recordings::{RECORDING, room};
+pub use scripts::{ReadingScript, RunningWorld, SCRIPT};
 use std::alloc::Global;
 use std::io;
 use std::io::Write;

@@ -76,12 +76,12 @@ const TAKEN: [Step; 4] = [
 ];
 
 /// The error of an input that could not be made.
-pub fn unmade() -> io::Error {
+pub(crate) fn unmade() -> io::Error {
     io::Error::from(ErrorKind::Other)
 }
 
 /// A station without entities.
-pub fn station(alloc: Global, site: u16, application: u16) -> io::Result<Station> {
+pub(crate) fn station(alloc: Global, site: u16, application: u16) -> io::Result<Station> {
     let Some(address) = Address::new(site, application) else {
         return Err(unmade());
     };

@@ -2,8 +2,14 @@
 
 use dis_records::{Address, EntityState};
 use exercise_model::{ExerciseLog, Form, LogEntry, LogFault, Recording, Station};
-use siman_trials::{ENTITIES, Random, RandomEvent, RandomExercise, begin, place_of, station_of};
+use exercise_recording::write_recording;
+use siman_trials::{
+    ENTITIES, Random, RandomEvent, RandomExercise, RandomInput, begin, place_of, station_of,
+};
 use std::alloc::{AllocError, Global};
+
+/// Forms by the throw of a die: half of them are the first form.
+const FORMS: [Form; 4] = [Form::Closed, Form::Open, Form::First, Form::First];
 
 /// Most actions in a scene.
 const MOST_DEEDS: usize = 16;
@@ -195,11 +201,24 @@ fn recorded(
 
 /// A random recording of a form. With `is_varied`, its datagrams are varied so that orders of all
 /// kinds have all fates.
-pub fn recording(
+pub(crate) fn recording(
     alloc: Global,
     form: Form,
     is_varied: bool,
     random: Random,
 ) -> Result<Recording, LogFault> {
     recorded(alloc, form, is_varied, &mut begin(alloc, random))
+}
+
+/// Appends the file of a random recording, spoilt.
+pub fn put_random_recording(alloc: Global, input: &mut RandomInput) {
+    let form = FORMS[input.random.below(4) % 4];
+    let is_written = match recording(alloc, form, false, input.random) {
+        Ok(log) => write_recording(&log, &mut input.bytes).is_ok(),
+        Err(_) => false,
+    };
+    input.is_short = !is_written;
+    let _next = input.random.below(2);
+    let ways = input.random.below(3);
+    input.spoil(ways);
 }

@@ -1,145 +1,11 @@
 //! Random command lines, over a folder with files of every kind.
 
-use crate::input::Input;
 use crate::inputs::InputResult;
 use crate::ran::{Files, Ran, run_words};
 use crate::refusals::files::STEPS;
 use siman_refusals::RECORDING;
+use siman_trials::{RandomInput, random_command_line};
 use std::alloc::Global;
-
-/// Words that may replace others.
-const WORDS: [&str; 80] = [
-    "pdu",
-    "pdus",
-    "show",
-    "check",
-    "audit",
-    "world",
-    "live",
-    "station",
-    "convert",
-    "mend",
-    "join",
-    "review",
-    "log",
-    "why",
-    "chart",
-    "help",
-    "--help",
-    "-h",
-    "--version",
-    "-V",
-    "--json",
-    "--force",
-    "--json",
-    "--force",
-    "rec",
-    "cert",
-    "script",
-    "done",
-    "order",
-    "torn",
-    "hex",
-    "capture",
-    "picture",
-    "empty",
-    "new",
-    "none",
-    "rec",
-    "cert",
-    "script",
-    "done",
-    "order",
-    "empty",
-    "new",
-    "new",
-    "",
-    "-",
-    "-",
-    "--",
-    "--x",
-    "-x",
-    "--forc",
-    "--json=1",
-    "--help=1",
-    "00",
-    "0701",
-    "0",
-    "GG",
-    "é",
-    "a b",
-    "pdu=1",
-    "form=open",
-    "form=closed",
-    "form=none",
-    "fate=done",
-    "fate=none",
-    "kind=told",
-    "station=2:3",
-    "request=1:1/1",
-    "entity=2:3:7",
-    "from=0",
-    "from=2",
-    "to=2",
-    "to=4",
-    "to=x",
-    "from=any",
-    "2:3",
-    "1:1",
-    "0:1",
-    "127.0.0.1:3000",
-    "127.0.0.1:0",
-];
-
-/// Largest number of words in a command line.
-const MOST: usize = 10;
-
-/// Correct command lines, of every command.
-const LINES: [&[&str]; 24] = [
-    &[],
-    &[
-        "pdu",
-        "07010B0500000000001C000000010001000000020003000700000001",
-    ],
-    &["pdus"],
-    &["show", "done"],
-    &["show", "-"],
-    &["check", "done", "order"],
-    &["audit", "done", "new"],
-    &["audit", "done", "order", "--force"],
-    &["world", "script", "new"],
-    &["world", "-", "done", "--force"],
-    &["live", "script", "new"],
-    &["convert", "done", "new"],
-    &["convert", "rec", "empty"],
-    &["mend", "torn", "new"],
-    &["mend", "--force", "torn", "done"],
-    &["join", "done", "new", "form=open"],
-    &["join", "rec", "done", "new"],
-    &["review", "done", "fate=done", "--json"],
-    &["log", "--json", "done", "request=1:1/1", "entity=2:3:7"],
-    &["why", "done", "order", "--json"],
-    &["chart", "done", "order", "new", "from=1", "to=2"],
-    &["chart", "done", "order", "picture", "--force"],
-    &[
-        "station",
-        "script",
-        "2:3",
-        "new",
-        "127.0.0.1:3000",
-        "127.0.0.1:3001",
-    ],
-    &[
-        "station",
-        "script",
-        "1:1",
-        "new",
-        "0.0.0.0:3000",
-        "127.0.0.255:3001",
-        "127.0.0.1:3002",
-        "from=any",
-    ],
-];
 
 /// A recording without entries, with its only certificate.
 const EMPTY: [u8; 25] = [
@@ -200,46 +66,10 @@ fn spares_files(ended: &Ran, words: &[&str]) -> bool {
     !ended.replaced || words.contains(&"--force")
 }
 
-/// A random word.
-fn word(input: &mut Input) -> &'static str {
-    WORDS[input.random.below(80) % 80]
-}
-
-/// Inserts a word at a place among the first `count` words, and moves those behind it up.
-fn insert(words: &mut [&'static str; MOST], count: usize, place: usize, word: &'static str) {
-    for back in 0..count.saturating_sub(place) {
-        let at = count.saturating_sub(back);
-        words[at % MOST] = words[at.saturating_sub(1) % MOST];
-    }
-    words[place % MOST] = word;
-}
-
-/// A random command line and its number of words: a correct one, in which one time in two a word is
-/// replaced, one time in three a word is inserted, and one time in six the words are cut off, or
-/// padded with empty ones, at a random number.
-fn make_up(input: &mut Input) -> ([&'static str; MOST], usize) {
-    let mut words = [""; MOST];
-    let line = LINES[input.random.below(24) % 24];
-    let mut count = line.len().min(MOST);
-    words[..count].copy_from_slice(&line[..count]);
-    if input.random.one_in(2) {
-        words[input.random.below(MOST) % MOST] = word(input);
-    }
-    if input.random.one_in(3) && count < MOST {
-        let place = input.random.below(count);
-        insert(&mut words, count, place, word(input));
-        count += 1;
-    }
-    if input.random.one_in(6) {
-        count = input.random.below(MOST).min(MOST);
-    }
-    (words, count)
-}
-
 /// Tries a random command line: the run must end as the pages say, and lose no file.
-pub(crate) fn try_command_line(alloc: Global, input: &mut Input) -> InputResult {
-    let (words, count) = make_up(input);
-    let words = &words[..count.min(MOST)];
+pub(crate) fn try_command_line(alloc: Global, input: &mut RandomInput) -> InputResult {
+    let line = random_command_line(input);
+    let words = line.words();
     for word in words {
         input.put(word.as_bytes());
         input.put(b"\n");

@@ -1,9 +1,8 @@
 //! An exercise of 102,000 entries, from its script to the report.
 
-use crate::input::{Input, begin_input};
 use crate::inputs::is_tried;
 use crate::ran::{checked, run_words, searched};
-use siman_trials::Random;
+use siman_trials::{Random, RandomInput, begin_input};
 use std::alloc::Global;
 use std::io;
 use std::io::Write;
@@ -15,7 +14,7 @@ const EXCHANGES: usize = 12_000;
 const COPIES: u32 = 27_000;
 
 /// Appends the script of the exercise.
-fn put_script(script: &mut Input) {
+fn put_script(script: &mut RandomInput) {
     script.put(b"exercise 1\nstation 1:1\nstation 2:3\nopening 2:3 7 stopped\n");
     for number in 0..EXCHANGES {
         let sent = number.saturating_mul(2);
@@ -29,14 +28,14 @@ fn put_script(script: &mut Input) {
 
 /// Appends a copy of the recording with one more entry, in which 2:3 tells that its entity 7 is
 /// absent while it runs.
-fn put_told_wrong(file: &mut Input, recording: &[u8]) {
+fn put_told_wrong(file: &mut RandomInput, recording: &[u8]) {
     file.put(recording);
     file.bytes.truncate(recording.len().saturating_sub(5));
     file.put(&[3, 0, 1, 0, 7, 0, 0, 0, 1, 142, 113]);
 }
 
 /// Appends a copy of the certificate with one more step, for that entry.
-fn put_with_step(file: &mut Input, certificate: &[u8]) {
+fn put_with_step(file: &mut RandomInput, certificate: &[u8]) {
     file.put(b"DSCT0001\x00\x01\x8e\x71");
     file.put(certificate.get(12..).unwrap_or(b""));
     file.put(&[0, 1, 142, 112, 255, 255, 255, 255]);
@@ -54,7 +53,7 @@ fn last_line(text: &[u8]) -> &[u8] {
 }
 
 /// Appends what `check` and `audit` print for the recording with the wrong state.
-fn put_wrong(alloc: Global, recording: &[u8], certificate: &[u8], told: &mut Input) {
+fn put_wrong(alloc: Global, recording: &[u8], certificate: &[u8], told: &mut RandomInput) {
     let mut wrong = begin_input(alloc, told.random);
     put_told_wrong(&mut wrong, recording);
     let mut longer = begin_input(alloc, told.random);
@@ -65,7 +64,7 @@ fn put_wrong(alloc: Global, recording: &[u8], certificate: &[u8], told: &mut Inp
 
 /// Appends the last lines that `show` and `check` print for a recording, and what is printed for it
 /// with the wrong state.
-fn put_judged(alloc: Global, recording: &[u8], told: &mut Input) {
+fn put_judged(alloc: Global, recording: &[u8], told: &mut RandomInput) {
     let found = searched(alloc, recording);
     let Some(certificate) = &found.left else {
         return;
@@ -78,7 +77,7 @@ fn put_judged(alloc: Global, recording: &[u8], told: &mut Input) {
 
 /// Appends what the commands print for a script: the output of `world`, whether its trial agrees,
 /// and what is printed for the recording.
-fn put_tried(alloc: Global, script: &[u8], told: &mut Input) {
+fn put_tried(alloc: Global, script: &[u8], told: &mut RandomInput) {
     let files = [("script", script)];
     let made = run_words(alloc, &["world", "script", "rec"], &files, &[]);
     told.put(&made.out);

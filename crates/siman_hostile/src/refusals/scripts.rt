@@ -1,32 +1,10 @@
-//! Calls that read, run and try scripts.
+//! Calls that perform and try scripts.
 
-use exercise_model::ExerciseLog;
-use siman_console::{
-    Script, ScriptFault, TrialFault, WorldFault, perform, read_script, run_world, trial,
-};
-use siman_refusals::{LibraryCall, Said, refused, usual};
+use siman_console::{TrialFault, perform, read_script, trial};
+use siman_refusals::{LibraryCall, SCRIPT, Said, refused, usual};
 use std::alloc::Global;
 
-/// A script with a loss, a copy and a swap.
-const SCRIPT: &str = "exercise 1
-station 1:1
-station 2:3
-create 1:1 2:3:7
-at 10
-tick 1:1
-deliver 1 2:3
-start 1:1 2:3:7
-stop 1:1 2:3:7
-deliver 4 2:3
-deliver 3 2:3
-deliver 4 2:3
-tell 2:3 7
-deliver 2 1:1
-deliver 6 1:1
-deliver 5 1:1
-";
-
-/// The output for it.
+/// The output for [`SCRIPT`].
 const TOLD: &str = "world records=16 sent=8
 explained steps=16
 yes records=16 others=0
@@ -39,38 +17,6 @@ known 14 change 9
 known 15 change 7
 entity 2:3:7 running
 ";
-
-/// Reads a script.
-pub(crate) struct ReadingScript;
-
-impl LibraryCall<()> for ReadingScript {
-    fn make(alloc: Global, _lent: &mut ()) -> Said {
-        match read_script(alloc, SCRIPT.as_bytes()) {
-            Ok(script) => usual(script.stations.len() == 2 && script.moves.len() == 12),
-            Err(fault) => refused(fault == ScriptFault::Memory),
-        }
-    }
-}
-
-/// Runs a world.
-pub(crate) struct RunningWorld;
-
-impl LibraryCall<()> for RunningWorld {
-    fn make(alloc: Global, _lent: &mut ()) -> Said {
-        let Ok(script) = read_script(alloc, SCRIPT.as_bytes()) else {
-            return Said::Memory;
-        };
-        let Script {
-            exercise,
-            stations,
-            moves,
-        } = script;
-        match run_world(alloc, exercise, stations, moves) {
-            Ok(log) => usual(log.entry_count() == 16),
-            Err(fault) => refused(fault == WorldFault::Memory),
-        }
-    }
-}
 
 /// The outcome of a trial: a yes with the full output, or no output if memory ran out.
 fn said(ended: Result<bool, TrialFault>, out: &[u8]) -> Said {

@@ -1,6 +1,6 @@
 //! Bytes of an input, appended piece by piece.
 
-use siman_trials::Random;
+use crate::random::Random;
 use std::alloc::Global;
 use std::io::Write;
 
@@ -8,25 +8,25 @@ const BITS: [u8; 8] = [1, 2, 4, 8, 16, 32, 64, 128];
 
 /// The bytes of an input or of an output, and the die that chooses an input.
 #[derive(Drop)]
-pub(crate) struct Input {
-    pub(crate) random: Random,
-    pub(crate) bytes: Vec<u8>,
+pub struct RandomInput {
+    pub random: Random,
+    pub bytes: Vec<u8>,
     /// Whether an allocation failed, so that bytes are missing.
-    pub(crate) is_short: bool,
+    pub is_short: bool,
 }
 
 /// An empty input.
-pub(crate) fn begin_input(alloc: Global, random: Random) -> Input {
-    Input {
+pub fn begin_input(alloc: Global, random: Random) -> RandomInput {
+    RandomInput {
         random,
         bytes: Vec::new(alloc),
         is_short: false,
     }
 }
 
-impl Input {
+impl RandomInput {
     /// Appends bytes.
-    pub(crate) fn put(&mut self, bytes: &[u8]) {
+    pub fn put(&mut self, bytes: &[u8]) {
         if self.bytes.extend_from_slice(bytes).is_err() {
             self.is_short = true;
         }
@@ -41,7 +41,7 @@ impl Input {
     }
 
     /// Appends lines, with numbers in place of each `F` (from), `T` (to) and `E` (entity).
-    pub(crate) fn put_lines(&mut self, form: &str, from: usize, to: usize, entity: usize) {
+    pub fn put_lines(&mut self, form: &str, from: usize, to: usize, entity: usize) {
         for byte in form.as_bytes() {
             let number = match *byte {
                 b'F' => from,
@@ -85,7 +85,7 @@ impl Input {
 
     /// Spoils the input `ways` times: cuts it, appends, removes or inserts a byte, or changes a
     /// byte or one bit.
-    pub(crate) fn spoil(&mut self, ways: usize) {
+    pub fn spoil(&mut self, ways: usize) {
         for _ in 0..ways {
             let place = self.random.below(self.bytes.len());
             let byte = self.random.byte();

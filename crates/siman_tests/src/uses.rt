@@ -65,7 +65,8 @@ pub use pieces::{are_blamed_one_by_one, come_in_any_order, lose_no_entry, may_be
 pub use post::{is_judged_alone, leaves_what_can_be_mended};
 pub use reason::{
     every_other_is_counted, is_always_given, is_given_for_each_line, is_given_for_each_typed_line,
-    is_none_of_a_script, points_at_its_word,
+    is_none_of_a_script, is_true_of_the_lines_before, points_at_its_word,
+    says_what_the_decoder_says,
 };
 pub use report::{
     names_each_field_once, says_in_json_what_the_text_says, says_the_same_of_the_archive,

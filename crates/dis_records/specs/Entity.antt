@@ -8,7 +8,7 @@ use Rattle.dis_records.specs.declared.entity.Scope.TheVariants.{One, All}
 use Rattle.dis_records.specs.declared.kind.Kind.{Kind}
 use Rattle.dis_records.specs.declared.kind.Kind.TheVariants as kinds
 use Rattle.dis_records.specs.Layout.{Field, Number, spelled_number}
-use Rattle.dis_records.specs.Address.{Pair}
+use Rattle.dis_records.specs.declared.address.SiteApplication.{SiteApplication}
 
 -- site, application, entity
 abbrev pub entity_layout : EntityId → List Field
@@ -19,12 +19,12 @@ abbrev pub entity_at : ℕ → List ℕ → EntityId
 entity_at at b = record { site = spelled_number w16 at b; application = spelled_number w16 (at + 2) b; entity = spelled_number w16 (at + 4) b }
 
 -- site and application of an identifier
-abbrev pub pair_of : EntityId → Pair
-pair_of id = record { site = id.site; application = id.application }
+abbrev pub site_application_of : EntityId → SiteApplication
+site_application_of id = record { site = id.site; application = id.application }
 
 -- A receiving identifier addresses a site and an application if each is equal to its own or its own is 0xFFFF, all
 -- (profile).
-abbrev pub is_addressed : EntityId → Pair → Bool
+abbrev pub is_addressed : EntityId → SiteApplication → Bool
 is_addressed id p = ((id.site == p.site) || (id.site == 0xFFFF)) && ((id.application == p.application) || (id.application == 0xFFFF))
 
 abbrev pub is_create : Kind → Bool
@@ -46,5 +46,5 @@ abbrev pub scope_of : Kind → ℕ → ℕ → Scope
 scope_of kind n m = if not (is_open kind n) then One n else (if not (is_open kind m) then One m else All)
 
 -- the identifier of an entity of a station
-abbrev pub entity_of : Pair → ℕ → EntityId
+abbrev pub entity_of : SiteApplication → ℕ → EntityId
 entity_of address number = record { site = address.site; application = address.application; entity = number }

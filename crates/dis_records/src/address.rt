@@ -1,14 +1,23 @@
-//! Address of a station: its site and its simulation application.
+//! Sites and applications: those of any simulation address, and the address of a station.
 
 ghost use Rattle.std.specs.Prelude.{◌≡◌, ◌↔◌, true};
 ghost use Rattle.std.specs.declared.cmp.Ordering.TheVariants.{Less, Equal};
 ghost use Rattle.std.specs.Option.{SomeIff};
-ghost use Rattle.dis_records.specs.Address.{Pair, is_address_part, is_address, compared, IsBefore};
+ghost use Rattle.dis_records.specs.declared.address.SiteApplication.{SiteApplication};
+ghost use Rattle.dis_records.specs.Address.{is_address_part, is_address, compared, IsBefore};
 
 use std::marker::Model;
 
 /// Largest site or application number of an address (profile); 0xFFFF means all.
 pub const LARGEST_ADDRESS_PART: u16 = 0xFFFE;
+
+/// The two numbers of a simulation address as a PDU holds them, each 0..=0xFFFF (IEEE
+/// 1278.1-2012, 6.2.79); 0 means none and 0xFFFF all.
+#[derive(Clone, Copy, PartialEq, Eq)]
+pub struct SiteApplication {
+    pub site: u16,
+    pub application: u16,
+}
 
 /// Address of one simulation application: its site and its application number, each in 1..=0xFFFE
 /// (IEEE 1278.1-2012, 6.2.79; the range is this project's profile: 0 means none and 0xFFFF all).
@@ -28,9 +37,10 @@ pub fn is_address_part(number: u16) -> bool
 
 impl Model for Address {
     ghost use Rattle.std.specs.Prelude.{◌≡◌, true};
-    ghost use Rattle.dis_records.specs.Address.{Pair, is_address};
+    ghost use Rattle.dis_records.specs.declared.address.SiteApplication.{SiteApplication};
+    ghost use Rattle.dis_records.specs.Address.{is_address};
 
-    ghost Value = { Pair };
+    ghost Value = { SiteApplication };
 
     ghost view = { λ a. record { site = a.site; application = a.application } };
 
@@ -42,12 +52,22 @@ impl Model for Address {
 impl Address {
     /// Address with these two numbers, or `None` if one of them is 0 or 0xFFFF.
     pub fn new(site: u16, application: u16) -> Option<Address>
-        ensures { let pair : Pair = record { site = site; application = application } in SomeIff result (is_address pair ≡ true) pair }
+        ensures { let pair : SiteApplication = record { site = site; application = application } in SomeIff result (is_address pair ≡ true) pair }
     {
         if !is_address_part(site) || !is_address_part(application) {
             return None;
         }
         Some(Address { site, application })
+    }
+
+    /// Its two numbers.
+    pub fn site_application(&self) -> SiteApplication
+        ensures { result ≡ self.now }
+    {
+        SiteApplication {
+            site: self.site,
+            application: self.application,
+        }
     }
 
     /// Number of the site, in 1..=0xFFFE.

@@ -1,10 +1,10 @@
 //! Entity identifiers: originator or receiver of a PDU, and its entities.
 
 ghost use Rattle.std.specs.Prelude.{◌≡◌};
-ghost use Rattle.dis_records.specs.Address.{Pair};
-ghost use Rattle.dis_records.specs.Entity.{is_addressed};
+ghost use Rattle.dis_records.specs.declared.address.SiteApplication.{SiteApplication};
+ghost use Rattle.dis_records.specs.Entity.{site_application_of, entity_of, is_addressed};
 
-use crate::address::Address;
+use crate::address::{Address, SiteApplication};
 use std::fmt;
 
 /// Site or application number that means all (IEEE 1278.1-2012, 6.2.28).
@@ -17,6 +17,31 @@ pub struct EntityId {
     pub site: u16,
     pub application: u16,
     pub entity: u16,
+}
+
+impl EntityId {
+    /// Its site and its application.
+    pub fn site_application(self) -> SiteApplication
+        ensures { result ≡ site_application_of self }
+    {
+        SiteApplication {
+            site: self.site,
+            application: self.application,
+        }
+    }
+}
+
+impl SiteApplication {
+    /// Identifier of the entity with this number there.
+    pub fn entity(self, number: u16) -> EntityId
+        ensures { result ≡ entity_of self number }
+    {
+        EntityId {
+            site: self.site,
+            application: self.application,
+            entity: number,
+        }
+    }
 }
 
 /// Prints `site:application:entity`.
@@ -51,7 +76,7 @@ pub fn addressed(target: EntityId, station: Address) -> bool
 /// Whether a receiving identifier addresses this site and application; they need not be a
 /// station's.
 pub fn addresses(target: EntityId, site: u16, application: u16) -> bool
-    ensures { let pair : Pair = record { site = site; application = application } in result ≡ is_addressed target pair }
+    ensures { let pair : SiteApplication = record { site = site; application = application } in result ≡ is_addressed target pair }
 {
     (target.site == site || target.site == ALL)
         && (target.application == application || target.application == ALL)

@@ -1,6 +1,6 @@
 //! State of an entity in an exercise.
 
-ghost use Rattle.std.specs.Prelude.{◌≡◌};
+ghost use Rattle.std.specs.Prelude.{◌≡◌, ◌≤◌, length};
 ghost use Rattle.dis_records.specs.Texts.{state_text};
 
 use std::fmt;
@@ -20,7 +20,8 @@ pub enum EntityState {
 impl EntityState {
     /// Name of the state, such as `absent`.
     pub fn name(self) -> &'static str
-        ensures { result.now ≡ state_text self }
+        ensures name { result.now ≡ state_text self }
+        ensures short { length result.now ≤ 20 }
     {
         match self {
             EntityState::Absent => "absent",

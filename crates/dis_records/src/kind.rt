@@ -1,6 +1,6 @@
 //! The twelve kinds of Simulation Management PDU (IEEE 1278.1-2012, 5.6 and 7.5).
 
-ghost use Rattle.std.specs.Prelude.{◌≡◌, IfSome, IsNone, IsTrue, ◌↔◌, not};
+ghost use Rattle.std.specs.Prelude.{◌≡◌, IfSome, IsNone, IsTrue, ◌↔◌, not, ◌≤◌, length};
 ghost use Rattle.dis_records.specs.Kind.{kind_code, is_kind_code};
 ghost use Rattle.dis_records.specs.Texts.{kind_text};
 ghost use Rattle.dis_records.specs.Entity.{is_create};
@@ -67,7 +67,8 @@ impl Kind {
 
     /// Name of the kind, such as `create-entity`.
     pub fn name(self) -> &'static str
-        ensures { result.now ≡ kind_text self }
+        ensures name { result.now ≡ kind_text self }
+        ensures short { length result.now ≤ 20 }
     {
         match self {
             Kind::CreateEntity => "create-entity",

@@ -23,7 +23,8 @@ pub mod records;
 mod views;
 
 pub use address::{
-    Address, LARGEST_ADDRESS_PART, addresses_are_ordered, addresses_name_one, is_address_part,
+    Address, LARGEST_ADDRESS_PART, SiteApplication, addresses_are_ordered, addresses_name_one,
+    is_address_part,
 };
 pub use clock_time::ClockTime;
 pub use datum::{DatumFault, FixedDatum, VariableDatum, VariableView, padded_size};

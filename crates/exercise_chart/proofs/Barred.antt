@@ -9,6 +9,7 @@ use Rattle.std.proofs.lemmas.List.Elements.{All-nil, All-cons, All-append, All-m
 use Rattle.std.proofs.lemmas.Option.{slice_get_within}
 use Rattle.dis_records.specs.declared.entity.EntityId.{EntityId}
 use Rattle.dis_records.specs.declared.entity_state.EntityState.{EntityState}
+use Rattle.dis_records.specs.Entity.{entity_of}
 use Rattle.exercise_model.specs.declared.station.TheConstants.{LARGEST_ENTITY}
 use Rattle.exercise_model.specs.Station.{is_absent}
 use Rattle.exercise_model.specs.Entry.{Entry}
@@ -26,7 +27,7 @@ use Rattle.exercise_review.specs.declared.life.Stretch.{Stretch}
 use Rattle.exercise_review.specs.declared.span.Span.{Span}
 use Rattle.exercise_review.specs.Life.{state_before, lives_of, is_after, is_no_later, covers, states_at, if_there}
 use Rattle.exercise_check.specs.Links.{step_at, IsNamedOnce}
-use Rattle.exercise_review.specs.Span.{entity_at, span_of, entity_spans, spans_of_next, spans_of}
+use Rattle.exercise_review.specs.Span.{span_of, entity_spans, spans_of_next, spans_of}
 use Rattle.exercise_chart.specs.declared.bar.Bar.{Bar}
 use Rattle.exercise_chart.specs.declared.bar.BarSlots.{BarSlots}
 use Rattle.exercise_chart.specs.declared.bar.TheConstants.{MOST_ENTITIES}
@@ -316,7 +317,7 @@ spans_said : (r : PlainRecording) (steps : List Step) (s : ℕ) → IsGood r ste
 unfolding spans_of
 spans_said r steps s good named states =
     all_below (SpanSaid r steps s) (spans_of_next r s) LARGEST_ENTITY (λ n _.
-    let id : EntityId = entity_at (station_at r s).address (n + 1) in
+    let id : EntityId = entity_of (station_at r s).address (n + 1) in
     All-map (SpanSaid r steps s) (span_of r id) (lives_of r s (n + 1)) (stretches_said r steps s (n + 1) good named states))
 
 -- THE BARS HAVE THE STATES of their entities

@@ -3,7 +3,6 @@ use Rattle.std.specs.Prelude.{ℕ, ◌+◌, ◌-◌, List, [], ◌∷◌, ◌++�
 use Rattle.std.specs.List.{flat_map}
 use Rattle.exercise_model.specs.Recording.{PlainRecording}
 use Rattle.exercise_model.specs.History.{station_at}
-use Rattle.exercise_review.specs.Party.{pair_at}
 use Rattle.exercise_chart.specs.declared.arrow.Arrow.{Arrow}
 use Rattle.exercise_chart.specs.declared.outside.OutsideReceipt.{OutsideReceipt}
 use Rattle.exercise_chart.specs.declared.loss.Loss.{Loss}
@@ -29,7 +28,7 @@ outside_text f o =
     (number (codes "x1") (column_x f o.to.station - 24) ∷ number (codes "y1") (step_y f o.to.step)
     ∷ number (codes "x2") (column_x f o.to.station) ∷ number (codes "y2") (step_y f o.to.step)
     ∷ word (codes "stroke") (colour_of (tone_of o.said)) ∷ word (codes "marker-end") (head_of (tone_of o.said)) ∷ word (codes "class") (codes "outside")
-    ∷ word (codes "data-by") (address_text (pair_at o.by)) ∷ number (codes "data-to") o.to.entry ∷ [])
+    ∷ word (codes "data-by") (address_text o.by) ∷ number (codes "data-to") o.to.entry ∷ [])
 
 -- the place of the cross: before the column of station t, which the datagram of station s did not
 -- reach

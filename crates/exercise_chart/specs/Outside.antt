@@ -1,13 +1,12 @@
 -- The receipts from outside in a picture (profile).
 use Rattle.std.specs.Prelude.{ℕ, ◌+◌, List, Option, Some, None, option_map, option_and_then, slice_get, if◌then◌else◌}
 use Rattle.std.specs.Option.{option_to_list}
-use Rattle.dis_records.specs.Entity.{pair_of}
+use Rattle.dis_records.specs.Entity.{site_application_of}
 use Rattle.siman_pdus.specs.declared.pdu.Pdu.{Pdu}
 use Rattle.exercise_model.specs.Entry.{Entry, Sent, Received, Told}
 use Rattle.exercise_model.specs.History.{event_of, station_of}
 use Rattle.exercise_model.specs.Meaning.{meaning}
 use Rattle.exercise_review.specs.Order.{is_outside}
-use Rattle.exercise_review.specs.Parties.{site_application}
 use Rattle.exercise_review.specs.Room.{lists_below}
 use Rattle.exercise_chart.specs.declared.outside.OutsideReceipt.{OutsideReceipt}
 use Rattle.exercise_chart.specs.Point.{place_at}
@@ -18,7 +17,7 @@ use Rattle.exercise_chart.specs.Row.{row_count}
 -- the receipt of p at entry i, if p is from outside: with the address of its sender
 abbrev pub outside_receipt : SceneData → ℕ → Pdu → Option OutsideReceipt
 outside_receipt c i p =
-    if is_outside c.recording p then Some (record { by = site_application (pair_of p.origin); to = point_in c i; said = pdu_summary p }) else None
+    if is_outside c.recording p then Some (record { by = site_application_of p.origin; to = point_in c i; said = pdu_summary p }) else None
 
 unfoldable pub outside_receipt_in : SceneData → ℕ → Entry → Option OutsideReceipt
 outside_receipt_in c i (Sent s stamp b) = None

@@ -1,6 +1,6 @@
 -- What a station did, in words, with the names that a log uses (profile).
 use Rattle.std.specs.Prelude.{ℕ, List, [], ◌∷◌, ◌++◌, codes, Option, Some, None}
-use Rattle.dis_records.specs.Address.{Pair}
+use Rattle.dis_records.specs.declared.address.SiteApplication.{SiteApplication}
 use Rattle.dis_records.specs.Texts.{entity_text, kind_text, state_text}
 use Rattle.dis_records.specs.declared.entity_state.EntityState.{EntityState}
 use Rattle.exercise_review.specs.declared.word.Word.{Word as Said}
@@ -52,13 +52,13 @@ other_words did bytes =
     fields_spelled Text (Bare (codes "did") (Word did) ∷ Bare (codes "kind") (Word (codes "other")) ∷ Keyed (codes "bytes") (Number bytes) ∷ [])
 
 -- told entity=ID state=STATE
-abbrev pub told_words : Pair → (entity : ℕ) → EntityState → List ℕ
+abbrev pub told_words : SiteApplication → (entity : ℕ) → EntityState → List ℕ
 told_words address e y =
     fields_spelled Text (Bare (codes "did") (Word (codes "told")) ∷ Keyed (codes "entity") (Word (entity_text (entity_of address e)))
     ∷ Keyed (codes "state") (Word (state_text y)) ∷ [])
 
 -- WHAT THE STATION WITH AN ADDRESS DID
-unfoldable pub activity_words : Pair → Activity → List ℕ
+unfoldable pub activity_words : SiteApplication → Activity → List ℕ
 activity_words address (deeds.Sent said again) = sent_words said again
 activity_words address (deeds.Received said) = received_words said
 activity_words address (deeds.SentOther bytes) = other_words (codes "sent") bytes

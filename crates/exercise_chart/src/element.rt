@@ -3,8 +3,7 @@
 ghost use Rattle.std.specs.Prelude.{◌≡◌, ◌++◌, map, OnOk, string_bytes};
 ghost use Rattle.exercise_chart.specs.Element.{shown_text, attribute_of, attribute_text, attributes_text, element_text, begun_words, words_text};
 
-use dis_records::{Address, EntityId, EntityState};
-use exercise_review::SiteApplication;
+use dis_records::{Address, EntityId, EntityState, SiteApplication};
 use siman_print::{Field, Spelling, Value, put_opening};
 use std::alloc::AllocError;
 

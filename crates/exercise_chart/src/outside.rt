@@ -11,8 +11,8 @@ ghost use Rattle.exercise_chart.specs.Outside.{outside_receipt, outside_receipt_
 use crate::point::Point;
 use crate::saying::{Saying, pdu_summary};
 use crate::scene::Scene;
+use dis_records::SiteApplication;
 use exercise_model::{EntryView, ExerciseLog, Form, is_from};
-use exercise_review::SiteApplication;
 use siman_pdus::PduView;
 use std::alloc::{AllocError, Global};
 
@@ -56,12 +56,8 @@ fn outside_receipt<L: ExerciseLog>(
     ensures { result ≡ outside_receipt scene.now entry (pdu_of pdu.now) }
 {
     if is_outside(scene, pdu) {
-        let by = SiteApplication {
-            site: pdu.origin.site,
-            application: pdu.origin.application,
-        };
         Some(OutsideReceipt {
-            by,
+            by: pdu.origin.site_application(),
             to: scene.point(entry),
             said: pdu_summary(pdu),
         })

@@ -2,7 +2,7 @@
 -- step.
 use Rattle.std.specs.Prelude.{ℕ, zero, suc, List, [], ◌∷◌, ◌++◌, length, codes, Option, Some, None}
 use Rattle.std.specs.List.{flat_map}
-use Rattle.dis_records.specs.Address.{Pair}
+use Rattle.dis_records.specs.declared.address.SiteApplication.{SiteApplication}
 use Rattle.dis_records.specs.declared.entity_state.EntityState.{EntityState}
 use Rattle.dis_records.specs.declared.entity.EntityId.{EntityId}
 use Rattle.dis_records.specs.Texts.{entity_text, state_text}
@@ -25,7 +25,7 @@ abbrev pub known_line : ℕ → ℕ → Line
 known_line entry change = named_line (codes "known") (Bare (codes "entry") (Number entry) ∷ Spelt (codes "change") (Number change) ∷ [])
 
 -- entity SITE:APPLICATION:ENTITY STATE
-abbrev pub entity_line : Pair → ℕ × EntityState → Line
+abbrev pub entity_line : SiteApplication → ℕ × EntityState → Line
 entity_line address present =
     named_line (codes "entity") (Bare (codes "entity") (Word (entity_text (entity_of address present.0))) ∷ Bare (codes "state") (Word (state_text present.1)) ∷ [])
 

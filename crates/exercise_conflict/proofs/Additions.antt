@@ -4,7 +4,7 @@ use Rattle.std.specs.Prelude.{◌||◌, ◌&&◌, not, option_and_then, if◌the
 use Rattle.std.specs.Option.{option_map_or, option_or}
 use Rattle.std.specs.List.{list_any}
 use Rattle.std.proofs.lemmas.Bool.{or_cases, or_left, or_right}
-use Rattle.dis_records.specs.Address.{Pair}
+use Rattle.dis_records.specs.declared.address.SiteApplication.{SiteApplication}
 use Rattle.dis_records.specs.declared.entity_state.EntityState.{EntityState}
 use Rattle.dis_records.specs.declared.entity_state.EntityState.TheVariants.{Absent}
 use Rattle.dis_records.specs.declared.entity.Scope.{Scope}
@@ -132,13 +132,13 @@ or_none : {X : Type 0} (o : Option X) → option_or o None ≡ o
 or_none None = refl
 or_none (Some x) = refl
 
-brings_none : (x : ℕ) (a : Pair) (p : Pdu) (v : Event) (o : Option Pdu) → sends_no_able x v ≡ true → option_or o (request_brought x a p v) ≡ o
+brings_none : (x : ℕ) (a : SiteApplication) (p : Pdu) (v : Event) (o : Option Pdu) → sends_no_able x v ≡ true → option_or o (request_brought x a p v) ≡ o
 brings_none x a p (Send s b) o may = or_none o
 brings_none x a p (Get s b) o may = absurd (cc)
 brings_none x a p (Tell s e y) o may = absurd (cc)
 
 -- the request that is taken up
-pub taken_same : (x : ℕ) (a : Pair) (p : Pdu) (h k : History) → AddsTo (sends_no_able x) h k → request_taken_up x a p h ≡ request_taken_up x a p k
+pub taken_same : (x : ℕ) (a : SiteApplication) (p : Pdu) (h k : History) → AddsTo (sends_no_able x) h k → request_taken_up x a p h ≡ request_taken_up x a p k
 unfolding request_taken_up
 taken_same x a p h [] adds = ap (request_taken_up x a p) adds
 taken_same x a p h (v ∷ k) adds =

@@ -7,7 +7,7 @@ use Rattle.std.proofs.Math.Numerals.{add-one}
 use Rattle.std.proofs.lemmas.Bool.{eq-eqb, ne_eqb, eqb-true}
 use Rattle.std.proofs.lemmas.Bool.Decides.{nat_tests, Decides-like, same_from_decides}
 use Rattle.indexmap.specs.IndexMap.{get}
-use Rattle.dis_records.specs.Address.{Pair}
+use Rattle.dis_records.specs.declared.address.SiteApplication.{SiteApplication}
 use Rattle.dis_records.specs.Entity.{is_addressed}
 use Rattle.siman_pdus.specs.declared.pdu.Pdu.{Pdu}
 use Rattle.siman_pdus.specs.Role.{is_request_body, request_id_of}
@@ -192,7 +192,7 @@ asks_more r n kept ask old new at first is tied k =
 
 -- ---- a request by its key is one that the answer could take up
 
-key_is : (s : ℕ) (a : Pair) (p q : Pdu) (id : ℕ) → request_id_of p.body ≡ Some id
+key_is : (s : ℕ) (a : SiteApplication) (p q : Pdu) (id : ℕ) → request_id_of p.body ≡ Some id
     → option_map_or (same_request_key (asked_under s p id)) (request_key_of s a q) false ≡ is_asked a p q
 key_is s a p q id e =
     elim (is_request_body q.body) as (λ t. option_map_or (same_request_key (asked_under s p id)) (cond (t && is_addressed q.target a) (option_map (request_key_under s q) (request_id_of q.body)) None) false
@@ -213,7 +213,7 @@ key_is s a p q id e =
     ∙ ap (λ o. is_request_body q.body && (is_addressed q.target a && (same_id o (request_id_of q.body) && same_pair q.origin p.target))) (sym e)
 
 -- at another station none is
-key_apart : (s t : ℕ) (a : Pair) (p q : Pdu) (id : ℕ) → nat_eq t s ≡ false → option_map_or (same_request_key (asked_under s p id)) (request_key_of t a q) false ≡ false
+key_apart : (s t : ℕ) (a : SiteApplication) (p q : Pdu) (id : ℕ) → nat_eq t s ≡ false → option_map_or (same_request_key (asked_under s p id)) (request_key_of t a q) false ≡ false
 key_apart s t a p q id far =
     elim (is_request_body q.body && is_addressed q.target a) as (λ c. option_map_or (same_request_key (asked_under s p id)) (cond c (option_map (request_key_under t q) (request_id_of q.body)) None) false ≡ false) [
       | false ↦ refl

@@ -1,7 +1,7 @@
 -- The blocked list, and the rules that its causes break.
 use Rattle.std.specs.Prelude.{ℕ, List, [], ◌∷◌, map, length, codes, Bool, ◌==◌}
 use Rattle.std.specs.List.{filter, list_any}
-use Rattle.dis_records.specs.Address.{Pair}
+use Rattle.dis_records.specs.declared.address.SiteApplication.{SiteApplication}
 use Rattle.exercise_model.specs.declared.cause.Cause.{Cause}
 use Rattle.exercise_model.specs.Numbers.{cause_number, cause_text}
 use Rattle.exercise_model.specs.Recording.{PlainRecording}
@@ -17,7 +17,7 @@ abbrev pub blocked_line : ℕ → Line
 blocked_line count = counted (codes "blocked") (codes "stations") count
 
 -- blocked SITE:APPLICATION record=N cause=N NAME
-abbrev pub block_at : Pair → Block → Line
+abbrev pub block_at : SiteApplication → Block → Line
 block_at address b =
     named_line (codes "blocked") (Bare (codes "address") (Word (address_text address)) ∷ Keyed (codes "record") (Number b.entry)
     ∷ Keyed (codes "cause") (Number (cause_number b.cause)) ∷ Bare (codes "name") (Word (cause_text b.cause)) ∷ [])

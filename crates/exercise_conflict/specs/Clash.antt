@@ -4,7 +4,7 @@ use Rattle.std.specs.Option.{option_map_or}
 use Rattle.dis_records.specs.declared.entity.Scope.{Scope}
 use Rattle.dis_records.specs.declared.entity.Scope.TheVariants.{One, All}
 use Rattle.dis_records.specs.declared.entity_state.EntityState.{EntityState}
-use Rattle.dis_records.specs.Address.{Pair}
+use Rattle.dis_records.specs.declared.address.SiteApplication.{SiteApplication}
 use Rattle.dis_records.specs.Entity.{is_addressed}
 use Rattle.siman_pdus.specs.declared.pdu.Pdu.{Pdu}
 use Rattle.siman_pdus.specs.Role.{is_request_body, request_id_of}
@@ -54,7 +54,7 @@ abbrev pub is_asking : Pdu → Pdu → Bool
 is_asking p q = is_request_body q.body && (same_id (request_id_of p.body) (request_id_of q.body) && same_pair q.origin p.target)
 
 -- a request for p that does not address the station at a
-abbrev pub is_overheard : Pair → Pdu → Pdu → Bool
+abbrev pub is_overheard : SiteApplication → Pdu → Pdu → Bool
 is_overheard a p q = is_asking p q && not (is_addressed q.target a)
 
 -- entry i delivers to station s a request for p that does not address the station
@@ -71,7 +71,7 @@ unfoldable pub asks_at : PlainRecording → Pdu → ℕ → Bool
 asks_at r p i = option_map_or (asks_by r p) (slice_get r.entries i) false
 
 -- the receiver of the answer p is the station at this address
-abbrev pub is_sent_to : Pair → Pdu → Bool
+abbrev pub is_sent_to : SiteApplication → Pdu → Bool
 is_sent_to a p = is_from a (record p { origin = p.target })
 
 -- the recorded station that p is sent to

@@ -4,7 +4,7 @@ use Rattle.std.specs.Option.{option_map_or, option_to_list}
 use Rattle.std.specs.declared.hash.BuildHasherDefault.{BuildHasherDefault}
 use Rattle.std.specs.declared.hash.DefaultHasher.{DefaultHasher}
 use Rattle.indexmap.specs.IndexMap.{IndexMap, get}
-use Rattle.dis_records.specs.Address.{Pair}
+use Rattle.dis_records.specs.declared.address.SiteApplication.{SiteApplication}
 use Rattle.dis_records.specs.Entity.{is_addressed}
 use Rattle.siman_pdus.specs.declared.pdu.Pdu.{Pdu}
 use Rattle.siman_pdus.specs.Role.{is_request_body, request_id_of}
@@ -64,7 +64,7 @@ same_request_key k l = (k.station == l.station) && ((k.request == l.request) && 
 abbrev pub request_key_under : ℕ → Pdu → ℕ → ReceivedKey
 request_key_under s q id = record { station = s; request = id; site = q.origin.site; application = q.origin.application }
 
-abbrev pub request_key_of : ℕ → Pair → Pdu → Option ReceivedKey
+abbrev pub request_key_of : ℕ → SiteApplication → Pdu → Option ReceivedKey
 request_key_of s a q = if is_request_body q.body && is_addressed q.target a then option_map (request_key_under s q) (request_id_of q.body) else None
 
 abbrev pub request_key_by : PlainRecording → Entry → Option ReceivedKey

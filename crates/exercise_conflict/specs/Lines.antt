@@ -1,7 +1,7 @@
 -- The rows of conflicts and refusals.
 use Rattle.std.specs.Prelude.{ℕ, ◌<◌, ⊤, Bool, true, false, List, [], ◌∷◌, ◌++◌, map, length, codes, Option, Some, None}
-use Rattle.dis_records.specs.Address.{Pair}
-use Rattle.dis_records.specs.Entity.{pair_of}
+use Rattle.dis_records.specs.declared.address.SiteApplication.{SiteApplication}
+use Rattle.dis_records.specs.Entity.{entity_of, site_application_of}
 use Rattle.dis_records.specs.Texts.{entity_text, state_text}
 use Rattle.dis_records.specs.declared.entity.EntityId.{EntityId}
 use Rattle.dis_records.specs.declared.entity_state.EntityState.{EntityState}
@@ -42,11 +42,7 @@ station_field r key s = Keyed key (Word (address_text (station_at r s).address))
 
 -- from=ADDRESS, the sender's address in a datagram
 abbrev pub from_field : EntityId → Field
-from_field id = Keyed (codes "from") (Word (address_text (pair_of id)))
-
--- the identifier of an entity of a station
-abbrev pub entity_id : PlainRecording → ℕ → ℕ → EntityId
-entity_id r s n = record { site = (station_at r s).address.site; application = (station_at r s).address.application; entity = n }
+from_field id = Keyed (codes "from") (Word (address_text (site_application_of id)))
 
 -- a state, or a missing value
 abbrev pub state_value : Option EntityState → Value
@@ -102,10 +98,10 @@ clash_fields r (clashes.ReusedIdentifier earlier differs) = differing_fields ear
 clash_fields r (clashes.NoRequest later overheard sent) = request_fields later overheard sent
 clash_fields r (clashes.WrongAnswer earlier differs) = differing_fields earlier (mismatch_text differs)
 clash_fields r (clashes.ChangedAnswer earlier) = earlier_fields earlier
-clash_fields r (clashes.Impossible earlier s n state change) = earlier_fields earlier ++ state_fields (entity_id r s n) state change
+clash_fields r (clashes.Impossible earlier s n state change) = earlier_fields earlier ++ state_fields (entity_of (station_at r s).address n) state change
 clash_fields r (clashes.Stranger from) = from_field from ∷ []
 clash_fields r (clashes.NeverSent from sent near differs) = send_fields from sent near differs
-clash_fields r (clashes.WrongState s n state change) = state_fields (entity_id r s n) (Some state) change
+clash_fields r (clashes.WrongState s n state change) = state_fields (entity_of (station_at r s).address n) (Some state) change
 
 -- the station that it names is one of the recording
 abbrev pub IsOfStations : PlainRecording → Clash → Type 0
@@ -203,7 +199,7 @@ abbrev pub fault_line : Blame → Line
 fault_line fault = named_line (codes "fault") (Bare (codes "of") (Word (fault_text fault)) ∷ [])
 
 -- the addresses of stations
-abbrev pub addresses_of : PlainRecording → List ℕ → List Pair
+abbrev pub addresses_of : PlainRecording → List ℕ → List SiteApplication
 addresses_of r stations = map (λ s. (station_at r s).address) stations
 
 -- cycle ADDRESS ADDRESS ..

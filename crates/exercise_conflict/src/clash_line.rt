@@ -1,10 +1,11 @@
 //! Rows of an entry's contradiction.
 
 ghost use Rattle.std.specs.Prelude.{◌≡◌, ◌<◌, ◌∷◌, [], ◌++◌, length, OnOk, IfOk, string_bytes};
-ghost use Rattle.dis_records.specs.Entity.{pair_of};
+ghost use Rattle.dis_records.specs.Entity.{site_application_of, entity_of};
+ghost use Rattle.exercise_model.specs.History.{station_at};
 ghost use Rattle.siman_print.specs.Lent.{value_of};
 ghost use Rattle.siman_print.specs.Spelled.{address_text, fields_spelled, line_spelled};
-ghost use Rattle.exercise_conflict.specs.Lines.{entity_id, state_value, difference_value, mismatch_text, from_field, sender_fields, earlier_fields, differing_fields, request_fields, state_fields, send_fields, clash_fields, clash_line, IsOfStations};
+ghost use Rattle.exercise_conflict.specs.Lines.{state_value, difference_value, mismatch_text, from_field, sender_fields, earlier_fields, differing_fields, request_fields, state_fields, send_fields, clash_fields, clash_line, IsOfStations};
 
 use crate::lines::entry_value;
 use crate::{AnswerMismatch, Clash, PduField as Difference};
@@ -44,21 +45,17 @@ fn mismatch_word(differs: AnswerMismatch) -> &'static str
 }
 
 /// The identifier of an entity of a station.
-fn entity_id<L: ExerciseLog>(log: &L, station: u16, entity: u16) -> EntityId
+fn entity_of<L: ExerciseLog>(log: &L, station: u16, entity: u16) -> EntityId
     requires { station < length (L.recording log.now).setting.stations }
-    ensures { result ≡ entity_id (L.recording log.now) station entity }
+    ensures { result ≡ entity_of (station_at (L.recording log.now) station).address entity }
 {
     let address = log.station(usize::from(station)).address();
-    EntityId {
-        site: address.site(),
-        application: address.application(),
-        entity,
-    }
+    address.site_application().entity(entity)
 }
 
 /// `SITE:APPLICATION` of an identifier.
 fn address_word(alloc: Global, id: EntityId) -> Result<String, AllocError>
-    ensures { IfOk result (λ word. string_bytes word ≡ address_text (pair_of id)) }
+    ensures { IfOk result (λ word. string_bytes word ≡ address_text (site_application_of id)) }
 {
     let word = format!(in alloc; "{}:{}", id.site, id.application)?;
     Ok(word)
@@ -222,7 +219,7 @@ pub(crate) fn put_clash_fields<L: ExerciseLog>(
             put_state(
                 text,
                 spelling,
-                entity_id(log, station, entity),
+                entity_of(log, station, entity),
                 state,
                 change,
             )
@@ -242,7 +239,7 @@ pub(crate) fn put_clash_fields<L: ExerciseLog>(
         } => put_state(
             text,
             spelling,
-            entity_id(log, station, entity),
+            entity_of(log, station, entity),
             Some(state),
             change,
         ),

@@ -6,7 +6,7 @@ use Rattle.std.specs.List.{list_any}
 use Rattle.std.proofs.lemmas.Bool.{eqb-true, eq-eqb, lt-ltb, le-ltb}
 use Rattle.std.proofs.lemmas.Bool.Decides.{nat_tests}
 use Rattle.std.proofs.lemmas.Option.{same_Some}
-use Rattle.dis_records.specs.Address.{Pair}
+use Rattle.dis_records.specs.declared.address.SiteApplication.{SiteApplication}
 use Rattle.dis_records.specs.Entity.{is_addressed}
 use Rattle.siman_pdus.specs.declared.pdu.Pdu.{Pdu}
 use Rattle.siman_pdus.specs.Role.{is_request_body, request_id_of}
@@ -76,7 +76,7 @@ same_parts s i j a b c d =
     ∙ ap (λ t. nat_eq i j && (nat_eq a b && t)) (and_true (nat_eq d c) ∙ nat_eq-comm d c)
 
 -- a request at the station itself
-got_same : (a : Pair) (s : ℕ) (p q : Pdu) (id : ℕ) → request_id_of p.body ≡ Some id
+got_same : (a : SiteApplication) (s : ℕ) (p q : Pdu) (id : ℕ) → request_id_of p.body ≡ Some id
     → option_map_or (same_key (request_key s p.target.site p.target.application id)) (received_key s a q) false ≡ is_asked a p q
 got_same a s p q id e =
     let k : Key = request_key s p.target.site p.target.application id in
@@ -98,7 +98,7 @@ got_same a s p q id e =
     ∙ ap (λ o. is_request_body q.body && (is_addressed q.target a && (same_id o (request_id_of q.body) && same_pair q.origin p.target))) (sym e)
 
 -- a request at another station
-got_other : (a : Pair) (s t site application id : ℕ) (q : Pdu) → nat_eq t s ≡ false
+got_other : (a : SiteApplication) (s t site application id : ℕ) (q : Pdu) → nat_eq t s ≡ false
     → option_map_or (same_key (request_key s site application id)) (received_key t a q) false ≡ false
 got_other a s t site application id q far =
     let k : Key = request_key s site application id in
@@ -148,7 +148,7 @@ event_asked r s p id e (Send t b) =
     ≡ false) [ true ↦ refl | false ↦ refl ] ∙ sym none
 event_asked r s p id e (Get t b) =
     let k : Key = request_key s p.target.site p.target.application id in
-    let a : Pair = (station_at r s).address in
+    let a : SiteApplication = (station_at r s).address in
     elim (nat_eq t s) as (λ c. nat_eq t s ≡ c → is_some (option_and_then (request_brought r.setting.exercise a p) (cond c (Some (Get t b)) None))
     ≡ option_map_or (same_key k) (option_and_then (received_key t (station_at r t).address) (meaning r.setting.exercise b)) false) [
       | true ↦ λ near. elim (meaning r.setting.exercise b) as (λ o. is_some (option_and_then (λ q. cond (is_asked a p q) (Some q) None) o)
@@ -175,7 +175,7 @@ event_unasked r s p e (Send t b) =
     elim (nat_eq t s) as (λ c. is_some (option_and_then (request_brought r.setting.exercise (station_at r s).address p) (cond c (Some (Send t b)) None))
     ≡ false) [ true ↦ refl | false ↦ refl ]
 event_unasked r s p e (Get t b) =
-    let a : Pair = (station_at r s).address in
+    let a : SiteApplication = (station_at r s).address in
     elim (nat_eq t s) as (λ c. is_some (option_and_then (request_brought r.setting.exercise a p) (cond c (Some (Get t b)) None)) ≡ false) [
       | false ↦ refl
       | true ↦ elim (meaning r.setting.exercise b) as (λ o. is_some (option_and_then (λ q. cond (is_asked a p q) (Some q) None) o) ≡ false) [
@@ -184,7 +184,7 @@ event_unasked r s p e (Get t b) =
       ]
     ]
   where
-    unasked : (a : Pair) (q : Pdu) → is_asked a p q ≡ false
+    unasked : (a : SiteApplication) (q : Pdu) → is_asked a p q ≡ false
     unasked a q =
         ap (λ o. is_request_body q.body && (is_addressed q.target a && (same_id o (request_id_of q.body) && same_pair q.origin p.target))) e
         ∙ ap (λ b. is_request_body q.body && b) (and_false (is_addressed q.target a)) ∙ and_false (is_request_body q.body)
@@ -222,7 +222,7 @@ taken_up_by_key r s p n =
     ] refl
 
 -- the request itself is what that entry brings
-request_more : (x : ℕ) (a : Pair) (p : Pdu) (r : PlainRecording) (s i : ℕ)
+request_more : (x : ℕ) (a : SiteApplication) (p : Pdu) (r : PlainRecording) (s i : ℕ)
     → request_taken_up x a p (log_before r s (suc i)) ≡ option_or (request_taken_up x a p (log_before r s i))
     (option_and_then (request_brought x a p) (own_event r s i))
 unfolding request_taken_up
@@ -320,7 +320,7 @@ sent_far s t response k p far =
     other n l = ap (λ b. nat_eq response n && (b && same_acknowledged k l)) (nat_eq-comm s t ∙ far) ∙ and_false (nat_eq response n)
 
 -- a request has no Acknowledge's key
-got_unsent : (s t response : ℕ) (a : Pair) (k : AcknowledgeKey) (q : Pdu)
+got_unsent : (s t response : ℕ) (a : SiteApplication) (k : AcknowledgeKey) (q : Pdu)
     → option_map_or (same_key (acknowledged_key s response k)) (received_key t a q) false ≡ false
 got_unsent s t response a k q =
     elim (is_request_body q.body && is_addressed q.target a) as (λ c. option_map_or (same_key (acknowledged_key s response k))

@@ -1,7 +1,7 @@
 -- The first entry under each key: of requests that a station received, and of Ables and Unables that it sent (profile).
 use Rattle.std.specs.Prelude.{◌≡◌, ℕ, Bool, false, ◌&&◌, ◌==◌, Option, Some, None, option_map, option_and_then, slice_get, if◌then◌else◌}
 use Rattle.std.specs.Option.{option_map_or}
-use Rattle.dis_records.specs.Address.{Pair}
+use Rattle.dis_records.specs.declared.address.SiteApplication.{SiteApplication}
 use Rattle.dis_records.specs.Entity.{is_addressed}
 use Rattle.siman_pdus.specs.declared.pdu.Pdu.{Pdu}
 use Rattle.siman_pdus.specs.Role.{is_request_body, request_id_of}
@@ -59,7 +59,7 @@ abbrev pub answer_base : ℕ → Pdu → ℕ
 answer_base s p = option_map_or (λ k. key_base (acknowledged_key s able k)) (key_of p) 0
 
 -- the key of q, received by station s at address a, if it is a request to it
-abbrev pub received_key : ℕ → Pair → Pdu → Option Key
+abbrev pub received_key : ℕ → SiteApplication → Pdu → Option Key
 received_key s a q =
     if is_request_body q.body && is_addressed q.target a
     then option_map (request_key s q.origin.site q.origin.application) (request_id_of q.body)

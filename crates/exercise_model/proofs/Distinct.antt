@@ -3,20 +3,20 @@ use Rattle.std.proofs.Common.{◌≡◌, ⊎_elim, inl, inr, ℕ, zero, suc, ◌
 use Rattle.std.specs.Prelude.{◌⊎◌, ◌&&◌, ◌||◌, ◌==◌, nat_lt, nat_le, slice_index_or}
 use Rattle.std.proofs.lemmas.Bool.{and_parts, eqb-true, ltb-true, cases_order}
 use Rattle.exercise_model.specs.declared.station.TheConstants.{MOST_STATIONS}
-use Rattle.dis_records.specs.Address.{Pair}
+use Rattle.dis_records.specs.declared.address.SiteApplication.{SiteApplication}
 use Rattle.siman_pdus.specs.declared.pdu.Pdu.{Pdu}
 use Rattle.exercise_model.specs.Station.{StationData, is_below, is_above, are_rising}
 use Rattle.exercise_model.specs.Setting.{SettingData, IsSetting, nowhere, station_in, is_from}
 
 -- an address is below another: by its site, or by its application at the same site
-abbrev pub IsLess : Pair → Pair → Type 0
+abbrev pub IsLess : SiteApplication → SiteApplication → Type 0
 IsLess p q = (p.site < q.site) ⊎ ((p.site ≡ q.site) × (p.application < q.application))
 
 or_parts : (a b : Bool) → (a || b) ≡ true → (a ≡ true) ⊎ (b ≡ true)
 or_parts true b e = inl e
 or_parts false b e = inr e
 
-less : (p q : Pair) → is_below p q ≡ true → IsLess p q
+less : (p q : SiteApplication) → is_below p q ≡ true → IsLess p q
 less p q e =
     ⊎_elim
     (λ (site : nat_lt p.site q.site ≡ true). inl (ltb-true _ _ site))
@@ -24,7 +24,7 @@ less p q e =
     (nat_lt p.application q.application) both in inr (eqb-true _ _ parts.0, ltb-true _ _ parts.1))
     (or_parts (nat_lt p.site q.site) ((p.site == q.site) && nat_lt p.application q.application) e)
 
-less_on : (p q u : Pair) → IsLess p q → IsLess q u → IsLess p u
+less_on : (p q u : SiteApplication) → IsLess p q → IsLess q u → IsLess p u
 less_on p q u one other =
     ⊎_elim
     (λ (a : p.site < q.site). ⊎_elim (λ (b : q.site < u.site). let c : p.site < u.site = omega arith in inl c)
@@ -36,7 +36,7 @@ less_on p q u one other =
     one
 
 -- stations that rise from above an address are all above it
-rising_from : (a : Pair) (ss : List StationData) → are_rising (Some a) ss ≡ true → (j : ℕ) → j < length ss
+rising_from : (a : SiteApplication) (ss : List StationData) → are_rising (Some a) ss ≡ true → (j : ℕ) → j < length ss
     → IsLess a (slice_index_or ss j nowhere).address
 rising_from a [] rising j within = absurd (omega arith)
 rising_from a (s ∷ ss) rising zero within = less a s.address (and_parts (is_below a s.address) (are_rising (Some s.address) ss) rising).0
@@ -44,7 +44,7 @@ rising_from a (s ∷ ss) rising (suc j) within =
     let parts = and_parts (is_below a s.address) (are_rising (Some s.address) ss) rising in
     less_on a s.address (slice_index_or ss j nowhere).address (less a s.address parts.0) (rising_from s.address ss parts.1 j (omega arith))
 
-rising_at : (before : Option Pair) (ss : List StationData) → are_rising before ss ≡ true → (i j : ℕ) → i < j → j < length ss
+rising_at : (before : Option SiteApplication) (ss : List StationData) → are_rising before ss ≡ true → (i j : ℕ) → i < j → j < length ss
     → IsLess (slice_index_or ss i nowhere).address (slice_index_or ss j nowhere).address
 rising_at before [] rising i j below within = absurd (omega arith)
 rising_at before (s ∷ ss) rising zero zero below within = absurd (omega arith)
@@ -55,7 +55,7 @@ rising_at before (s ∷ ss) rising (suc i) (suc j) below within =
     rising_at (Some s.address) ss (and_parts (is_above before s.address) (are_rising (Some s.address) ss) rising).1 i j (omega arith) (omega arith)
 
 -- one originator is not at two addresses of which one is below the other
-no_two_origins : (a c : Pair) (p : Pdu) → is_from a p ≡ true → is_from c p ≡ true → IsLess a c → ⊥
+no_two_origins : (a c : SiteApplication) (p : Pdu) → is_from a p ≡ true → is_from c p ≡ true → IsLess a c → ⊥
 no_two_origins a c p one other below =
     let x = and_parts (p.origin.site == a.site) (p.origin.application == a.application) one in
     let y = and_parts (p.origin.site == c.site) (p.origin.application == c.application) other in
@@ -64,7 +64,7 @@ no_two_origins a c p one other below =
     (λ (less : (a.site ≡ c.site) × (a.application < c.application)). absurd (omega (arith, x1, y1, less.1))) below
 
 -- no address is below itself
-never_itself : (a : Pair) → IsLess a a → ⊥
+never_itself : (a : SiteApplication) → IsLess a a → ⊥
 never_itself a below =
     ⊎_elim (λ (site : a.site < a.site). absurd (omega (arith, site))) (λ (both : (a.site ≡ a.site) × (a.application < a.application)). absurd (omega (arith, both.1))) below
 

@@ -3,7 +3,7 @@ use Rattle.std.proofs.Common.{◌≡◌, ℕ, List, [], ◌∷◌, map, Option, 
 use Rattle.std.specs.Prelude.{◌&&◌, ◌||◌, not, is_none, option_and_then, if◌then◌else◌}
 use Rattle.std.specs.List.{list_any}
 use Rattle.std.specs.Option.{option_map_or, option_or}
-use Rattle.dis_records.specs.Address.{Pair}
+use Rattle.dis_records.specs.declared.address.SiteApplication.{SiteApplication}
 use Rattle.dis_records.specs.declared.kind.Kind.{Kind}
 use Rattle.dis_records.specs.declared.entity.Scope.{Scope}
 use Rattle.dis_records.specs.declared.entity.Scope.TheVariants.{One, All}
@@ -57,7 +57,7 @@ acknowledged_moved x response k s log = any_moved (sends_under x response k) s l
   same (Get t c) = refl
   same (Tell t e y) = refl
 
-taken_moved : (x : ℕ) (a : Pair) (p : Pdu) (s : ℕ) (log : History) → request_taken_up x a p (moved s log) ≡ request_taken_up x a p log
+taken_moved : (x : ℕ) (a : SiteApplication) (p : Pdu) (s : ℕ) (log : History) → request_taken_up x a p (moved s log) ≡ request_taken_up x a p log
 unfolding request_taken_up
 taken_moved x a p s [] = refl
 taken_moved x a p s (v ∷ log) =

@@ -3,7 +3,7 @@ use Rattle.std.proofs.Common.{◌≡◌, ℕ, List, true, false, Option, Some, N
 use Rattle.std.specs.Prelude.{slice_get, ◌==◌, option_map, option_and_then, if◌then◌else◌}
 use Rattle.std.proofs.lemmas.Bool.{eqb-true, and_parts}
 use Rattle.dis_records.specs.declared.entity.EntityId.{EntityId}
-use Rattle.dis_records.specs.Entity.{pair_of, is_addressed}
+use Rattle.dis_records.specs.Entity.{site_application_of, is_addressed}
 use Rattle.siman_pdus.specs.declared.pdu.Pdu.{Pdu}
 use Rattle.siman_pdus.specs.Answers.{same_id, same_pair}
 use Rattle.siman_pdus.specs.Role.{is_request_body, request_id_of}
@@ -16,14 +16,13 @@ use Rattle.exercise_model.specs.Place.{brings_request, entry_taken_up, first_bel
 use Rattle.exercise_model.specs.Recording.{PlainRecording}
 use Rattle.exercise_model.proofs.Offered.{first_found}
 use Rattle.exercise_review.specs.Entries.{bytes_of, bytes_received, pdu_received, pdu_at}
-use Rattle.exercise_review.specs.Parties.{site_application}
 use Rattle.exercise_review.specs.Span.{request_behind}
 use Rattle.exercise_review.proofs.Brought.{brings_is}
 use Rattle.exercise_review.proofs.Heard.{meant_got}
 use Rattle.exercise_review.proofs.Runs.{there}
 use Rattle.exercise_review.proofs.Under.{ids_are}
 
-same_address : (i j : EntityId) → same_pair i j ≡ true → pair_of i ≡ pair_of j
+same_address : (i j : EntityId) → same_pair i j ≡ true → site_application_of i ≡ site_application_of j
 same_address i j same =
     let parts = and_parts (i.site == j.site) (i.application == j.application) same in
     ap (λ x. record { site = x; application = i.application }) (eqb-true i.site j.site parts.0)
@@ -39,7 +38,7 @@ meant_here r s j q got = by_bytes (bytes_received r s j) refl got
 
 -- who asked for what an answer takes up, and under which identifier
 pub record IsAskedBy (r : PlainRecording) (i : ℕ) (p : Pdu) : Type 0 where
-  pub by : Some (site_application (pair_of p.target)) ≡ option_map (λ (q : Pdu). site_application (pair_of q.origin)) (request_behind r i)
+  pub by : Some (site_application_of p.target) ≡ option_map (λ (q : Pdu). site_application_of q.origin) (request_behind r i)
   pub request : request_id_of p.body ≡ option_and_then (λ (q : Pdu). request_id_of q.body) (request_behind r i)
 
 asked_for : (r : PlainRecording) (s i j : ℕ) (p : Pdu) → pair_at r i ≡ Some j → brings_request r s p j ≡ true → IsAskedBy r i p
@@ -52,7 +51,7 @@ asked_for r s i j p pair brings =
     let addressed = and_parts (is_addressed q.target (station_at r s).address) _ parts.1 in
     let same = and_parts (same_id (request_id_of p.body) (request_id_of q.body)) (same_pair q.origin p.target) addressed.1 in
     record {
-      by = sym (ap (option_map (λ (x : Pdu). site_application (pair_of x.origin))) behind ∙ ap (λ a. Some (site_application a)) (same_address q.origin p.target same.1));
+      by = sym (ap (option_map (λ (x : Pdu). site_application_of x.origin)) behind ∙ ap Some (same_address q.origin p.target same.1));
       request = ids_are (request_id_of p.body) (request_id_of q.body) same.0 ∙ sym (ap (option_and_then (λ (x : Pdu). request_id_of x.body)) behind);
     }
 

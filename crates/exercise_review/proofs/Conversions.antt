@@ -3,7 +3,6 @@ use Rattle.std.proofs.Common.{◌≡◌, ℕ, zero, suc, ◌+◌, ◌<◌, ◌�
 use Rattle.std.specs.Prelude.{◌↔◌, Result, Ok, Err}
 use Rattle.std.specs.Option.{option_to_list}
 use Rattle.dis_records.specs.declared.entity.EntityId.{EntityId}
-use Rattle.dis_records.specs.Address.{Pair}
 use Rattle.exercise_model.specs.declared.form.Form.{Form}
 use Rattle.exercise_model.specs.declared.form.Form.TheVariants.{First}
 use Rattle.exercise_model.specs.declared.station.TheConstants.{LARGEST_ENTITY}
@@ -17,7 +16,8 @@ use Rattle.exercise_review.specs.declared.fault.ReviewFault.{ReviewFault}
 use Rattle.exercise_review.specs.declared.fault.ReviewFault.TheVariants.{OverLimit, Memory}
 use Rattle.exercise_review.specs.declared.life.Stretch.{Stretch}
 use Rattle.exercise_review.specs.declared.outcome.Outcome.{Outcome}
-use Rattle.exercise_review.specs.declared.party.SiteApplication.{SiteApplication}
+use Rattle.dis_records.specs.declared.address.SiteApplication.{SiteApplication}
+use Rattle.dis_records.specs.Entity.{entity_of}
 use Rattle.exercise_review.specs.declared.party.Party.{Party}
 use Rattle.exercise_review.specs.declared.party.Party.TheVariants as parties
 use Rattle.exercise_review.specs.declared.review.Review.{Review}
@@ -27,7 +27,7 @@ use Rattle.exercise_review.specs.declared.told.OrderAt.{OrderAt}
 use Rattle.exercise_review.specs.Entries.{bytes_sent, bytes_received, pdu_sent, pdu_received, pdu_at}
 use Rattle.exercise_review.specs.Order.{OrderData, sends_order, gets_order, gets_anywhere, is_outside, is_meant, head_of, order_at, sends_of, sends_under_id, is_first_under_id}
 use Rattle.exercise_review.specs.Party.{first_copy, is_party, is_heard_from, is_at, is_party_outside}
-use Rattle.exercise_review.specs.Parties.{pair_numbered, site_application, addresses, party_at, parties_below, parties_of}
+use Rattle.exercise_review.specs.Parties.{address_numbered, addresses, party_at, parties_below, parties_of}
 use Rattle.exercise_review.specs.Reply.{is_reply, is_changing_reply, change_of_order, replies_in, has_reply_in, is_news}
 use Rattle.exercise_review.specs.Word.{word_at, settles_at, first_settling, decisive_entry}
 use Rattle.exercise_review.specs.Fate.{traces_of, fate_of}
@@ -37,7 +37,7 @@ use Rattle.exercise_findings.specs.Missing.{gets_bytes, missing_at}
 use Rattle.exercise_review.specs.Outcome.{stamp_at, recorded_outcome, outsider_outcome, partyless_outcome, outcome_at, outcomes_at, outcomes_of}
 use Rattle.exercise_review.specs.Review.{line_count, GivesReview, Reviews}
 use Rattle.exercise_review.specs.Room.{lists_below}
-use Rattle.exercise_review.specs.Span.{request_behind, entity_at, span_of, entity_spans, spans_of_next, spans_of, all_spans}
+use Rattle.exercise_review.specs.Span.{request_behind, span_of, entity_spans, spans_of_next, spans_of, all_spans}
 use Rattle.exercise_review.specs.Tally.{many, fates_of, fates_at, is_entry_of, is_made_by, is_running, station_counts}
 use Rattle.exercise_review.specs.Told.{order_at_party, order_at_parties, orders_at, orders_of, reviewed_orders}
 use Rattle.exercise_review.specs.Alike.{AreReviewedAlike}
@@ -100,7 +100,7 @@ outcome_same r o (parties.Outside a) = outside_same r o a
 
 -- ---- its parties
 
-party_same : (r : PlainRecording) (o : OrderData) (a : Pair) → party_at (firstly r) o a ≡ party_at (converted r) o a
+party_same : (r : PlainRecording) (o : OrderData) (a : SiteApplication) → party_at (firstly r) o a ≡ party_at (converted r) o a
 unfolding party_at is_at is_party is_meant first_copy gets_order pdu_received bytes_received is_party_outside
 party_same r o a = refl
 
@@ -108,8 +108,8 @@ parties_same : (r : PlainRecording) (o : OrderData) (n : ℕ) → parties_below 
 unfolding parties_below
 parties_same r o zero = refl
 parties_same r o (suc n) =
-    ap (λ xs. xs ++ option_to_list (party_at (firstly r) o (pair_numbered n))) (parties_same r o n)
-    ∙ ap (λ x. parties_below (converted r) o n ++ option_to_list x) (party_same r o (pair_numbered n))
+    ap (λ xs. xs ++ option_to_list (party_at (firstly r) o (address_numbered n))) (parties_same r o n)
+    ∙ ap (λ x. parties_below (converted r) o n ++ option_to_list x) (party_same r o (address_numbered n))
 
 all_parties_same : (r : PlainRecording) (o : OrderData) → parties_of (firstly r) o ≡ parties_of (converted r) o
 unfolding parties_of
@@ -154,7 +154,7 @@ span_same r id x = refl
 
 entity_same : (r : PlainRecording) (s e : ℕ) → entity_spans (firstly r) s e ≡ entity_spans (converted r) s e
 entity_same r s e =
-    let id : EntityId = entity_at (station_at r s).address e in
+    let id : EntityId = entity_of (station_at r s).address e in
     map_same (span_of (firstly r) id) (span_of (converted r) id) (span_same r id) (lives_of (firstly r) s e)
     ∙ ap (map (span_of (converted r) id)) (lives_same r s e)
 
@@ -171,7 +171,7 @@ spans_same r = lists_same (spans_of (firstly r)) (spans_of (converted r)) (stati
 -- what is counted of a station, by the orders and what is told of them
 abbrev counted : PlainRecording → ℕ → List OrderData → List OrderAt → StationCounts
 counted r s os told = record {
-  at = site_application (station_at r s).address;
+  at = (station_at r s).address;
   records = many (is_entry_of s) r.entries;
   made = many (is_made_by s) os;
   fates = fates_at s told;

@@ -5,8 +5,8 @@ use Rattle.std.specs.Option.{option_to_list}
 use Rattle.std.proofs.Math.Numerals.{add-one}
 use Rattle.std.proofs.lemmas.Bool.{lt-ltb, le-ltb, ltb-true, ltb-false, leb-true, le-leb, lt-leb, eqb-true, eq-eqb, ne_eqb, and_parts, or_cases, or_parts, cases_lt}
 use Rattle.std.proofs.lemmas.Option.{same_Some}
-use Rattle.dis_records.specs.Address.{Pair}
-use Rattle.dis_records.specs.Entity.{pair_of}
+use Rattle.dis_records.specs.declared.address.SiteApplication.{SiteApplication}
+use Rattle.dis_records.specs.Entity.{site_application_of}
 use Rattle.siman_pdus.specs.declared.pdu.Pdu.{Pdu}
 use Rattle.exercise_model.specs.Recording.{PlainRecording}
 use Rattle.exercise_model.specs.History.{station_at}
@@ -18,21 +18,21 @@ use Rattle.exercise_review.specs.declared.party.Party.TheVariants as parties
 use Rattle.exercise_review.specs.Entries.{pdu_received}
 use Rattle.exercise_review.specs.Order.{OrderData, is_first_under_id}
 use Rattle.exercise_review.specs.Party.{is_at, names, is_heard_from, is_answer_from, is_party_outside, is_recorded_at}
-use Rattle.exercise_review.specs.Parties.{number_of, pair_numbered, addresses, site_application, party_by, party_at, parties_below, number_heard, candidate_at, is_up_to, with_party, lower_party, AreNoParties, IsPartyAt, IsNextParty}
+use Rattle.exercise_review.specs.Parties.{number_of, address_numbered, addresses, party_by, party_at, parties_below, number_heard, candidate_at, is_up_to, with_party, lower_party, AreNoParties, IsPartyAt, IsNextParty}
 use Rattle.exercise_review.proofs.Runs.{some_passes, there}
 use Rattle.exercise_review.proofs.Lives.{append_none}
 
 -- ---- addresses as numbers
 
-pub number_back : (n : ℕ) → number_of (pair_numbered n) ≡ n
+pub number_back : (n : ℕ) → number_of (address_numbered n) ≡ n
 number_back n = omega arith
 
-same_number : (a b : Pair) → a.site ≡ b.site → a.application ≡ b.application → number_of a ≡ number_of b
+same_number : (a b : SiteApplication) → a.site ≡ b.site → a.application ≡ b.application → number_of a ≡ number_of b
 same_number a b site application = rw (site, application) refl
 
 -- ---- every party is at one of the places
 
-pub at_station : (r : PlainRecording) (a : Pair) (s : ℕ) → is_at r a s ≡ true → (s < length r.setting.stations) × (number_of (station_at r s).address ≡ number_of a)
+pub at_station : (r : PlainRecording) (a : SiteApplication) (s : ℕ) → is_at r a s ≡ true → (s < length r.setting.stations) × (number_of (station_at r s).address ≡ number_of a)
 unfolding is_at
 at_station r a s h =
     let both = and_parts _ _ h in
@@ -40,7 +40,7 @@ at_station r a s h =
     (ltb-true _ _ both.0, same_number (station_at r s).address a (eqb-true _ _ parts.0) (eqb-true _ _ parts.1))
 
 -- why an address outside is a party
-why_outside : (r : PlainRecording) (o : OrderData) (a : Pair) → is_party_outside r o a ≡ true
+why_outside : (r : PlainRecording) (o : OrderData) (a : SiteApplication) → is_party_outside r o a ≡ true
     → (names o.request.target a || is_some (first_below (is_heard_from r o a) (length r.entries))) ≡ true
 unfolding is_party_outside
 why_outside r o a h =
@@ -48,13 +48,13 @@ why_outside r o a h =
     let two = and_parts (is_some o.maker) _ one.1 in
     (and_parts (not (is_recorded_at r a)) _ two.1).1
 
-named : (r : PlainRecording) (o : OrderData) (a : Pair) → names o.request.target a ≡ true → number_of (pair_of o.request.target) ≡ number_of a
+named : (r : PlainRecording) (o : OrderData) (a : SiteApplication) → names o.request.target a ≡ true → number_of (site_application_of o.request.target) ≡ number_of a
 named r o a h =
     let both = and_parts _ _ h in
     let parts = and_parts _ _ both.1 in
-    same_number (pair_of o.request.target) a (eqb-true _ _ parts.0) (eqb-true _ _ parts.1)
+    same_number (site_application_of o.request.target) a (eqb-true _ _ parts.0) (eqb-true _ _ parts.1)
 
-shown_number : (r : PlainRecording) (o : OrderData) (a : Pair) (i : ℕ) → is_heard_from r o a i ≡ true → number_heard r o i ≡ Some (number_of a)
+shown_number : (r : PlainRecording) (o : OrderData) (a : SiteApplication) (i : ℕ) → is_heard_from r o a i ≡ true → number_heard r o i ≡ Some (number_of a)
 unfolding is_heard_from
 shown_number r o a i h =
     let one = and_parts (is_first_under_id r o) _ h in
@@ -62,8 +62,8 @@ shown_number r o a i h =
     let p = there (is_answer_from r o a) (option_and_then (λ s. pdu_received r s i) o.maker) two.1 in
     let from = (and_parts _ _ (and_parts _ _ p.2).1).1 in
     let parts = and_parts _ _ from in
-    ap (option_map (λ (p : Pdu). number_of (pair_of p.origin))) p.1
-    ∙ ap Some (same_number (pair_of p.0.origin) a (eqb-true _ _ parts.0) (eqb-true _ _ parts.1))
+    ap (option_map (λ (p : Pdu). number_of (site_application_of p.origin))) p.1
+    ∙ ap Some (same_number (site_application_of p.0.origin) a (eqb-true _ _ parts.0) (eqb-true _ _ parts.1))
 
 -- one of the places has this number
 record IsCandidate (r : PlainRecording) (o : OrderData) (n : ℕ) : Type 0 where
@@ -75,7 +75,7 @@ place_station : (r : PlainRecording) (o : OrderData) (s : ℕ) → s < length r.
 unfolding candidate_at
 place_station r o s h = rw (lt-ltb s (length r.setting.stations) h) refl
 
-place_target : (r : PlainRecording) (o : OrderData) → candidate_at r o (length r.setting.stations) ≡ Some (number_of (pair_of o.request.target))
+place_target : (r : PlainRecording) (o : OrderData) → candidate_at r o (length r.setting.stations) ≡ Some (number_of (site_application_of o.request.target))
 unfolding candidate_at
 place_target r o =
     rw (le-ltb (length r.setting.stations) (length r.setting.stations) (omega arith), eq-eqb (length r.setting.stations) (length r.setting.stations) refl) refl
@@ -91,11 +91,11 @@ place_heard r o i =
     (ap (number_heard r o) back)
 
 -- the same for a number of stations that is known
-pub station_place : (r : PlainRecording) (o : OrderData) (n i : ℕ) (a : Pair) → n ≡ length r.setting.stations → i < n → a ≡ (station_at r i).address
+pub station_place : (r : PlainRecording) (o : OrderData) (n i : ℕ) (a : SiteApplication) → n ≡ length r.setting.stations → i < n → a ≡ (station_at r i).address
     → Some (number_of a) ≡ candidate_at r o i
 station_place r o n i a is below at = ap (λ x. Some (number_of x)) at ∙ sym (place_station r o i (omega (arith, is, below)))
 
-pub target_place : (r : PlainRecording) (o : OrderData) (n i : ℕ) (a : Pair) → n ≡ length r.setting.stations → i ≡ n → a ≡ pair_of o.request.target
+pub target_place : (r : PlainRecording) (o : OrderData) (n i : ℕ) (a : SiteApplication) → n ≡ length r.setting.stations → i ≡ n → a ≡ site_application_of o.request.target
     → Some (number_of a) ≡ candidate_at r o i
 target_place r o n i a is at target = ap (λ x. Some (number_of x)) target ∙ sym (place_target r o) ∙ ap (candidate_at r o) (sym (at ∙ is))
 
@@ -104,12 +104,12 @@ heard_place r o n i is above =
     let back : length r.setting.stations + 1 + (i - n - 1) ≡ i = omega (arith, is, above) in
     sym (place_heard r o (i - n - 1)) ∙ ap (candidate_at r o) back
 
-place_of_station : (r : PlainRecording) (o : OrderData) (a : Pair) (s : ℕ) → is_at r a s ≡ true → IsCandidate r o (number_of a)
+place_of_station : (r : PlainRecording) (o : OrderData) (a : SiteApplication) (s : ℕ) → is_at r a s ≡ true → IsCandidate r o (number_of a)
 place_of_station r o a s h =
     let at = at_station r a s h in
     record { place = s; within = omega (arith, at.0); number = place_station r o s at.0 ∙ ap Some at.1 }
 
-place_outside : (r : PlainRecording) (o : OrderData) (a : Pair) → is_party_outside r o a ≡ true → IsCandidate r o (number_of a)
+place_outside : (r : PlainRecording) (o : OrderData) (a : SiteApplication) → is_party_outside r o a ≡ true → IsCandidate r o (number_of a)
 place_outside r o a h = ⊎_elim
     (λ (e : names o.request.target a ≡ true).
     let number = place_target r o ∙ ap Some (named r o a e) in
@@ -129,13 +129,13 @@ if_some true x y h = refl
 if_some false x y h = absurd (cc)
 
 -- EACH PARTY IS AT ONE OF THE PLACES
-party_place : (r : PlainRecording) (o : OrderData) (a : Pair) (p : Party) → party_at r o a ≡ Some p → IsCandidate r o (number_of a)
+party_place : (r : PlainRecording) (o : OrderData) (a : SiteApplication) (p : Party) → party_at r o a ≡ Some p → IsCandidate r o (number_of a)
 unfolding party_at
 party_place r o a p =
     elim (first_below (is_at r a) (length r.setting.stations)) as
     (λ x. first_below (is_at r a) (length r.setting.stations) ≡ x → party_by r o a x ≡ Some p → IsCandidate r o (number_of a)) [
       | Some s ↦ λ found _. place_of_station r o a s (first_found (is_at r a) (length r.setting.stations) s found).passes
-      | None ↦ λ _ h. place_outside r o a (if_some (is_party_outside r o a) (parties.Outside (site_application a)) p h)
+      | None ↦ λ _ h. place_outside r o a (if_some (is_party_outside r o a) (parties.Outside a) p h)
     ] refl
 
 -- ---- the nearest of those so far
@@ -143,7 +143,7 @@ party_place r o a p =
 -- what is next from a number on, after the places below k: it stands there, and none that is one comes before it
 pub record IsNearest (r : PlainRecording) (o : OrderData) (from k : ℕ) (next : Option (ℕ × Party)) : Type 0 where
   pub found : (x : ℕ × Party) → next ≡ Some x → IsPartyAt r o from x
-  pub least : (i n : ℕ) (p : Party) → i < k → candidate_at r o i ≡ Some n → from ≤ n → party_at r o (pair_numbered n) ≡ Some p → is_up_to n next ≡ true
+  pub least : (i n : ℕ) (p : Party) → i < k → candidate_at r o i ≡ Some n → from ≤ n → party_at r o (address_numbered n) ≡ Some p → is_up_to n next ≡ true
 
 pub none_nearest : (r : PlainRecording) (o : OrderData) (from : ℕ) → IsNearest r o from 0 None
 none_nearest r o from = record { found = λ x h. absurd (cc); least = λ i n p below. absurd (omega (arith, below)) }
@@ -166,7 +166,7 @@ up_to_more m n (Some x) l h = le-leb x.0 n (omega (arith, l, leb-true x.0 m h))
 
 -- with the party at one place more, where it is nearer
 nearest_with : (r : PlainRecording) (o : OrderData) (from k n : ℕ) (next : Option (ℕ × Party)) (p : Option Party) → candidate_at r o k ≡ Some n → n < addresses → from ≤ n
-    → is_up_to n next ≡ false → party_at r o (pair_numbered n) ≡ p → IsNearest r o from k next → IsNearest r o from (k + 1) (with_party n next p)
+    → is_up_to n next ≡ false → party_at r o (address_numbered n) ≡ p → IsNearest r o from k next → IsNearest r o from (k + 1) (with_party n next p)
 nearest_with r o from k n next None at small above lower_party is so_far = record {
   found = so_far.found;
   least = λ i m p below at' above' party. ⊎_elim
@@ -215,19 +215,19 @@ pub nearest_more : (r : PlainRecording) (o : OrderData) (from k n : ℕ) (next :
     → IsNearest r o from k next → IsNearest r o from (k + 1) (lower_party r o from next n)
 nearest_more r o from k n next at small so_far =
     elim (nat_lt n from || is_up_to n next) as (λ b. (nat_lt n from || is_up_to n next) ≡ b
-    → IsNearest r o from (k + 1) (if b then next else with_party n next (party_at r o (pair_numbered n)))) [
+    → IsNearest r o from (k + 1) (if b then next else with_party n next (party_at r o (address_numbered n)))) [
       | true ↦ λ kept. nearest_kept r o from k n next at kept so_far
       | false ↦ λ e.
           let parts = or_parts (nat_lt n from) (is_up_to n next) e in
-          nearest_with r o from k n next (party_at r o (pair_numbered n)) at small (ltb-false n from parts.0) parts.1 refl so_far
+          nearest_with r o from k n next (party_at r o (address_numbered n)) at small (ltb-false n from parts.0) parts.1 refl so_far
     ] refl
 
 -- no party before the nearest of all
 before_nearest : (r : PlainRecording) (o : OrderData) (from m : ℕ) (next : Option (ℕ × Party)) (x : Option Party)
-    → IsNearest r o from (length r.setting.stations + 1 + length r.entries) next → from ≤ m → is_up_to m next ≡ false → party_at r o (pair_numbered m) ≡ x → x ≡ None
+    → IsNearest r o from (length r.setting.stations + 1 + length r.entries) next → from ≤ m → is_up_to m next ≡ false → party_at r o (address_numbered m) ≡ x → x ≡ None
 before_nearest r o from m next None all above not_yet is = refl
 before_nearest r o from m next (Some p) all above not_yet is =
-    let place = party_place r o (pair_numbered m) p is in
+    let place = party_place r o (address_numbered m) p is in
     let here : is_up_to m next ≡ true = all.least place.place m p place.within (place.number ∙ ap Some (number_back m)) above is in
     absurd (cc (here, not_yet))
 
@@ -235,16 +235,16 @@ pub nearest_is_next : (r : PlainRecording) (o : OrderData) (from k : ℕ) (next 
     → IsNearest r o from k next → IsNextParty r o from next
 nearest_is_next r o from k None end so_far =
     let all = subst (λ n. IsNearest r o from n None) end so_far in
-    record { none = λ m above below. before_nearest r o from m None (party_at r o (pair_numbered m)) all above refl refl }
+    record { none = λ m above below. before_nearest r o from m None (party_at r o (address_numbered m)) all above refl refl }
 nearest_is_next r o from k (Some x) end so_far =
     let all = subst (λ n. IsNearest r o from n (Some x)) end so_far in (
       so_far.found x refl,
-      record { none = λ m above below. before_nearest r o from m (Some x) (party_at r o (pair_numbered m)) all above (lt-leb x.0 m below) refl },
+      record { none = λ m above below. before_nearest r o from m (Some x) (party_at r o (address_numbered m)) all above (lt-leb x.0 m below) refl },
     )
 
 -- ---- the list
 
-skip : (r : PlainRecording) (o : OrderData) (from k : ℕ) → ((m : ℕ) → from ≤ m → m < from + k → party_at r o (pair_numbered m) ≡ None)
+skip : (r : PlainRecording) (o : OrderData) (from k : ℕ) → ((m : ℕ) → from ≤ m → m < from + k → party_at r o (address_numbered m) ≡ None)
     → parties_below r o (from + k) ≡ parties_below r o from
 unfolding parties_below
 skip r o from zero none = let same : from + 0 ≡ from = omega arith in ap (parties_below r o) same

@@ -2,7 +2,7 @@
 use Rattle.std.proofs.Common.{◌≡◌, ℕ, length, Bool, true, false, Option, Some, None, refl, sym, ap}
 use Rattle.std.specs.Prelude.{slice_get, is_some, not, ◌&&◌, option_map, option_and_then, if◌then◌else◌}
 use Rattle.std.proofs.lemmas.Option.{same_Some}
-use Rattle.dis_records.specs.Address.{Pair}
+use Rattle.dis_records.specs.declared.address.SiteApplication.{SiteApplication}
 use Rattle.siman_pdus.specs.declared.pdu.Pdu.{Pdu}
 use Rattle.siman_pdus.specs.Role.{is_request_body}
 use Rattle.siman_pdus.specs.Answers.{same_id}
@@ -37,7 +37,7 @@ fate_unmade r o (parties.Station t) none = unmade (traces_of r o t) (ap is_some 
 fate_unmade r o (parties.Outside a) none = refl
 
 -- IN A CLOSED RECORDING nobody outside is a party
-pub none_outside : (r : PlainRecording) (o : OrderData) (a : Pair) → is_open r.setting.form ≡ false → is_party_outside r o a ≡ false
+pub none_outside : (r : PlainRecording) (o : OrderData) (a : SiteApplication) → is_open r.setting.form ≡ false → is_party_outside r o a ≡ false
 unfolding is_party_outside
 none_outside r o a closed = rw closed refl
 

@@ -6,9 +6,10 @@ use Rattle.std.specs.Option.{option_or, option_to_list}
 use Rattle.std.proofs.Math.Numerals.{add-one}
 use Rattle.std.proofs.lemmas.Bool.{lt-ltb, ltb-true, leb-true, eqb-true, eq-eqb, and_parts, or_cases, cases_lt}
 use Rattle.dis_records.specs.declared.address.TheConstants.{LARGEST_ADDRESS_PART}
-use Rattle.dis_records.specs.Address.{Pair, is_address_part, is_address}
+use Rattle.dis_records.specs.declared.address.SiteApplication.{SiteApplication}
+use Rattle.dis_records.specs.Address.{is_address_part, is_address}
 use Rattle.dis_records.specs.declared.entity.EntityId.{EntityId}
-use Rattle.dis_records.specs.Entity.{pair_of, is_addressed}
+use Rattle.dis_records.specs.Entity.{site_application_of, is_addressed}
 use Rattle.siman_pdus.specs.Answers.{same_id}
 use Rattle.exercise_model.specs.declared.station.TheConstants.{MOST_STATIONS}
 use Rattle.exercise_model.specs.Station.{StationData, is_station, is_below, are_rising}
@@ -21,13 +22,13 @@ use Rattle.exercise_review.specs.declared.party.Party.{Party}
 use Rattle.exercise_review.specs.declared.party.Party.TheVariants as parties
 use Rattle.exercise_review.specs.Order.{OrderData, is_meant}
 use Rattle.exercise_review.specs.Party.{first_copy, is_at, is_party, is_party_outside, is_recorded_at, names, is_heard_from}
-use Rattle.exercise_review.specs.Parties.{number_of, pair_numbered, addresses, has_outsiders, party_by, party_at, parties_below, parties_of, AreNoParties}
+use Rattle.exercise_review.specs.Parties.{number_of, address_numbered, addresses, has_outsiders, party_by, party_at, parties_below, parties_of, AreNoParties}
 use Rattle.exercise_review.proofs.PartyPlaces.{number_back, at_station, skipped, no_parties}
 use Rattle.exercise_review.proofs.Lives.{append_none}
 
 -- ---- addresses that rise
 
-small : (a : Pair) → is_address a ≡ true → a.application < 65536
+small : (a : SiteApplication) → is_address a ≡ true → a.application < 65536
 small a h =
     let application = (and_parts (is_address_part a.site) (is_address_part a.application) h).1 in
     let most = leb-true a.application LARGEST_ADDRESS_PART (and_parts (nat_le 1 a.application) (nat_le a.application LARGEST_ADDRESS_PART) application).1 in
@@ -38,7 +39,7 @@ small_at [] all j l = absurd (let no : ⊥ = omega (arith, l) in no)
 small_at (s ∷ ss) all zero l = small s.address (and_parts _ _ (and_parts (is_station s) _ all).0).0
 small_at (s ∷ ss) all (suc j) l = small_at ss (and_parts (is_station s) _ all).1 j (omega (arith, l))
 
-lower : (a b : Pair) → a.application < 65536 → is_below a b ≡ true → number_of a < number_of b
+lower : (a b : SiteApplication) → a.application < 65536 → is_below a b ≡ true → number_of a < number_of b
 lower a b few h = ⊎_elim
     (λ (less : nat_lt a.site b.site ≡ true). let l : a.site < b.site = ltb-true _ _ less in omega (arith, few, l))
     (λ less. let parts = and_parts _ _ less in
@@ -47,7 +48,7 @@ lower a b few h = ⊎_elim
     omega (arith, same, l))
     (or_cases (nat_lt a.site b.site) _ h)
 
-rising_from : (a : Pair) (ss : List StationData) → a.application < 65536 → list_all is_station ss ≡ true → are_rising (Some a) ss ≡ true → (j : ℕ) → j < length ss
+rising_from : (a : SiteApplication) (ss : List StationData) → a.application < 65536 → list_all is_station ss ≡ true → are_rising (Some a) ss ≡ true → (j : ℕ) → j < length ss
     → number_of a < number_of (slice_index_or ss j nowhere).address
 rising_from a [] few all rising j l = absurd (let no : ⊥ = omega (arith, l) in no)
 rising_from a (s ∷ ss) few all rising zero l = lower a s.address few (and_parts _ _ rising).0
@@ -57,7 +58,7 @@ rising_from a (s ∷ ss) few all rising (suc j) l =
     let rest = rising_from s.address ss (small_at (s ∷ ss) all 0 (omega arith)) (and_parts (is_station s) _ all).1 parts.1 j (omega (arith, l)) in
     omega (arith, one, rest)
 
-rising_at : (before : Option Pair) (ss : List StationData) → list_all is_station ss ≡ true → are_rising before ss ≡ true → (i j : ℕ) → i < j → j < length ss
+rising_at : (before : Option SiteApplication) (ss : List StationData) → list_all is_station ss ≡ true → are_rising before ss ≡ true → (i j : ℕ) → i < j → j < length ss
     → number_of (slice_index_or ss i nowhere).address < number_of (slice_index_or ss j nowhere).address
 rising_at before [] all rising i j less l = absurd (let no : ⊥ = omega (arith, l) in no)
 rising_at before (s ∷ ss) all rising i zero less l = absurd (let no : ⊥ = omega (arith, less) in no)
@@ -96,7 +97,7 @@ few_at r is s l = small_at r.setting.stations is.setting.each_station s l
 
 -- ---- who stands at an address
 
-nobody_outside : (r : PlainRecording) (o : OrderData) (a : Pair) → has_outsiders r o ≡ false → is_party_outside r o a ≡ false
+nobody_outside : (r : PlainRecording) (o : OrderData) (a : SiteApplication) → has_outsiders r o ≡ false → is_party_outside r o a ≡ false
 unfolding is_party_outside
 nobody_outside r o a none =
     elim (is_open r.setting.form) as (λ b. (b && is_some o.maker) ≡ false
@@ -107,26 +108,26 @@ nobody_outside r o a none =
 
 -- no station has this number: no party stands there
 none_at : (r : PlainRecording) (o : OrderData) → has_outsiders r o ≡ false → (m : ℕ) → ((s : ℕ) → s < length r.setting.stations → number_at r s ≢ m)
-    → party_at r o (pair_numbered m) ≡ None
+    → party_at r o (address_numbered m) ≡ None
 unfolding party_at
 none_at r o none m apart =
-    elim (first_below (is_at r (pair_numbered m)) (length r.setting.stations)) as
-    (λ x. first_below (is_at r (pair_numbered m)) (length r.setting.stations) ≡ x → party_by r o (pair_numbered m) x ≡ None) [
+    elim (first_below (is_at r (address_numbered m)) (length r.setting.stations)) as
+    (λ x. first_below (is_at r (address_numbered m)) (length r.setting.stations) ≡ x → party_by r o (address_numbered m) x ≡ None) [
       | Some s ↦ λ found.
-          let at = at_station r (pair_numbered m) s (first_found (is_at r (pair_numbered m)) (length r.setting.stations) s found).passes in
+          let at = at_station r (address_numbered m) s (first_found (is_at r (address_numbered m)) (length r.setting.stations) s found).passes in
           absurd (apart s at.0 (at.1 ∙ number_back m))
-      | None ↦ λ _. ap (λ b. if b then Some (parties.Outside (record { site = (pair_numbered m).site; application = (pair_numbered m).application })) else None)
-          (nobody_outside r o (pair_numbered m) none)
+      | None ↦ λ _. ap (λ b. if b then Some (parties.Outside (record { site = (address_numbered m).site; application = (address_numbered m).application })) else None)
+          (nobody_outside r o (address_numbered m) none)
     ] refl
 
-is_there : (r : PlainRecording) → IsRecording r → (s : ℕ) → s < length r.setting.stations → is_at r (pair_numbered (number_at r s)) s ≡ true
+is_there : (r : PlainRecording) → IsRecording r → (s : ℕ) → s < length r.setting.stations → is_at r (address_numbered (number_at r s)) s ≡ true
 unfolding is_at
 is_there r is s l =
     let few = few_at r is s l in
     rw (
       lt-ltb s (length r.setting.stations) l,
-      eq-eqb (station_at r s).address.site (pair_numbered (number_at r s)).site (omega (arith, few)),
-      eq-eqb (station_at r s).address.application (pair_numbered (number_at r s)).application (omega (arith, few)),
+      eq-eqb (station_at r s).address.site (address_numbered (number_at r s)).site (omega (arith, few)),
+      eq-eqb (station_at r s).address.application (address_numbered (number_at r s)).application (omega (arith, few)),
     ) refl
 
 first_none : (f : ℕ → Bool) (n j : ℕ) → first_below f n ≡ None → j < n → f j ≡ true → ⊥
@@ -146,15 +147,15 @@ first_none f (suc n) j none l passes =
 
 -- at the address of a station stands that station, where it is a party
 here_at : (r : PlainRecording) → IsRecording r → (o : OrderData) (s : ℕ) → s < length r.setting.stations
-    → party_at r o (pair_numbered (number_at r s)) ≡ (if is_party r o s then Some (parties.Station s) else None)
+    → party_at r o (address_numbered (number_at r s)) ≡ (if is_party r o s then Some (parties.Station s) else None)
 unfolding party_at
 here_at r is o s l =
-    elim (first_below (is_at r (pair_numbered (number_at r s))) (length r.setting.stations)) as
-    (λ x. first_below (is_at r (pair_numbered (number_at r s))) (length r.setting.stations) ≡ x
-    → party_by r o (pair_numbered (number_at r s)) x ≡ (if is_party r o s then Some (parties.Station s) else None)) [
-      | None ↦ λ none. absurd (first_none (is_at r (pair_numbered (number_at r s))) (length r.setting.stations) s none l (is_there r is s l))
+    elim (first_below (is_at r (address_numbered (number_at r s))) (length r.setting.stations)) as
+    (λ x. first_below (is_at r (address_numbered (number_at r s))) (length r.setting.stations) ≡ x
+    → party_by r o (address_numbered (number_at r s)) x ≡ (if is_party r o s then Some (parties.Station s) else None)) [
+      | None ↦ λ none. absurd (first_none (is_at r (address_numbered (number_at r s))) (length r.setting.stations) s none l (is_there r is s l))
       | Some j ↦ λ found.
-          let at = at_station r (pair_numbered (number_at r s)) j (first_found (is_at r (pair_numbered (number_at r s))) (length r.setting.stations) j found).passes in
+          let at = at_station r (address_numbered (number_at r s)) j (first_found (is_at r (address_numbered (number_at r s))) (length r.setting.stations) j found).passes in
           let number : number_at r j ≡ number_at r s = at.1 ∙ number_back (number_at r s) in
           let same : j ≡ s = ⊎_elim
           (λ (less : j < s). let below = rises r is j s less l in absurd (let no : ⊥ = omega (arith, below, number) in no))
@@ -166,7 +167,7 @@ here_at r is o s l =
           ap (λ (t : ℕ). if is_party r o t then Some (parties.Station t) else None) same
     ] refl
 
-within : (a : Pair) → is_address a ≡ true → number_of a < addresses
+within : (a : SiteApplication) → is_address a ≡ true → number_of a < addresses
 within a h =
     let both = and_parts (is_address_part a.site) (is_address_part a.application) h in
     let site = leb-true a.site LARGEST_ADDRESS_PART (and_parts (nat_le 1 a.site) (nat_le a.site LARGEST_ADDRESS_PART) both.0).1 in
@@ -291,7 +292,7 @@ none_behind r is o none from to l among ps so_far =
     ∙ ap (λ m. parties_below r o (up_to r m)) whole
 
 -- the number of an address that an identifier names alone
-pub named_number : (id : EntityId) (a : Pair) → (id.site ≡ 0xFFFF → ⊥) → (id.application ≡ 0xFFFF → ⊥) → is_addressed id a ≡ true → number_of (pair_of id) ≡ number_of a
+pub named_number : (id : EntityId) (a : SiteApplication) → (id.site ≡ 0xFFFF → ⊥) → (id.application ≡ 0xFFFF → ⊥) → is_addressed id a ≡ true → number_of (site_application_of id) ≡ number_of a
 named_number id a some one h =
     let parts = and_parts ((id.site == a.site) || (id.site == 0xFFFF)) _ h in
     let site : id.site ≡ a.site = ⊎_elim (λ same. eqb-true _ _ same) (λ all. absurd (some (eqb-true _ _ all))) (or_cases (id.site == a.site) _ parts.0) in
@@ -301,7 +302,7 @@ named_number id a some one h =
 
 -- of those up to which all numbers are smaller and from which on none is, the first alone can be the one that an identifier names
 pub only_at : (r : PlainRecording) → IsRecording r → (id : EntityId) → (id.site ≡ 0xFFFF → ⊥) → (id.application ≡ 0xFFFF → ⊥) → (at : ℕ)
-    → ((s : ℕ) → s < at → number_at r s < number_of (pair_of id)) → ((s : ℕ) → at ≤ s → s < length r.setting.stations → number_of (pair_of id) ≤ number_at r s)
+    → ((s : ℕ) → s < at → number_at r s < number_of (site_application_of id)) → ((s : ℕ) → at ≤ s → s < length r.setting.stations → number_of (site_application_of id) ≤ number_at r s)
     → (s : ℕ) → s < length r.setting.stations → is_addressed id (station_at r s).address ≡ true → s ≡ at
 only_at r is id some one at below from s l here =
     let named = named_number id (station_at r s).address some one here in

@@ -6,6 +6,7 @@ use Rattle.std.specs.Result.{IsErrAnd}
 use Rattle.std.proofs.lemmas.Bool.{ne_eqb}
 use Rattle.std.proofs.lemmas.List.{map-append, length-append, length-map}
 use Rattle.dis_records.specs.declared.entity_state.EntityState.{EntityState}
+use Rattle.dis_records.specs.Entity.{entity_of}
 use Rattle.exercise_model.specs.Station.{is_absent}
 use Rattle.exercise_model.specs.Recording.{PlainRecording, IsRecording}
 use Rattle.exercise_model.specs.History.{station_at}
@@ -21,7 +22,7 @@ use Rattle.exercise_review.specs.declared.span.Span.{Span}
 use Rattle.exercise_review.specs.declared.stay.Stay.{Stay}
 use Rattle.exercise_review.specs.Life.{LifeSoFar, stretch_of, life_after, life_before, lives_of}
 use Rattle.exercise_review.specs.Room.{lists_below, AddsWithin}
-use Rattle.exercise_review.specs.Span.{life_by_changes, span_of, entity_at, spans_of_next, spans_of, all_spans}
+use Rattle.exercise_review.specs.Span.{life_by_changes, span_of, spans_of_next, spans_of, all_spans}
 use Rattle.exercise_review.specs.Course.{IsUnaffected}
 use Rattle.exercise_review.specs.Stay.{span_at, StaysWithin, stay_of, stretch_so_far, stays_of_next, stays_of, all_stays, stay_ended_at, stay_ended_by, stay_after}
 use Rattle.exercise_review.proofs.Courses.{lived_over}
@@ -211,10 +212,10 @@ read_back n (Some i) few below =
     ap (λ b. cond b None (Some i)) (ne_eqb i 0xFFFFFFFF (λ same. let no : ⊥ = omega (arith, same, few, below) in no))
 
 stays_told : (r : PlainRecording) (s e n : ℕ) (xs : List Stretch) → n ≤ 0xFFFFFFFF → AreBelow n xs
-    → map (span_at r) (map (stay_of s e) xs) ≡ map (span_of r (entity_at (station_at r s).address e)) xs
+    → map (span_at r) (map (stay_of s e) xs) ≡ map (span_of r (entity_of (station_at r s).address e)) xs
 stays_told r s e n [] few below = refl
 stays_told r s e n (x ∷ xs) few below =
-    let id = entity_at (station_at r s).address e in
+    let id = entity_of (station_at r s).address e in
     ap (λ i. span_of r id (record { state = x.state; from = i; until = entry_of (entry_number x.until) }) ∷ map (span_at r) (map (stay_of s e) xs)) (read_back n x.from few below.0)
     ∙ ap (λ i. span_of r id (record { state = x.state; from = x.from; until = i }) ∷ map (span_at r) (map (stay_of s e) xs)) (read_back n x.until few below.1)
     ∙ ap (λ ys. span_of r id x ∷ ys) (stays_told r s e n xs few below.2)

@@ -3,8 +3,8 @@ use Rattle.std.proofs.Common.{◌≡◌, ℕ, ◌<◌, List, length, true, Some,
 use Rattle.std.specs.Prelude.{◌==◌}
 use Rattle.std.proofs.lemmas.Bool.{and_from, eqb-true, eq-eqb}
 use Rattle.dis_records.specs.declared.entity.EntityId.{EntityId}
-use Rattle.dis_records.specs.Address.{Pair}
-use Rattle.dis_records.specs.Entity.{pair_of, is_addressed}
+use Rattle.dis_records.specs.declared.address.SiteApplication.{SiteApplication}
+use Rattle.dis_records.specs.Entity.{site_application_of, is_addressed}
 use Rattle.siman_pdus.specs.declared.pdu.Pdu.{Pdu}
 use Rattle.siman_pdus.specs.Role.{is_request_body, request_id_of}
 use Rattle.siman_pdus.specs.Answers.{same_id, same_pair, matches_kind, is_answer_to}
@@ -31,12 +31,12 @@ use Rattle.exercise_review.proofs.OneOrder.{ids_same, one_order, IsOrderOf, orde
 -- ---- parts of tests
 
 -- a request that is asked for an answer
-pub record Asked (a : Pair) (p q : Pdu) : Type 0 where
+pub record Asked (a : SiteApplication) (p q : Pdu) : Type 0 where
   pub request : is_request_body q.body ≡ true
   pub id : same_id (request_id_of p.body) (request_id_of q.body) ≡ true
   pub back : same_pair q.origin p.target ≡ true
 
-asked_parts : (a : Pair) (p q : Pdu) → is_asked a p q ≡ true → Asked a p q
+asked_parts : (a : SiteApplication) (p q : Pdu) → is_asked a p q ≡ true → Asked a p q
 asked_parts a p q asked =
     let one = both (is_request_body q.body) _ asked in
     let two = both (is_addressed q.target a) _ one.1 in
@@ -47,18 +47,18 @@ asked_parts a p q asked =
 pub record Answering (p q : Pdu) : Type 0 where
   pub id : same_id (request_id_of p.body) (request_id_of q.body) ≡ true
   pub back : same_pair p.target q.origin ≡ true
-  pub addressed : is_addressed q.target (pair_of p.origin) ≡ true
+  pub addressed : is_addressed q.target (site_application_of p.origin) ≡ true
 
 pub answer_parts : (p q : Pdu) → is_answer_to p q ≡ true → Answering p q
 answer_parts p q answers =
     let one = both (matches_kind p.body (body_kind q.body)) _ answers in
     let two = both (same_id (request_id_of p.body) (request_id_of q.body)) _ one.1 in
     let three = both (same_pair p.target q.origin) _ two.1 in
-    let four = both (is_addressed q.target (pair_of p.origin)) _ three.1 in
+    let four = both (is_addressed q.target (site_application_of p.origin)) _ three.1 in
     record { id = two.0; back = three.0; addressed = four.0 }
 
 -- what comes from where another comes from
-from_same : (a : Pair) (q o : Pdu) (k : EntityId) → same_pair q.origin k ≡ true → same_pair k o.origin ≡ true → is_from a o ≡ true → is_from a q ≡ true
+from_same : (a : SiteApplication) (q o : Pdu) (k : EntityId) → same_pair q.origin k ≡ true → same_pair k o.origin ≡ true → is_from a o ≡ true → is_from a q ≡ true
 from_same a q o k one two own =
     let x = both (q.origin.site == k.site) (q.origin.application == k.application) one in
     let y = both (k.site == o.origin.site) (k.application == o.origin.application) two in

@@ -4,8 +4,8 @@ use Rattle.std.specs.Prelude.{nat_lt, slice_get, is_some, not, ◌&&◌, ◌==�
 use Rattle.std.specs.Option.{option_map_or}
 use Rattle.std.proofs.lemmas.Bool.{and_from, or_right, eqb-true, eq-eqb, lt-ltb, ltb-true, cases_lt}
 use Rattle.std.proofs.lemmas.Option.{none-some, slice_get_within}
-use Rattle.dis_records.specs.Address.{Pair}
-use Rattle.dis_records.specs.Entity.{pair_of, is_addressed}
+use Rattle.dis_records.specs.declared.address.SiteApplication.{SiteApplication}
+use Rattle.dis_records.specs.Entity.{site_application_of, is_addressed}
 use Rattle.siman_pdus.specs.declared.pdu.Pdu.{Pdu}
 use Rattle.siman_pdus.specs.Role.{is_request_body, request_id_of}
 use Rattle.siman_pdus.specs.Answers.{same_id, is_answer_to}
@@ -24,8 +24,7 @@ use Rattle.exercise_review.specs.declared.party.Party.{Party}
 use Rattle.exercise_review.specs.declared.party.Party.TheVariants as parties
 use Rattle.exercise_review.specs.Entries.{bytes_received_by, bytes_sent, bytes_received, pdu_sent, pdu_received, pdu_at}
 use Rattle.exercise_review.specs.Order.{OrderData, sends_order, is_outside, is_meant, order_at, sends_under_id, is_first_under_id}
-use Rattle.exercise_review.specs.Parties.{site_application}
-use Rattle.exercise_review.specs.Party.{is_copy, first_copy, is_party, pair_at, is_answer_from, is_heard_from, names, is_at, is_recorded_at, is_party_outside}
+use Rattle.exercise_review.specs.Party.{is_copy, first_copy, is_party, is_answer_from, is_heard_from, names, is_at, is_recorded_at, is_party_outside}
 use Rattle.exercise_review.specs.Reply.{answers_order, takes_copy, is_reply, is_news}
 use Rattle.exercise_review.specs.Word.{settles, settles_at}
 use Rattle.exercise_review.specs.Knowing.{is_party_of, is_heard_of, IsHeardSettled, IsReceivedSettled}
@@ -125,7 +124,7 @@ told_station r h i s t j o limits explains order maker part news settling =
       settles = sym (settles_here r j b p (meant_got r s j b found.at) meant) ∙ settling;
     }
 
-told_outside : (r : PlainRecording) (s j : ℕ) (o : OrderData) (a : Pair) → o.maker ≡ Some s → is_heard_from r o a j ≡ true → settles_at r j ≡ true
+told_outside : (r : PlainRecording) (s j : ℕ) (o : OrderData) (a : SiteApplication) → o.maker ≡ Some s → is_heard_from r o a j ≡ true → settles_at r j ≡ true
     → IsReceivedSettled r o s j
 unfolding is_heard_from
 told_outside r s j o a maker told settling =
@@ -150,7 +149,7 @@ told_received r h i s j o limits explains order maker it = of_party it.party it.
   where
     of_party : (party : Party) → is_party_of r o party ≡ true → is_heard_of r o party j ≡ true → IsReceivedSettled r o s j
     of_party (parties.Station t) part heard = told_station r h i s t j o limits explains (order_made r i s o order maker) maker part heard it.settles
-    of_party (parties.Outside a) part heard = told_outside r s j o (pair_at a) maker heard it.settles
+    of_party (parties.Outside a) part heard = told_outside r s j o a maker heard it.settles
 
 -- ---- what was received is told
 
@@ -238,10 +237,10 @@ open_there r h s j b p explains got meant outside =
     ] refl
 
 -- no recorded station is where it comes from
-nobody_there : (r : PlainRecording) (p : Pdu) → is_recorded r.setting p ≡ false → is_recorded_at r (pair_of p.origin) ≡ false
+nobody_there : (r : PlainRecording) (p : Pdu) → is_recorded r.setting p ≡ false → is_recorded_at r (site_application_of p.origin) ≡ false
 unfolding is_recorded_at is_at sender_of
 nobody_there r p outside =
-    let a : Pair = pair_of p.origin in
+    let a : SiteApplication = site_application_of p.origin in
     elim (is_some (first_below (λ s. nat_lt s (length r.setting.stations) && (((station_at r s).address.site == a.site) && ((station_at r s).address.application == a.application))) (length r.setting.stations)))
     as (λ t. is_some (first_below (λ s. nat_lt s (length r.setting.stations) && (((station_at r s).address.site == a.site) && ((station_at r s).address.application == a.application))) (length r.setting.stations)) ≡ t
     → t ≡ false) [
@@ -258,7 +257,7 @@ nobody_there r p outside =
     ] refl
 
 -- what is told of an address outside
-told_there : (r : PlainRecording) (s j : ℕ) (o : OrderData) (a : Pair) (b : List ℕ) (p : Pdu) → o.maker ≡ Some s → is_first_under_id r o ≡ true
+told_there : (r : PlainRecording) (s j : ℕ) (o : OrderData) (a : SiteApplication) (b : List ℕ) (p : Pdu) → o.maker ≡ Some s → is_first_under_id r o ≡ true
     → nat_lt o.head j ≡ true → bytes_received r s j ≡ Some b → meaning r.setting.exercise b ≡ Some p → is_answer_from r o a p ≡ true → is_heard_from r o a j ≡ true
 unfolding is_heard_from pdu_received
 told_there r s j o a b p maker first after got meant tells =
@@ -269,7 +268,7 @@ told_there r s j o a b p maker first after got meant tells =
     ∙ ap (λ y. option_map_or (is_answer_from r o a) y false) meant ∙ tells))
 
 told_outsider : (r : PlainRecording) (o : OrderData) (p : Pdu) → is_open r.setting.form ≡ true → is_recorded r.setting p ≡ false → is_answer_to p o.request ≡ true
-    → is_answer_from r o (pair_of p.origin) p ≡ true
+    → is_answer_from r o (site_application_of p.origin) p ≡ true
 unfolding is_outside
 told_outsider r o p opened outside answers =
     and_from _ _ answers (and_from _ _ (and_from _ _ opened (ap not outside))
@@ -278,10 +277,10 @@ told_outsider r o p opened outside answers =
 heard_outside : (r : PlainRecording) (h : History) (i s j : ℕ) (o : OrderData) (b : List ℕ) (p : Pdu) → Explains r h → IsOrderOf r i s o
     → o.maker ≡ Some s → is_recorded r.setting p ≡ false → o.head < j → bytes_received r s j ≡ Some b → j < length r.entries
     → meaning r.setting.exercise b ≡ Some p → is_answer_to p o.request ≡ true
-    → (is_party_outside r o (pair_of p.origin) ≡ true) × (is_heard_from r o (pair_of p.origin) j ≡ true)
+    → (is_party_outside r o (site_application_of p.origin) ≡ true) × (is_heard_from r o (site_application_of p.origin) j ≡ true)
 unfolding is_party_outside
 heard_outside r h i s j o b p explains order maker outside after got within meant answers =
-    let a : Pair = pair_of p.origin in
+    let a : SiteApplication = site_application_of p.origin in
     let opened = open_there r h s j b p explains got meant outside in
     let told : is_heard_from r o a j ≡ true =
     told_there r s j o a b p maker (first_under r h i s o p explains order maker answers) (lt-ltb o.head j after) got meant
@@ -321,5 +320,5 @@ received_told r h i s j o limits explains made maker it =
           record { party = parties.Station t.0; takes_part = heard.0; heard = heard.1; settles = settling }
       | false ↦ λ outside.
           let heard = heard_outside r h i s j o parts.0 p explains order maker outside it.after parts.1 (got_within r s j parts.0 parts.1) parts.2 it.answers in
-          record { party = parties.Outside (site_application (pair_of p.origin)); takes_part = heard.0; heard = heard.1; settles = settling }
+          record { party = parties.Outside (site_application_of p.origin); takes_part = heard.0; heard = heard.1; settles = settling }
     ] refl

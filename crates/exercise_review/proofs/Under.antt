@@ -3,7 +3,7 @@ use Rattle.std.proofs.Common.{◌≡◌, ℕ, List, Bool, true, false, cond, Opt
 use Rattle.std.specs.Prelude.{IfSome, nat_eq, unwrap_or, ◌&&◌, slice_get, option_map, option_and_then, if◌then◌else◌}
 use Rattle.std.specs.Option.{option_map_or}
 use Rattle.std.proofs.lemmas.Bool.{eqb-true, eq-eqb, and_parts}
-use Rattle.dis_records.specs.Address.{Pair}
+use Rattle.dis_records.specs.declared.address.SiteApplication.{SiteApplication}
 use Rattle.dis_records.specs.declared.kind.Kind.{Kind}
 use Rattle.siman_pdus.specs.declared.pdu.Body.{Body}
 use Rattle.siman_pdus.specs.declared.pdu.Body.TheVariants as bodies
@@ -250,7 +250,7 @@ from_open : (r : PlainRecording) (p : Pdu) → is_outside r p ≡ true → is_op
 unfolding is_outside
 from_open r p h = (and_parts (is_open r.setting.form) _ h).0
 
-told_has : (r : PlainRecording) (o : OrderData) (a : Pair) (k : ℕ) (m : Option ℕ) → option_map_or (λ s. id_key s o.request) m (id_key 0 o.request) ≡ Some k
+told_has : (r : PlainRecording) (o : OrderData) (a : SiteApplication) (k : ℕ) (m : Option ℕ) → option_map_or (λ s. id_key s o.request) m (id_key 0 o.request) ≡ Some k
     → (i : ℕ) → option_map_or (is_answer_from r o a) (option_and_then (λ s. pdu_received r s i) m) false ≡ true → has_key r k i ≡ true
 told_has r o a k None e i h = absurd (cc)
 told_has r o a k (Some s) e i h =
@@ -265,7 +265,7 @@ maker_is : (o : OrderData) (m : Option ℕ) → id_key (option_map_or (λ s. s) 
 maker_is o None = refl
 maker_is o (Some s) = refl
 
-pub told_under : (r : PlainRecording) (o : OrderData) (a : Pair) → IfSome (maker_key o) (IsUnder r (is_heard_from r o a))
+pub told_under : (r : PlainRecording) (o : OrderData) (a : SiteApplication) → IfSome (maker_key o) (IsUnder r (is_heard_from r o a))
 unfolding is_heard_from maker_key
 told_under r o a = if_key (maker_key o) (IsUnder r (is_heard_from r o a)) (λ k e i h.
     told_has r o a k o.maker (sym (maker_is o o.maker) ∙ e) i (and_parts _ _ (and_parts (is_first_under_id r o) _ h).1).1)

@@ -2,15 +2,14 @@
 use Rattle.std.specs.Prelude.{◌≡◌, ◌⊎◌, ℕ, List, [], ◌∷◌, filter, Bool, false, ◌&&◌, ◌||◌, ◌==◌, not, Option, Some, None}
 use Rattle.std.specs.List.{list_any}
 use Rattle.dis_records.specs.declared.entity.EntityId.{EntityId}
-use Rattle.dis_records.specs.Entity.{is_addressed, is_open}
+use Rattle.dis_records.specs.Entity.{is_addressed, is_open, site_application_of}
 use Rattle.siman_pdus.specs.Answers.{same_id}
 use Rattle.exercise_review.specs.declared.filter.Filter.{Filter}
 use Rattle.exercise_review.specs.declared.filter.Filter.TheVariants as filters
 use Rattle.exercise_review.specs.declared.told.OrderAt.{OrderAt}
-use Rattle.exercise_review.specs.declared.party.SiteApplication.{SiteApplication}
+use Rattle.dis_records.specs.declared.address.SiteApplication.{SiteApplication}
 use Rattle.exercise_review.specs.declared.span.Span.{Span}
 use Rattle.exercise_review.specs.declared.tally.StationCounts.{StationCounts}
-use Rattle.exercise_review.specs.Party.{pair_at}
 use Rattle.exercise_review.specs.Tally.{same_fate}
 
 -- ---- addresses and entities
@@ -27,16 +26,12 @@ abbrev pub is_there_or_none : SiteApplication → Option SiteApplication → Boo
 is_there_or_none a None = not false
 is_there_or_none a (Some b) = same_address a b
 
--- the address of the station of an entity
-abbrev pub place_of : EntityId → SiteApplication
-place_of id = record { site = id.site; application = id.application }
-
 abbrev pub same_entity : EntityId → EntityId → Bool
-same_entity a b = same_address (place_of a) (place_of b) && (a.entity == b.entity)
+same_entity a b = same_address (site_application_of a) (site_application_of b) && (a.entity == b.entity)
 
 -- an order covers an entity: it addresses the entity's station, and its entity number is that of the entity or open
 abbrev pub covers_entity : EntityId → OrderAt → Bool
-covers_entity id x = is_addressed x.to (pair_at (place_of id)) && ((x.to.entity == id.entity) || is_open x.kind x.to.entity)
+covers_entity id x = is_addressed x.to (site_application_of id) && ((x.to.entity == id.entity) || is_open x.kind x.to.entity)
 
 -- ---- what passes a filter
 
@@ -49,7 +44,7 @@ passes_station x filter = false
 -- of that request of that maker; of that fate; none by a name
 abbrev pub passes_order : OrderAt → Filter → Bool
 passes_order x (filters.Station a) = same_address a x.from || is_there a x.at
-passes_order x (filters.Entity id) = is_there_or_none (place_of id) x.at && covers_entity id x
+passes_order x (filters.Entity id) = is_there_or_none (site_application_of id) x.at && covers_entity id x
 passes_order x (filters.Request a n) = same_address a x.from && same_id x.request (Some n)
 passes_order x (filters.Fate f) = same_fate f x.outcome.fate
 passes_order x (filters.Kind name) = false
@@ -57,7 +52,7 @@ passes_order x (filters.Kind name) = false
 -- rows of states: of the entities of that station; of that entity; begun by that request; none under a fate, and none
 -- by a name
 abbrev pub passes_span : Span → Filter → Bool
-passes_span x (filters.Station a) = same_address a (place_of x.entity)
+passes_span x (filters.Station a) = same_address a (site_application_of x.entity)
 passes_span x (filters.Entity id) = same_entity id x.entity
 passes_span x (filters.Request a n) = is_there a x.by && same_id x.request (Some n)
 passes_span x (filters.Fate f) = false

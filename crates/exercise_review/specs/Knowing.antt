@@ -8,19 +8,19 @@ use Rattle.exercise_review.specs.declared.party.Party.{Party}
 use Rattle.exercise_review.specs.declared.party.Party.TheVariants as parties
 use Rattle.exercise_review.specs.Entries.{pdu_received}
 use Rattle.exercise_review.specs.Order.{OrderData}
-use Rattle.exercise_review.specs.Party.{pair_at, is_party, is_heard_from, is_party_outside}
+use Rattle.exercise_review.specs.Party.{is_party, is_heard_from, is_party_outside}
 use Rattle.exercise_review.specs.Reply.{is_news}
 use Rattle.exercise_review.specs.Word.{settles, settles_at}
 
 -- it is a party of the order
 abbrev pub is_party_of : PlainRecording → OrderData → Party → Bool
 is_party_of r o (parties.Station t) = is_party r o t
-is_party_of r o (parties.Outside a) = is_party_outside r o (pair_at a)
+is_party_of r o (parties.Outside a) = is_party_outside r o a
 
 -- the datagram that the maker received at entry i counts as heard from this party
 abbrev pub is_heard_of : PlainRecording → OrderData → Party → ℕ → Bool
 is_heard_of r o (parties.Station t) i = is_news r o t i
-is_heard_of r o (parties.Outside a) i = is_heard_from r o (pair_at a) i
+is_heard_of r o (parties.Outside a) i = is_heard_from r o a i
 
 -- AN ANSWER OF SOME PARTY COUNTS AS HEARD at entry i and settles the order
 pub record IsHeardSettled (r : PlainRecording) (o : OrderData) (i : ℕ) : Type 0 where

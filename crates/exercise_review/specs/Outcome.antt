@@ -5,11 +5,11 @@ use Rattle.exercise_model.specs.Recording.{PlainRecording}
 use Rattle.exercise_review.specs.declared.fate.Fate.TheVariants as fates
 use Rattle.exercise_review.specs.declared.party.Party.{Party}
 use Rattle.exercise_review.specs.declared.party.Party.TheVariants as parties
-use Rattle.exercise_review.specs.declared.party.SiteApplication.{SiteApplication}
+use Rattle.dis_records.specs.declared.address.SiteApplication.{SiteApplication}
 use Rattle.exercise_review.specs.declared.outcome.Outcome.{Outcome}
 use Rattle.exercise_review.specs.Counted.{count_below}
 use Rattle.exercise_review.specs.Order.{OrderData, sends_of}
-use Rattle.exercise_review.specs.Party.{pair_at, is_copy, first_copy, is_heard_from}
+use Rattle.exercise_review.specs.Party.{is_copy, first_copy, is_heard_from}
 use Rattle.exercise_review.specs.Parties.{parties_of}
 use Rattle.exercise_review.specs.Reply.{is_reply, is_news, change_of_order}
 use Rattle.exercise_review.specs.Word.{decisive_entry, decisive_word}
@@ -73,9 +73,9 @@ outsider_outcome r o a = record {
   got = None;
   said = None;
   answer = None;
-  heard = decisive_word r (is_heard_from r o (pair_at a));
-  news = decisive_entry r (is_heard_from r o (pair_at a));
-  took = took r o (decisive_entry r (is_heard_from r o (pair_at a)));
+  heard = decisive_word r (is_heard_from r o a);
+  news = decisive_entry r (is_heard_from r o a);
+  took = took r o (decisive_entry r (is_heard_from r o a));
   change = None;
   fate = fate_of r o (parties.Outside a);
 }

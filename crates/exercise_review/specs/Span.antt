@@ -2,8 +2,7 @@
 use Rattle.std.specs.Prelude.{ℕ, ◌+◌, List, [], ◌∷◌, length, map, Option, option_map, option_and_then}
 use Rattle.std.specs.Option.{option_to_list}
 use Rattle.dis_records.specs.declared.entity.EntityId.{EntityId}
-use Rattle.dis_records.specs.Address.{Pair}
-use Rattle.dis_records.specs.Entity.{pair_of}
+use Rattle.dis_records.specs.Entity.{site_application_of, entity_of}
 use Rattle.siman_pdus.specs.declared.pdu.Pdu.{Pdu}
 use Rattle.siman_pdus.specs.Role.{request_id_of}
 use Rattle.exercise_model.specs.declared.station.TheConstants.{LARGEST_ENTITY}
@@ -19,7 +18,6 @@ use Rattle.exercise_review.specs.declared.span.Span.{Span}
 use Rattle.exercise_review.specs.Entries.{pdu_at}
 use Rattle.exercise_review.specs.Life.{LifeSoFar, life_after, lives_of}
 use Rattle.exercise_review.specs.Outcome.{stamp_at}
-use Rattle.exercise_review.specs.Parties.{site_application}
 use Rattle.exercise_review.specs.Room.{lists_below}
 
 -- ---- spans
@@ -27,10 +25,6 @@ use Rattle.exercise_review.specs.Room.{lists_below}
 -- the request that the answer at entry i takes up, such as the answer at the start of a span
 unfoldable pub request_behind : PlainRecording → ℕ → Option Pdu
 request_behind r i = option_and_then (pdu_at r) (pair_at_entry r i)
-
--- the entity e at this address
-abbrev pub entity_at : Pair → ℕ → EntityId
-entity_at a e = record { site = a.site; application = a.application; entity = e }
 
 -- A SPAN OF AN ENTITY'S LIFE: a stretch with the stamps of its ends, and with the request of the change that began it
 abbrev pub span_of : PlainRecording → EntityId → Stretch → Span
@@ -41,13 +35,13 @@ span_of r id x = record {
   to = x.until;
   since = option_and_then (stamp_at r) x.from;
   until = option_and_then (stamp_at r) x.until;
-  by = option_map (λ p. site_application (pair_of p.origin)) (option_and_then (request_behind r) x.from);
+  by = option_map (λ p. site_application_of p.origin) (option_and_then (request_behind r) x.from);
   request = option_and_then (λ p. request_id_of p.body) (option_and_then (request_behind r) x.from);
 }
 
 -- the spans of entity e of station s
 abbrev pub entity_spans : PlainRecording → ℕ → ℕ → List Span
-entity_spans r s e = map (span_of r (entity_at (station_at r s).address e)) (lives_of r s e)
+entity_spans r s e = map (span_of r (entity_of (station_at r s).address e)) (lives_of r s e)
 
 -- the spans of entity n + 1, since entities are numbered from 1
 abbrev pub spans_of_next : PlainRecording → ℕ → ℕ → List Span

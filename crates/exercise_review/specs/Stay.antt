@@ -2,6 +2,7 @@
 use Rattle.std.specs.Prelude.{◌≡◌, ℕ, ◌+◌, ◌<◌, ◌≤◌, List, [], ◌∷◌, length, map, None, Result, Ok, Err, Vec, if◌then◌else◌}
 use Rattle.std.specs.declared.alloc.Global.{Global}
 use Rattle.dis_records.specs.declared.entity_state.EntityState.{EntityState}
+use Rattle.dis_records.specs.Entity.{entity_of}
 use Rattle.exercise_model.specs.declared.station.TheConstants.{LARGEST_ENTITY}
 use Rattle.exercise_model.specs.Station.{is_absent}
 use Rattle.exercise_model.specs.Recording.{PlainRecording}
@@ -15,7 +16,7 @@ use Rattle.exercise_review.specs.declared.span.Span.{Span}
 use Rattle.exercise_review.specs.declared.stay.Stay.{Stay}
 use Rattle.exercise_review.specs.Life.{LifeSoFar, lives_of}
 use Rattle.exercise_review.specs.Room.{lists_below}
-use Rattle.exercise_review.specs.Span.{span_of, entity_at}
+use Rattle.exercise_review.specs.Span.{span_of}
 
 -- the stretch that a stay represents
 abbrev pub stretch_in : Stay → Stretch
@@ -23,7 +24,7 @@ stretch_in y = record { state = y.state; from = entry_of y.from; until = entry_o
 
 -- THE SPAN THAT A STAY REPRESENTS
 abbrev pub span_at : PlainRecording → Stay → Span
-span_at r y = span_of r (entity_at (station_at r y.station).address y.entity) (stretch_in y)
+span_at r y = span_of r (entity_of (station_at r y.station).address y.entity) (stretch_in y)
 
 -- STAYS OF THESE SPANS, at most `most`; OverLimit means that these would be more; Memory says nothing
 abbrev pub StaysWithin : PlainRecording → (most : ℕ) → List Span → Result (Vec Stay Global) ReviewFault → Type 0

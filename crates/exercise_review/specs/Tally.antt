@@ -27,7 +27,6 @@ use Rattle.exercise_review.specs.Records.{AreRecords}
 use Rattle.exercise_review.specs.Room.{lists_below}
 use Rattle.exercise_review.specs.Row.{AreRows}
 use Rattle.exercise_review.specs.Told.{orders_at, order_at_its_parties, orders_of, reviewed_orders}
-use Rattle.exercise_review.specs.Parties.{site_application}
 
 -- ---- fates
 
@@ -129,7 +128,7 @@ row_numbers xs i = option_map (λ (x : OrderRow). fate_number x.fate) (slice_get
 -- it was party to, its entities that exist at the end, and how many of them run
 unfoldable pub station_counts : PlainRecording → ℕ → StationCounts
 station_counts r s = record {
-  at = site_application (station_at r s).address;
+  at = (station_at r s).address;
   records = many (is_entry_of s) r.entries;
   made = many (is_made_by s) (orders_of r);
   fates = fates_at s (reviewed_orders r);

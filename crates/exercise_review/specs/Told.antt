@@ -8,7 +8,7 @@ use Rattle.exercise_model.specs.Recording.{PlainRecording}
 use Rattle.exercise_review.specs.declared.outcome.Outcome.{Outcome}
 use Rattle.exercise_review.specs.declared.told.OrderAt.{OrderAt}
 use Rattle.exercise_review.specs.Order.{OrderData, order_at}
-use Rattle.exercise_review.specs.Parties.{site_application, maker_address, party_address}
+use Rattle.exercise_review.specs.Parties.{maker_address, party_address}
 use Rattle.exercise_review.specs.Outcome.{outcomes_of}
 use Rattle.exercise_review.specs.Room.{lists_below}
 
@@ -16,11 +16,11 @@ use Rattle.exercise_review.specs.Room.{lists_below}
 abbrev pub order_at_party : PlainRecording → OrderData → Outcome → OrderAt
 order_at_party r o x = record {
   head = o.head;
-  from = site_application (maker_address r o);
+  from = maker_address r o;
   request = request_id_of o.request.body;
   kind = body_kind o.request.body;
   to = o.request.target;
-  at = option_map (λ party. site_application (party_address r party)) x.party;
+  at = option_map (λ party. party_address r party) x.party;
   outcome = x;
 }
 

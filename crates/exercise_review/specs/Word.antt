@@ -1,7 +1,12 @@
 -- The words of answers, and which of several answers counts (SISO-REF-010: response flag of an Acknowledge, request
 -- status of an Action Response).
-use Rattle.std.specs.Prelude.{ℕ, List, length, Bool, true, false, ◌&&◌, ◌==◌, codes, decimal, Option, Some, None, option_and_then, if◌then◌else◌}
+use Rattle.std.specs.Prelude.{ℕ, List, length, Bool, true, false, ◌&&◌, ◌==◌, decimal, Option, Some, None, option_and_then, if◌then◌else◌}
 use Rattle.std.specs.Option.{option_or, option_map_or}
+use Rattle.dis_records.specs.declared.kind.Kind.TheVariants as kinds
+use Rattle.dis_records.specs.Texts.{kind_text}
+use Rattle.siman_pdus.specs.declared.response_flag.ResponseFlag.TheVariants as responses
+use Rattle.siman_pdus.specs.declared.request_status.RequestStatus.TheVariants as statuses
+use Rattle.siman_pdus.specs.FieldNames.{response_text, status_text}
 use Rattle.siman_pdus.specs.declared.pdu.Body.{Body}
 use Rattle.siman_pdus.specs.declared.pdu.Body.TheVariants as bodies
 use Rattle.exercise_model.specs.Recording.{PlainRecording}
@@ -72,13 +77,13 @@ decisive_word r test = option_and_then (word_at r) (decisive_entry r test)
 
 -- the spelling of a word
 abbrev pub word_text : Word → List ℕ
-word_text words.Other = codes "other"
-word_text words.Able = codes "able"
-word_text words.Unable = codes "unable"
-word_text words.Pending = codes "pending"
-word_text words.Executing = codes "executing"
-word_text words.PartiallyComplete = codes "partially-complete"
-word_text words.Complete = codes "complete"
-word_text words.Rejected = codes "rejected"
-word_text words.Data = codes "data"
+word_text words.Other = response_text responses.Other
+word_text words.Able = response_text responses.Able
+word_text words.Unable = response_text responses.Unable
+word_text words.Pending = response_text responses.Pending
+word_text words.Executing = status_text statuses.Executing
+word_text words.PartiallyComplete = status_text statuses.PartiallyComplete
+word_text words.Complete = status_text statuses.Complete
+word_text words.Rejected = status_text statuses.Rejected
+word_text words.Data = kind_text kinds.DataPdu
 word_text (words.Number n) = decimal n

@@ -2,14 +2,13 @@
 
 ghost use Rattle.std.specs.Prelude.{◌≡◌, Some};
 ghost use Rattle.siman_pdus.specs.Answers.{same_id};
-ghost use Rattle.exercise_review.specs.Filter.{same_address, is_there, is_there_or_none, place_of, same_entity, covers_entity, passes_station, passes_order, passes_span, key_of, is_under, passes_under, holds_under, keeps};
+ghost use Rattle.exercise_review.specs.Filter.{same_address, is_there, is_there_or_none, same_entity, covers_entity, passes_station, passes_order, passes_span, key_of, is_under, passes_under, holds_under, keeps};
 
 use crate::fate::Fate;
-use crate::party::SiteApplication;
 use crate::span::Span;
 use crate::tally::StationCounts;
 use crate::told::OrderAt;
-use dis_records::{EntityId, Kind, addresses, is_open};
+use dis_records::{EntityId, Kind, SiteApplication, addresses, is_open};
 
 /// A filter: selects the rows with this value under one key.
 #[derive(Clone, Copy)]
@@ -66,16 +65,6 @@ fn is_there(address: SiteApplication, at: Option<SiteApplication>) -> bool
     }
 }
 
-/// Address of the station of an entity.
-fn place_of(entity: EntityId) -> SiteApplication
-    ensures { result ≡ place_of entity }
-{
-    SiteApplication {
-        site: entity.site,
-        application: entity.application,
-    }
-}
-
 /// Whether an order covers an entity: it addresses the entity's station, and its entity number is
 /// that of the entity or names no single entity.
 fn covers_entity(entity: EntityId, order: &OrderAt) -> bool
@@ -114,7 +103,7 @@ impl Filtered for OrderAt {
             Filter::Station(address) => same_address(address, self.from)
                 || is_there(address, self.at),
             Filter::Entity(entity) => {
-                (self.at.is_none() || is_there(place_of(entity), self.at))
+                (self.at.is_none() || is_there(entity.site_application(), self.at))
                     && covers_entity(entity, self)
             }
             Filter::Request(address, number) => {
@@ -131,9 +120,9 @@ impl Filtered for Span {
 
     fn passes(&self, filter: Filter) -> bool {
         match filter {
-            Filter::Station(address) => same_address(address, place_of(self.entity)),
+            Filter::Station(address) => same_address(address, self.entity.site_application()),
             Filter::Entity(entity) => {
-                same_address(place_of(entity), place_of(self.entity))
+                same_address(entity.site_application(), self.entity.site_application())
                     && entity.entity == self.entity.entity
             }
             Filter::Request(address, number) => {

@@ -2,13 +2,12 @@
 //! contract is the law.
 
 ghost use Rattle.std.specs.Prelude.{◌≡◌, ◌<◌, ◌≤◌, ℕ, length, true, false, Some, None, is_some};
-ghost use Rattle.dis_records.specs.Address.{Pair};
 ghost use Rattle.exercise_model.specs.Recording.{PlainRecording, IsRecording};
 ghost use Rattle.exercise_model.specs.History.{History};
 ghost use Rattle.exercise_model.specs.Run.{Explains};
 ghost use Rattle.exercise_model.specs.Setting.{is_open};
 ghost use Rattle.exercise_review.specs.declared.party.Party.{Party};
-ghost use Rattle.exercise_review.specs.declared.party.SiteApplication.{SiteApplication};
+ghost use Rattle.dis_records.specs.declared.address.SiteApplication.{SiteApplication};
 ghost use Rattle.exercise_review.specs.declared.party.Party.TheVariants.{Station, Outside};
 ghost use Rattle.exercise_review.specs.declared.fate.Fate.TheVariants.{Done, Answered, Refused, Pending, Unheard, Unanswered, Lost, Unknown};
 ghost use Rattle.exercise_review.specs.declared.word.Word.{Word};
@@ -26,7 +25,7 @@ ghost use Rattle.exercise_review.specs.Life.{lives_of, states_at, if_there};
 pub fn one_side_is_not_enough()
     ensures maker { (r : PlainRecording) (o : OrderData) (party : Party) → o.maker ≡ None → needs_both_logs (fate_of r o party) ≡ false }
     ensures party { (r : PlainRecording) (o : OrderData) (a : SiteApplication) → needs_both_logs (fate_of r o (Outside a)) ≡ false }
-    ensures closed { (r : PlainRecording) (o : OrderData) (a : Pair) → is_open r.setting.form ≡ false → is_party_outside r o a ≡ false }
+    ensures closed { (r : PlainRecording) (o : OrderData) (a : SiteApplication) → is_open r.setting.form ≡ false → is_party_outside r o a ≡ false }
     ensures inside { (r : PlainRecording) (i : ℕ) (o : OrderData) → is_open r.setting.form ≡ false → order_at r i ≡ Some o → is_some o.maker ≡ true }
 {}
 

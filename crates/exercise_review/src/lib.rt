@@ -79,7 +79,7 @@ pub use missing::missing_at;
 pub use order::{RecordedOrder, head_of, order_at};
 pub use outcome::{Outcome, outcomes_of};
 pub use parties::parties_of;
-pub use party::{Party, SiteApplication, is_party, is_party_outside};
+pub use party::{Party, is_party, is_party_outside};
 pub use receipts::receipt_counts;
 pub use register::Register;
 pub use reply::change_of_order;

@@ -16,11 +16,12 @@ use crate::hints::Hints;
 use crate::keys::{digest_key, request_digest};
 use crate::order::RecordedOrder;
 use crate::parties::parties_by;
-use crate::party::{HeardFrom, Party, SiteApplication, is_maker};
+use crate::party::{HeardFrom, Party, is_maker};
 use crate::register::Register;
 use crate::reply::Replies;
 use crate::station_trace::{StationTrace, station_trace};
 use crate::word::{Word, decisive_entry, word_of};
+use dis_records::SiteApplication;
 use exercise_model::{EntryView, ExerciseLog};
 use std::alloc::{AllocError, Global};
 

@@ -1,64 +1,43 @@
 //! The parties of an order, by rising address.
 
 ghost use Rattle.std.specs.Prelude.{◌≡◌, ◌≢◌, ◌<◌, ◌≤◌, ◌+◌, ℕ, nat_lt, IsTrue, true, false, [], length, option_map, IfOk, OnOk, IfSome};
-ghost use Rattle.dis_records.specs.Entity.{pair_of, is_addressed};
+ghost use Rattle.dis_records.specs.Entity.{site_application_of, is_addressed};
 ghost use Rattle.exercise_model.specs.History.{station_at};
 ghost use Rattle.exercise_model.specs.Recording.{IsRecording};
 ghost use Rattle.exercise_review.specs.StationTrace.{IsOwn};
 ghost use Rattle.exercise_review.specs.Order.{order_of};
-ghost use Rattle.exercise_review.specs.Party.{pair_at};
 ghost use Rattle.exercise_review.specs.Parties.{number_of, addresses, maker_address, party_address, party_at, parties_of, has_outsiders, number_heard, candidate_at, lower_party, IsNextParty};
 
 use crate::entries::{entry_count, pdu_received};
 use crate::order::RecordedOrder;
-use crate::party::{At, Party, SiteApplication, is_party, is_party_by, is_party_outside};
+use crate::party::{At, Party, is_party, is_party_by, is_party_outside};
 use crate::question::first_below;
 use crate::register::Register;
 use crate::station_trace::StationTrace;
-use dis_records::{Address, EntityId};
+use dis_records::{EntityId, SiteApplication};
 use exercise_model::{ExerciseLog, Form};
 use std::alloc::{AllocError, Global};
 
 /// All sites or all applications, in its place (IEEE 1278.1-2012, 6.2.28).
 const ALL: u16 = 0xFFFF;
 
-/// Site and application of an address.
-pub(crate) fn parts_of(address: Address) -> SiteApplication
-    ensures { pair_at result ≡ address }
-{
-    SiteApplication {
-        site: address.site(),
-        application: address.application(),
-    }
-}
-
-/// Site and application of an identifier.
-pub(crate) fn parts_in(id: EntityId) -> SiteApplication
-    ensures { pair_at result ≡ pair_of id }
-{
-    SiteApplication {
-        site: id.site,
-        application: id.application,
-    }
-}
-
 /// Site and application of a recorded station; 0 and 0 past the last.
 pub(crate) fn station_parts<L: ExerciseLog>(
     findings: &Register<'_, L>,
     station: u16,
 ) -> SiteApplication
-    ensures { pair_at result ≡ (station_at findings.now station).address }
+    ensures { result ≡ (station_at findings.now station).address }
 {
     parts_at(findings.log(), station)
 }
 
 /// Site and application of a station of a log; 0 and 0 past the last.
 pub(crate) fn parts_at<L: ExerciseLog>(log: &L, station: u16) -> SiteApplication
-    ensures { pair_at result ≡ (station_at (L.recording log.now) station).address }
+    ensures { result ≡ (station_at (L.recording log.now) station).address }
 {
     let station = usize::from(station);
     if station < log.station_count() {
-        parts_of(log.station(station).address())
+        log.station(station).address().site_application()
     } else {
         SiteApplication {
             site: 0,
@@ -69,17 +48,17 @@ pub(crate) fn parts_at<L: ExerciseLog>(log: &L, station: u16) -> SiteApplication
 
 /// Site and application of the maker of an order, given a log.
 pub(crate) fn maker_in<L: ExerciseLog>(log: &L, order: &RecordedOrder<'_>) -> SiteApplication
-    ensures { pair_at result ≡ maker_address (L.recording log.now) (order_of order.now) }
+    ensures { result ≡ maker_address (L.recording log.now) (order_of order.now) }
 {
     match order.maker {
         Some(station) => parts_at(log, station),
-        None => parts_in(order.request.origin),
+        None => order.request.origin.site_application(),
     }
 }
 
 /// Site and application of a party, given a log; 0 and 0 for a station past the last.
 pub(crate) fn address_in<L: ExerciseLog>(log: &L, party: Party) -> SiteApplication
-    ensures { pair_at result ≡ party_address (L.recording log.now) party }
+    ensures { result ≡ party_address (L.recording log.now) party }
 {
     match party {
         Party::Station(station) => parts_at(log, station),
@@ -91,7 +70,7 @@ impl RecordedOrder<'_> {
     /// Site and application of its maker: those of the recorded station, or of the origin of the
     /// request.
     pub fn from<L: ExerciseLog>(&self, findings: &Register<'_, L>) -> SiteApplication
-        ensures { pair_at result ≡ maker_address findings.now (order_of self.now) }
+        ensures { result ≡ maker_address findings.now (order_of self.now) }
     {
         maker_in(findings.log(), self)
     }
@@ -100,20 +79,18 @@ impl RecordedOrder<'_> {
 impl Party {
     /// Site and application of the party; 0 and 0 for a station past the last.
     pub fn address<L: ExerciseLog>(self, findings: &Register<'_, L>) -> SiteApplication
-        ensures { pair_at result ≡ party_address findings.now self }
+        ensures { result ≡ party_address findings.now self }
     {
         address_in(findings.log(), self)
     }
 }
 
-impl SiteApplication {
-    /// Rank of the address: site times 65,536 plus application.
-    fn number(self) -> u64
-        ensures number { result ≡ number_of (pair_at self) }
-        ensures within { result < addresses }
-    {
-        u64::from(self.site) * 65_536 + u64::from(self.application)
-    }
+/// Rank of an address: site times 65,536 plus application.
+fn number_of(address: SiteApplication) -> u64
+    ensures number { result ≡ number_of address }
+    ensures within { result < addresses }
+{
+    u64::from(address.site) * 65_536 + u64::from(address.application)
 }
 
 /// The party at an address, if any.
@@ -123,7 +100,7 @@ fn party_at<L: ExerciseLog>(
     order: &RecordedOrder<'_>,
     address: SiteApplication,
 ) -> Option<Party>
-    ensures { result ≡ party_at findings.now (order_of order.now) (pair_at address) }
+    ensures { result ≡ party_at findings.now (order_of order.now) address }
 {
     let at = At { findings, address };
     match first_below(&at, findings.log().station_count()) {
@@ -141,10 +118,10 @@ fn heard_from<L: ExerciseLog>(
     order: &RecordedOrder<'_>,
     entry: usize,
 ) -> Option<SiteApplication>
-    ensures { option_map (λ a. number_of (pair_at a)) result ≡ number_heard findings.now (order_of order.now) entry }
+    ensures { option_map number_of result ≡ number_heard findings.now (order_of order.now) entry }
 {
     match pdu_received(findings, order.maker?, entry) {
-        Some(pdu) => Some(parts_in(pdu.origin)),
+        Some(pdu) => Some(pdu.origin.site_application()),
         None => None,
     }
 }
@@ -156,13 +133,13 @@ fn candidate<L: ExerciseLog>(
     order: &RecordedOrder<'_>,
     place: usize,
 ) -> Option<SiteApplication>
-    ensures { option_map (λ a. number_of (pair_at a)) result ≡ candidate_at findings.now (order_of order.now) place }
+    ensures { option_map number_of result ≡ candidate_at findings.now (order_of order.now) place }
 {
     let stations = findings.log().station_count();
     if place < stations {
         Some(station_parts(findings, place as u16))
     } else if place == stations {
-        Some(parts_in(order.request.target))
+        Some(order.request.target.site_application())
     } else {
         heard_from(findings, order, place - stations - 1)
     }
@@ -177,10 +154,10 @@ fn lower_party<L: ExerciseLog>(
     next: Option<(u64, Party)>,
     address: SiteApplication,
 ) -> Option<(u64, Party)>
-    ensures next { result ≡ lower_party findings.now (order_of order.now) first next (number_of (pair_at address)) }
-    ensures within { number_of (pair_at address) < addresses }
+    ensures next { result ≡ lower_party findings.now (order_of order.now) first next (number_of address) }
+    ensures within { number_of address < addresses }
 {
-    let number = address.number();
+    let number = number_of(address);
     if number < first {
         return next;
     }
@@ -243,7 +220,7 @@ fn is_below<L: ExerciseLog>(log: &L, station: usize, number: u64) -> bool
     requires { station < length (L.recording log.now).setting.stations }
     ensures { result ≡ nat_lt (number_of (station_at (L.recording log.now) station).address) number }
 {
-    parts_of(log.station(station).address()).number() < number
+    number_of(log.station(station).address().site_application()) < number
 }
 
 /// Number of recorded stations whose address has a lower rank than `number`.
@@ -285,7 +262,7 @@ fn addressed_among<L: ExerciseLog>(findings: &Register<'_, L>, target: EntityId)
     if !names_one(target) {
         return (0, count);
     }
-    let at = stations_below(log, parts_in(target).number());
+    let at = stations_below(log, number_of(target.site_application()));
     if at < count { (at, at + 1) } else { (at, at) }
 }
 

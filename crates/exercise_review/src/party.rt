@@ -5,7 +5,7 @@ ghost use Rattle.siman_pdus.specs.Answers.{same_id};
 ghost use Rattle.siman_pdus.specs.Reading.{pdu_of};
 ghost use Rattle.exercise_review.specs.StationTrace.{IsOwn};
 ghost use Rattle.exercise_review.specs.Order.{order_of};
-ghost use Rattle.exercise_review.specs.Party.{pair_at, first_copy, is_party, is_answer_from, is_heard_from, names, is_at, is_recorded_at, is_party_outside};
+ghost use Rattle.exercise_review.specs.Party.{first_copy, is_party, is_answer_from, is_heard_from, names, is_at, is_recorded_at, is_party_outside};
 
 use crate::entries::pdu_received;
 use crate::keys::order_key;
@@ -15,16 +15,9 @@ use crate::register::Register;
 use crate::station_trace::StationTrace;
 use crate::stations::{Meant, is_outside};
 use crate::walk::first_entry;
-use dis_records::{EntityId, is_address_part};
+use dis_records::{EntityId, SiteApplication, is_address_part};
 use exercise_model::{ExerciseLog, Form};
 use siman_pdus::{PduView, answers};
-
-/// A site and an application, each 0..=0xFFFF.
-#[derive(Clone, Copy, PartialEq, Eq)]
-pub struct SiteApplication {
-    pub site: u16,
-    pub application: u16,
-}
 
 /// A station that an order is for, or one that answered it.
 #[derive(Clone, Copy, PartialEq, Eq)]
@@ -118,7 +111,7 @@ fn is_answer_from<L: ExerciseLog>(
     from: SiteApplication,
     pdu: &PduView<'_>,
 ) -> bool
-    ensures { result ≡ is_answer_from findings.now (order_of order.now) (pair_at from) (pdu_of pdu.now) }
+    ensures { result ≡ is_answer_from findings.now (order_of order.now) from (pdu_of pdu.now) }
 {
     answers(pdu, &order.request)
         && is_outside(findings, pdu)
@@ -136,7 +129,7 @@ pub(crate) struct HeardFrom<'a, L: ExerciseLog> {
 }
 
 impl<L: ExerciseLog> Question for HeardFrom<'_, L> {
-    ghost test = { λ q. is_heard_from q.findings.now (order_of q.order.now) (pair_at q.from) };
+    ghost test = { λ q. is_heard_from q.findings.now (order_of q.order.now) q.from };
 
     #[tactic(auto, unfolding(crate::specs::Party::is_heard_from))]
     fn passes(&self, entry: usize) -> bool {
@@ -155,7 +148,7 @@ impl<L: ExerciseLog> Question for HeardFrom<'_, L> {
 
 /// Whether an identifier names exactly this site and this application.
 fn names(id: EntityId, address: SiteApplication) -> bool
-    ensures { result ≡ names id (pair_at address) }
+    ensures { result ≡ names id address }
 {
     is_address_part(address.site)
         && is_address_part(address.application)
@@ -171,7 +164,7 @@ pub(crate) struct At<'a, L: ExerciseLog> {
 }
 
 impl<L: ExerciseLog> Question for At<'_, L> {
-    ghost test = { λ q. is_at q.findings.now (pair_at q.address) };
+    ghost test = { λ q. is_at q.findings.now q.address };
 
     #[tactic(auto, unfolding(crate::specs::Party::is_at))]
     fn passes(&self, station: usize) -> bool {
@@ -187,7 +180,7 @@ impl<L: ExerciseLog> Question for At<'_, L> {
 /// Whether a recorded station has this address.
 #[tactic(auto, unfolding(crate::specs::Party::is_recorded_at))]
 fn is_recorded_at<L: ExerciseLog>(findings: &Register<'_, L>, address: SiteApplication) -> bool
-    ensures { result ≡ is_recorded_at findings.now (pair_at address) }
+    ensures { result ≡ is_recorded_at findings.now address }
 {
     let stations = findings.log().station_count();
     first_below(&At { findings, address }, stations).is_some()
@@ -202,7 +195,7 @@ pub fn is_party_outside<L: ExerciseLog>(
     order: &RecordedOrder<'_>,
     address: SiteApplication,
 ) -> bool
-    ensures { result ≡ is_party_outside findings.now (order_of order.now) (pair_at address) }
+    ensures { result ≡ is_party_outside findings.now (order_of order.now) address }
 {
     if findings.log().form() != Form::Open
         || order.maker.is_none()

@@ -5,7 +5,7 @@ ghost use Rattle.std.specs.Option.{option_or};
 ghost use Rattle.exercise_findings.specs.Number.{entry_of};
 ghost use Rattle.exercise_review.specs.Order.{order_of, order_at};
 ghost use Rattle.exercise_review.specs.Outcome.{took};
-ghost use Rattle.exercise_review.specs.Parties.{site_application, party_address};
+ghost use Rattle.exercise_review.specs.Parties.{party_address};
 ghost use Rattle.exercise_review.specs.Row.{row_sends, row_receipts, word_numbered, row_word, row_outcome, row_order, IsKept};
 ghost use Rattle.exercise_review.specs.Told.{order_at_party};
 ghost use Rattle.exercise_review.specs.Word.{word_at};
@@ -15,10 +15,11 @@ use crate::fate::Fate;
 use crate::order::RecordedOrder;
 use crate::outcome::{Outcome, stamp_in};
 use crate::parties::{address_in, maker_in};
-use crate::party::{Party, SiteApplication};
+use crate::party::Party;
 use crate::register::Register;
 use crate::told::OrderAt;
 use crate::word::{Word, word_in};
+use dis_records::SiteApplication;
 use exercise_findings::Findings;
 use exercise_model::{EntryView, ExerciseLog, meaning_again};
 use siman_pdus::{Message, request_id};
@@ -226,7 +227,7 @@ fn row_outcome<L: ExerciseLog>(log: &L, order: &RecordedOrder<'_>, row: OrderRow
 
 /// Address of an optional party.
 fn party_address<L: ExerciseLog>(log: &L, party: Option<Party>) -> Option<SiteApplication>
-    ensures { result ≡ option_map (λ p. site_application (party_address (L.recording log.now) p)) party }
+    ensures { result ≡ option_map (λ p. (party_address (L.recording log.now) p)) party }
 {
     match party {
         Some(party) => Some(address_in(log, party)),

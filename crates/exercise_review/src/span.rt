@@ -1,26 +1,23 @@
 //! The spans of the lives of a recording's entities.
 
 ghost use Rattle.std.specs.Prelude.{◌≡◌, ◌<◌, length, map, option_map, option_and_then, IfOk};
-ghost use Rattle.dis_records.specs.Entity.{pair_of};
+ghost use Rattle.dis_records.specs.Entity.{site_application_of};
 ghost use Rattle.siman_pdus.specs.Role.{request_id_of};
 ghost use Rattle.siman_pdus.specs.declared.pdu.Pdu.{Pdu};
-ghost use Rattle.exercise_model.specs.History.{station_at};
 ghost use Rattle.exercise_review.specs.Outcome.{stamp_at};
-ghost use Rattle.exercise_review.specs.Parties.{site_application};
 ghost use Rattle.exercise_review.specs.Room.{MakesWithin};
-ghost use Rattle.exercise_review.specs.Span.{request_behind, entity_at, spans_of};
+ghost use Rattle.exercise_review.specs.Span.{request_behind, spans_of};
 ghost use Rattle.exercise_review.specs.Stay.{span_at};
 
 use crate::entries::pdu_in_log;
 use crate::entry_number::entry_of;
 use crate::fault::ReviewFault;
 use crate::outcome::stamp_in;
-use crate::parties::{parts_at, parts_in};
-use crate::party::SiteApplication;
+use crate::parties::parts_at;
 use crate::register::Register;
 use crate::stay::Stay;
 use crate::stays::stays_of;
-use dis_records::{EntityId, EntityState};
+use dis_records::{EntityId, EntityState, SiteApplication};
 use exercise_findings::Findings;
 use exercise_model::ExerciseLog;
 use siman_pdus::request_id;
@@ -54,7 +51,7 @@ fn asked_behind<L: ExerciseLog>(
     findings: &Findings<'_, L>,
     entry: Option<usize>,
 ) -> (Option<SiteApplication>, Option<u32>)
-    ensures by { result.0 ≡ option_map (λ (q : Pdu). site_application (pair_of q.origin)) (option_and_then (request_behind findings.now) entry) }
+    ensures by { result.0 ≡ option_map (λ (q : Pdu). site_application_of q.origin) (option_and_then (request_behind findings.now) entry) }
     ensures request { result.1 ≡ option_and_then (λ (q : Pdu). request_id_of q.body) (option_and_then (request_behind findings.now) entry) }
 {
     let Some(entry) = entry else {
@@ -62,7 +59,7 @@ fn asked_behind<L: ExerciseLog>(
     };
     match findings.pair(entry) {
         Some(_) => match pdu_in_log(findings.log(), entry) {
-            Some(answer) => (Some(parts_in(answer.target)), request_id(&answer)),
+            Some(answer) => (Some(answer.target.site_application()), request_id(&answer)),
             None => (None, None),
         },
         None => (None, None),
@@ -79,18 +76,6 @@ fn stamp_if<L: ExerciseLog>(log: &L, entry: Option<usize>) -> Option<u64>
     }
 }
 
-/// Identifier of an entity of a station; site and application are 0 past the last station.
-fn entity_at<L: ExerciseLog>(log: &L, station: u16, entity: u16) -> EntityId
-    ensures { result ≡ entity_at (station_at (L.recording log.now) station).address entity }
-{
-    let at = parts_at(log, station);
-    EntityId {
-        site: at.site,
-        application: at.application,
-        entity,
-    }
-}
-
 /// A span of an entity's life, read from its compact form. Allocates no memory.
 pub(crate) fn span_at<L: ExerciseLog>(findings: &Findings<'_, L>, stay: Stay) -> Span
     ensures { result ≡ span_at findings.now stay }
@@ -99,7 +84,7 @@ pub(crate) fn span_at<L: ExerciseLog>(findings: &Findings<'_, L>, stay: Stay) ->
     let (from, to) = (entry_of(stay.from), entry_of(stay.until));
     let (by, request) = asked_behind(findings, from);
     Span {
-        entity: entity_at(log, stay.station, stay.entity),
+        entity: parts_at(log, stay.station).entity(stay.entity),
         state: stay.state,
         from,
         to,

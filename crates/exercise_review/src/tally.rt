@@ -11,12 +11,11 @@ ghost use Rattle.exercise_review.specs.declared.told.OrderAt.{OrderAt};
 
 use crate::counting::{Placing, counts_of};
 use crate::fate::Fate;
-use crate::parties::parts_of;
-use crate::party::{Party, SiteApplication};
+use crate::party::Party;
 use crate::question::{Question, count_below};
 use crate::row::OrderRow;
 use crate::told::OrderReview;
-use dis_records::EntityState;
+use dis_records::{EntityState, SiteApplication};
 use exercise_model::ExerciseLog;
 use std::alloc::{AllocError, Global};
 
@@ -269,7 +268,7 @@ fn station_counts<L: ExerciseLog>(
     let station = usize::from(station);
     let present = present_at(states, station);
     StationCounts {
-        at: parts_of(log.station(station).address()),
+        at: log.station(station).address().site_application(),
         records: told.records[station],
         made: counts.made[station],
         fates: fates_from(&counts.fates, station * FATES),

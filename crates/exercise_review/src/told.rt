@@ -14,10 +14,10 @@ use crate::hints::Hints;
 use crate::order::{RecordedOrder, order_at_entry};
 use crate::outcome::{OrderFacts, Outcome, asked_at_head, outcome_at, partyless_outcome};
 use crate::parties::parties_by;
-use crate::party::{Party, SiteApplication};
+use crate::party::Party;
 use crate::register::Register;
 use crate::row::{OrderRow, row_of};
-use dis_records::{EntityId, Kind};
+use dis_records::{EntityId, Kind, SiteApplication};
 use exercise_model::ExerciseLog;
 use std::alloc::{AllocError, Global};
 

@@ -12,8 +12,9 @@ use crate::entries::{pdu_at, pdu_in_log};
 use crate::question::Question;
 use crate::register::Register;
 use crate::walk::{first_entry, last_entry};
+use dis_records::Kind;
 use exercise_model::ExerciseLog;
-use siman_pdus::BodyView;
+use siman_pdus::{BodyView, RequestStatus, ResponseFlag};
 use std::fmt;
 
 /// The word of an answer: the response flag of an Acknowledge, the request status of an Action
@@ -94,15 +95,15 @@ impl fmt::Display for Word {
 
     fn fmt<W: fmt::Write>(&self, f: &mut fmt::Formatter<W>) -> fmt::Result {
         match self {
-            Word::Other => write!(f, "other"),
-            Word::Able => write!(f, "able"),
-            Word::Unable => write!(f, "unable"),
-            Word::Pending => write!(f, "pending"),
-            Word::Executing => write!(f, "executing"),
-            Word::PartiallyComplete => write!(f, "partially-complete"),
-            Word::Complete => write!(f, "complete"),
-            Word::Rejected => write!(f, "rejected"),
-            Word::Data => write!(f, "data"),
+            Word::Other => f.write_str(ResponseFlag::Other.name()),
+            Word::Able => f.write_str(ResponseFlag::Able.name()),
+            Word::Unable => f.write_str(ResponseFlag::Unable.name()),
+            Word::Pending => f.write_str(ResponseFlag::Pending.name()),
+            Word::Executing => f.write_str(RequestStatus::Executing.name()),
+            Word::PartiallyComplete => f.write_str(RequestStatus::PartiallyComplete.name()),
+            Word::Complete => f.write_str(RequestStatus::Complete.name()),
+            Word::Rejected => f.write_str(RequestStatus::Rejected.name()),
+            Word::Data => f.write_str(Kind::DataPdu.name()),
             Word::Number(number) => write!(f, "{number}"),
         }
     }

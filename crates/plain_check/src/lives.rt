@@ -2,7 +2,7 @@
 
 use crate::entries::pdu_at;
 use crate::outcomes::stamp_of;
-use crate::parties::{site_application, station_address};
+use crate::parties::station_address;
 use crate::report::{changes, plain_pair};
 use crate::state::opening_state;
 use dis_records::{EntityId, EntityState};
@@ -72,7 +72,7 @@ fn span_of<L: ExerciseLog>(log: &L, entity: EntityId, stretch: Stretch) -> Span 
         None => None,
     };
     let (by, request) = match asked {
-        Some(pdu) => (Some(site_application(pdu.origin)), request_id(&pdu)),
+        Some(pdu) => (Some(pdu.origin.site_application()), request_id(&pdu)),
         None => (None, None),
     };
     Span {

@@ -3,10 +3,11 @@
 use crate::change::change_made;
 use crate::entries::entry_at;
 use crate::orders::{copies_of, send_count};
-use crate::parties::{parties_of, party_address, site_application, station_address, told_from};
+use crate::parties::{parties_of, party_address, station_address, told_from};
 use crate::replies::{decisive_entry, first_settling, news_of, replies_of, word_of};
+use dis_records::SiteApplication;
 use exercise_model::{EntryView, ExerciseLog};
-use exercise_review::{Fate, OrderAt, Outcome, Party, RecordedOrder, SiteApplication, Word};
+use exercise_review::{Fate, OrderAt, Outcome, Party, RecordedOrder, Word};
 use siman_pdus::{Message, request_id};
 use std::alloc::{AllocError, Global};
 
@@ -152,7 +153,7 @@ fn order_at_party<L: ExerciseLog>(
         head: order.head,
         from: match order.maker {
             Some(maker) => station_address(log, maker),
-            None => site_application(order.request.origin),
+            None => order.request.origin.site_application(),
         },
         request: request_id(&order.request),
         kind: order.request.kind(),

@@ -2,27 +2,16 @@
 
 use crate::entries::{address_of, received_by};
 use crate::orders::{copies_of, is_first_under_id, is_meant, is_outside};
-use dis_records::{Address, EntityId};
+use dis_records::{Address, SiteApplication};
 use exercise_model::{ExerciseLog, Form};
-use exercise_review::{Party, RecordedOrder, SiteApplication};
+use exercise_review::{Party, RecordedOrder};
 use siman_pdus::answers;
 use std::alloc::{AllocError, Global};
-
-/// Site and application of an identifier.
-pub(crate) fn site_application(id: EntityId) -> SiteApplication {
-    SiteApplication {
-        site: id.site,
-        application: id.application,
-    }
-}
 
 /// Site and application of a recorded station; 0 and 0 past the last.
 pub(crate) fn station_address<L: ExerciseLog>(log: &L, station: u16) -> SiteApplication {
     match address_of(log, usize::from(station)) {
-        Some(address) => SiteApplication {
-            site: address.site(),
-            application: address.application(),
-        },
+        Some(address) => address.site_application(),
         None => SiteApplication {
             site: 0,
             application: 0,
@@ -62,7 +51,7 @@ fn told_at<L: ExerciseLog>(
         && order.head < entry
         && is_first_under_id(log, maker, order);
     if is_told {
-        Some(site_application(pdu.origin))
+        Some(pdu.origin.site_application())
     } else {
         None
     }
@@ -123,7 +112,7 @@ fn push_outsiders<L: ExerciseLog>(
     order: &RecordedOrder<'_>,
     parties: &mut Vec<Party>,
 ) -> Result<(), AllocError> {
-    let named = site_application(order.request.target);
+    let named = order.request.target.site_application();
     match Address::new(named.site, named.application) {
         Some(address) if !is_recorded_at(log, address) => {
             push_party(log, parties, Party::Outside(named))?;

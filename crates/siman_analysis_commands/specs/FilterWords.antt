@@ -11,7 +11,7 @@ use Rattle.exercise_review.specs.declared.filter.EntryName.{EntryName}
 use Rattle.exercise_review.specs.declared.filter.EntryName.TheVariants as names
 use Rattle.exercise_review.specs.declared.filter.Filter.{Filter}
 use Rattle.exercise_review.specs.declared.filter.Filter.TheVariants as filters
-use Rattle.exercise_review.specs.declared.party.SiteApplication.{SiteApplication}
+use Rattle.dis_records.specs.declared.address.SiteApplication.{SiteApplication}
 use Rattle.exercise_review.specs.Fate.{fate_text}
 use Rattle.byte_files.specs.Text.{cut_at, number_to}
 use Rattle.siman_scripts.specs.Statement.{◌>>=◌, target_of}

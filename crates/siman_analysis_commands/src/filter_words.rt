@@ -4,8 +4,8 @@ ghost use Rattle.std.specs.Prelude.{◌≡◌};
 ghost use Rattle.siman_analysis_commands.specs.FilterWords.{outsider_of, request_of, fate_of, request_kind_of, other_kind_of, kind_of, name_of, own_filter, filter_by, filter_of};
 
 use byte_files::{number_16, number_32, split_once};
-use dis_records::Kind;
-use exercise_review::{EntryName, Fate, Filter, SiteApplication};
+use dis_records::{Kind, SiteApplication};
+use exercise_review::{EntryName, Fate, Filter};
 use siman_outside::ViewWord;
 use siman_scripts::target_of;
 
@@ -66,25 +66,25 @@ fn fate_of(word: &[u8]) -> Option<Fate>
 fn request_kind_of(word: &[u8]) -> Option<Kind>
     ensures { result ≡ request_kind_of word.now }
 {
-    if word == b"create-entity".as_slice() {
+    if word == Kind::CreateEntity.name().as_bytes() {
         return Some(Kind::CreateEntity);
     }
-    if word == b"remove-entity".as_slice() {
+    if word == Kind::RemoveEntity.name().as_bytes() {
         return Some(Kind::RemoveEntity);
     }
-    if word == b"start-resume".as_slice() {
+    if word == Kind::StartResume.name().as_bytes() {
         return Some(Kind::StartResume);
     }
-    if word == b"stop-freeze".as_slice() {
+    if word == Kind::StopFreeze.name().as_bytes() {
         return Some(Kind::StopFreeze);
     }
-    if word == b"action-request".as_slice() {
+    if word == Kind::ActionRequest.name().as_bytes() {
         return Some(Kind::ActionRequest);
     }
-    if word == b"data-query".as_slice() {
+    if word == Kind::DataQuery.name().as_bytes() {
         return Some(Kind::DataQuery);
     }
-    if word == b"set-data".as_slice() {
+    if word == Kind::SetData.name().as_bytes() {
         return Some(Kind::SetData);
     }
     None
@@ -94,19 +94,19 @@ fn request_kind_of(word: &[u8]) -> Option<Kind>
 fn other_kind_of(word: &[u8]) -> Option<Kind>
     ensures { result ≡ other_kind_of word.now }
 {
-    if word == b"acknowledge".as_slice() {
+    if word == Kind::Acknowledge.name().as_bytes() {
         return Some(Kind::Acknowledge);
     }
-    if word == b"action-response".as_slice() {
+    if word == Kind::ActionResponse.name().as_bytes() {
         return Some(Kind::ActionResponse);
     }
-    if word == b"data".as_slice() {
+    if word == Kind::DataPdu.name().as_bytes() {
         return Some(Kind::DataPdu);
     }
-    if word == b"event-report".as_slice() {
+    if word == Kind::EventReport.name().as_bytes() {
         return Some(Kind::EventReport);
     }
-    if word == b"comment".as_slice() {
+    if word == Kind::Comment.name().as_bytes() {
         return Some(Kind::Comment);
     }
     None

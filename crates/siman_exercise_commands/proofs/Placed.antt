@@ -1,7 +1,7 @@
 -- Words that say where a station, its socket and its peers are, up to the first that does not.
 use Rattle.std.proofs.Common.{◌≡◌, Some, inl, inr, refl}
 use Rattle.std.specs.Prelude.{Err}
-use Rattle.dis_records.specs.Address.{Pair}
+use Rattle.dis_records.specs.declared.address.SiteApplication.{SiteApplication}
 use Rattle.siman_scripts.specs.Statement.{address_of}
 use Rattle.siman_outside.specs.Words.{StationAsked}
 use Rattle.siman_outside.specs.declared.endpoint.Endpoint.{Endpoint}
@@ -12,11 +12,11 @@ use Rattle.siman_exercise_commands.specs.Station.{FindsAddress, FindsEndpoint, F
 pub bad_address : (asked : StationAsked) (fault : Fault) → FindsAddress asked.address (Err fault) → Places asked (Err fault)
 bad_address asked fault (none, tells) = inr (asked.address, rw none refl, tells)
 
-pub bad_bind : (asked : StationAsked) (address : Pair) (fault : Fault) → address_of asked.address ≡ Some address → FindsEndpoint asked.bind (Err fault)
+pub bad_bind : (asked : StationAsked) (address : SiteApplication) (fault : Fault) → address_of asked.address ≡ Some address → FindsEndpoint asked.bind (Err fault)
     → Places asked (Err fault)
 bad_bind asked address fault is (none, tells) = inr (asked.bind, rw (is, none) refl, tells)
 
-pub bad_peers : (asked : StationAsked) (address : Pair) (bind : Endpoint) (fault : Fault) → address_of asked.address ≡ Some address
+pub bad_peers : (asked : StationAsked) (address : SiteApplication) (bind : Endpoint) (fault : Fault) → address_of asked.address ≡ Some address
     → endpoint_of asked.bind ≡ Some bind → FindsEndpoints asked.peers (Err fault) → Places asked (Err fault)
 bad_peers asked address bind fault is there (inl memory) = inl memory
 bad_peers asked address bind fault is there (inr (word, bad, tells)) = inr (word, rw (is, there) bad, tells)

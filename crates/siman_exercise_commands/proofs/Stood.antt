@@ -1,7 +1,7 @@
 -- A station of a script as it stands at its line, and why one is not set up.
 use Rattle.std.proofs.Common.{◌≡◌, ℕ, length, List, [], ◌∷◌, Option, Some, None, refl, ap, sym, ◌∙◌, subst, arith}
 use Rattle.std.specs.Prelude.{Ok, Err}
-use Rattle.dis_records.specs.Address.{Pair}
+use Rattle.dis_records.specs.declared.address.SiteApplication.{SiteApplication}
 use Rattle.exercise_model.specs.Recording.{PlainRecording}
 use Rattle.exercise_model.specs.Station.{StationData}
 use Rattle.siman_scripts.specs.Script.{ScriptData}
@@ -20,7 +20,7 @@ use Rattle.siman_exercise_commands.specs.Explained.{TextRead, GivesWhy}
 use Rattle.siman_exercise_commands.specs.Station.{of_set_up, SetsUpNone, SetsUpFile, IsOfScript}
 
 -- it is as it was begun
-pub stood_ready : {L : Type 0} (set_up : SetUp) (address : Pair) (ready : ReadyStation L) → IsOfScript set_up → ready.head ≡ set_up.head
+pub stood_ready : {L : Type 0} (set_up : SetUp) (address : SiteApplication) (ready : ReadyStation L) → IsOfScript set_up → ready.head ≡ set_up.head
     → IsBegun set_up.head.setting.exercise address set_up.node ready.post → IsReady ready
 stood_ready set_up address ready (x, addresses, s, is) head begun =
     let same = head ∙ is.head in
@@ -47,7 +47,7 @@ stood_ready set_up address ready (x, addresses, s, is) head begun =
           }));
     }
 
-pub none_set_up : (s : ScriptData) (address : Pair) (fault : SetUpFault) → SetsUp s address (Err fault) → SetsUpNone (Ok s) address (of_set_up fault)
+pub none_set_up : (s : ScriptData) (address : SiteApplication) (fault : SetUpFault) → SetsUp s address (Err fault) → SetsUpNone (Ok s) address (of_set_up fault)
 none_set_up s address set_ups.NotInSetup is = (s, refl, is)
 none_set_up s address set_ups.Stations is = (s, refl, is)
 none_set_up s address set_ups.Memory is = tt
@@ -58,13 +58,13 @@ no_why t set_ups.NotInSetup = tt
 no_why t set_ups.Stations = tt
 no_why t set_ups.Memory = tt
 
-found_one : (x : ℕ) (addresses : List Pair) (found : Option WorldStationData) (set_up : SetUp) → SetsUpFound x addresses found (Ok set_up) → IsOfScript set_up
+found_one : (x : ℕ) (addresses : List SiteApplication) (found : Option WorldStationData) (set_up : SetUp) → SetsUpFound x addresses found (Ok set_up) → IsOfScript set_up
 found_one x addresses None set_up is = absurd cc
 found_one x addresses (Some s) set_up is = (x, addresses, s, is)
 
 -- the station of a script that was read
-pub of_script : (s : ScriptData) (address : Pair) (set_up : SetUp) → SetsUp s address (Ok set_up) → IsOfScript set_up
+pub of_script : (s : ScriptData) (address : SiteApplication) (set_up : SetUp) → SetsUp s address (Ok set_up) → IsOfScript set_up
 of_script s address set_up is = found_one s.exercise (addresses_of s.stations) (station_at address s.stations) set_up is
 
-pub of_text : (known : Option (List ℕ)) (address : Pair) (set_up : SetUp) → SetsUpFile known address (Ok set_up) → IsOfScript set_up
+pub of_text : (known : Option (List ℕ)) (address : SiteApplication) (set_up : SetUp) → SetsUpFile known address (Ok set_up) → IsOfScript set_up
 of_text known address set_up (text, has, ((s, read, is), why)) = of_script s address set_up is

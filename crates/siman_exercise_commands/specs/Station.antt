@@ -2,7 +2,7 @@
 use Rattle.std.specs.Prelude.{◌≡◌, ◌⊎◌, ⊤, ℕ, ◌+◌, Bool, true, false, List, [], ◌∷◌, ◌++◌, length, map, codes, is_some, Option, Some, None, Result, Ok, Err, Vec, if◌then◌else◌}
 use Rattle.std.specs.declared.alloc.Global.{Global}
 use Rattle.std.specs.Io.KnownBytes.{Keeps}
-use Rattle.dis_records.specs.Address.{Pair}
+use Rattle.dis_records.specs.declared.address.SiteApplication.{SiteApplication}
 use Rattle.siman_scripts.specs.declared.script_fault.ScriptFault.TheVariants as scripts
 use Rattle.siman_scripts.specs.Script.{ScriptData}
 use Rattle.siman_scripts.specs.Statement.{address_of}
@@ -46,7 +46,7 @@ bad_word asked = if is_some (address_of asked.address) then bad_endpoint (asked.
 abbrev pub IsAddressFault : List ℕ → Fault → Type 0
 IsAddressFault word fault = fault_text fault ≡ codes "station: address " ++ word
 
-abbrev pub FindsAddress : List ℕ → Result Pair Fault → Type 0
+abbrev pub FindsAddress : List ℕ → Result SiteApplication Fault → Type 0
 FindsAddress word (Ok address) = address_of word ≡ Some address
 FindsAddress word (Err fault) = (address_of word ≡ None) × IsAddressFault word fault
 
@@ -83,7 +83,7 @@ of_set_up set_ups.Memory = Memory
 
 -- WHY THE STATION OF A SCRIPT AT AN ADDRESS IS NOT SET UP: the first refused line of the script, no station there,
 -- or one that a world cannot have; or the script could not be read; or memory ran out, which may happen at any time
-abbrev pub SetsUpNone : Scripted → (address : Pair) → Fault → Type 0
+abbrev pub SetsUpNone : Scripted → (address : SiteApplication) → Fault → Type 0
 SetsUpNone scripted address (Script (scripts.BadLine line) why) = scripted ≡ Err (scripts.BadLine line)
 SetsUpNone scripted address (Script (scripts.UnknownStation line) why) = scripted ≡ Err (scripts.UnknownStation line)
 SetsUpNone scripted address (ScriptRead failed) = ⊤
@@ -92,21 +92,21 @@ SetsUpNone scripted address (World worlds.Stations there) = (s : ScriptData) × 
 SetsUpNone scripted address Memory = ⊤
 SetsUpNone scripted address other = ⊥
 
-abbrev pub SetsUpText : Scripted → (address : Pair) → Result SetUp Fault → Type 0
+abbrev pub SetsUpText : Scripted → (address : SiteApplication) → Result SetUp Fault → Type 0
 SetsUpText scripted address (Ok set_up) = (s : ScriptData) × (scripted ≡ Ok s) × SetsUp s address (Ok set_up)
 SetsUpText scripted address (Err fault) = SetsUpNone scripted address fault
 
 -- a station is set up from what was read of a text; or the reason why there is none
-abbrev pub SetsUpRead : TextRead → (address : Pair) → Result SetUp Fault → Type 0
+abbrev pub SetsUpRead : TextRead → (address : SiteApplication) → Result SetUp Fault → Type 0
 SetsUpRead t address set_up = SetsUpText t.scripted address set_up × GivesReason t set_up
 
 -- a station is set up from a file with these bytes, if they are known
-abbrev pub SetsUpFile : (known : Option (List ℕ)) → (address : Pair) → Result SetUp Fault → Type 0
+abbrev pub SetsUpFile : (known : Option (List ℕ)) → (address : SiteApplication) → Result SetUp Fault → Type 0
 SetsUpFile known address set_up = (text : List ℕ) × Has known text × SetsUpRead (text_read text) address set_up
 
 -- a station of some script was set up
 abbrev pub IsOfScript : SetUp → Type 0
-IsOfScript set_up = (exercise : ℕ) × (addresses : List Pair) × (s : WorldStationData) × IsSetUp exercise addresses s set_up
+IsOfScript set_up = (exercise : ℕ) × (addresses : List SiteApplication) × (s : WorldStationData) × IsSetUp exercise addresses s set_up
 
 -- The exercise.
 
@@ -135,7 +135,7 @@ CreatesPlayed strangers ready name input deeds played s = ⊥
 
 -- THE STATION IS ATTACHED TO ITS LINK as it was set up, among the stations of its script; it is not if memory runs
 -- out
-abbrev pub IsAttached : {L : Type 0} → (strangers : L → ℕ) → SetUp → (address : Pair) → (name : List ℕ) → (input : Option (List ℕ)) → List Deed → Played → Streams → Type 0
+abbrev pub IsAttached : {L : Type 0} → (strangers : L → ℕ) → SetUp → (address : SiteApplication) → (name : List ℕ) → (input : Option (List ℕ)) → List Deed → Played → Streams → Type 0
 IsAttached {L} strangers set_up address name input deeds played s =
     PlaysNone Memory deeds played s
     ⊎ ((ready : ReadyStation L) × (ready.head ≡ set_up.head) × IsBegun set_up.head.setting.exercise address set_up.node ready.post

@@ -1,6 +1,8 @@
 -- Warning of a script that has an order for a station that it lacks (profile).
 use Rattle.std.specs.Prelude.{◌≡◌, ℕ, ◌==◌, Bool, ◌||◌, List, is_some, slice_get, Option, Some, None, if◌then◌else◌}
 use Rattle.std.specs.List.{list_any}
+use Rattle.dis_records.specs.declared.address.SiteApplication.{SiteApplication}
+use Rattle.dis_records.specs.Entity.{site_application_of}
 use Rattle.siman_scripts.specs.declared.act.Act.{Act}
 use Rattle.siman_scripts.specs.declared.act.Act.TheVariants.{Command, Deliver, Tick, Tell}
 use Rattle.siman_scripts.specs.declared.act.Move.{Move}
@@ -13,15 +15,15 @@ use Rattle.siman_outside.specs.declared.notes.Warning.TheVariants.{NoSuchStation
 use Rattle.siman_exercise_commands.specs.declared.warned.TheConstants.{EVERY}
 
 -- one of these stations receives what is sent to this site and application
-abbrev pub is_got : List WorldStationData → (site application : ℕ) → Bool
-is_got stations site application = list_any (λ s. gets site application s.station.address) stations
+abbrev pub is_got : List WorldStationData → (to : SiteApplication) → Bool
+is_got stations to = list_any (λ s. gets to s.station.address) stations
 
 -- THE RECEIVER OF AN ORDER THAT NOBODY RECEIVES: its site and application, if none of these stations is there;
 -- something sent to every site is always received
-abbrev pub absent_receiver : List WorldStationData → Act → Option (ℕ × ℕ)
+abbrev pub absent_receiver : List WorldStationData → Act → Option SiteApplication
 absent_receiver stations (Command order) =
-    if (order.target.site == EVERY) || is_got stations order.target.site order.target.application then None
-    else Some (order.target.site, order.target.application)
+    if (order.target.site == EVERY) || is_got stations (site_application_of order.target) then None
+    else Some (site_application_of order.target)
 absent_receiver stations (Deliver k) = None
 absent_receiver stations Tick = None
 absent_receiver stations (Tell e) = None
@@ -35,8 +37,8 @@ pub record WarnsOf (text : List ℕ) (s : ScriptData) (warning : Warning) : Type
   pub number : ℕ
   pub move : Move
   pub there : slice_get s.moves number ≡ Some move
-  pub nobody : ℕ × ℕ
+  pub nobody : SiteApplication
   pub receiver : absent_receiver s.stations move.act ≡ Some nobody
   pub line : ℕ
   pub line_is : line_of_move text number ≡ Some line
-  pub warning_is : warning ≡ NoSuchStation line nobody.0 nobody.1
+  pub warning_is : warning ≡ NoSuchStation line nobody.site nobody.application

@@ -1,42 +1,37 @@
 //! Warning of a script that has an order for a station that it lacks.
 
 ghost use Rattle.std.specs.Prelude.{◌≡◌, IfSome};
-ghost use Rattle.siman_operator.specs.Receiver.{gets};
 ghost use Rattle.siman_exercise_commands.specs.Warned.{is_got, absent_receiver, is_lost, WarnsOf};
 
-use dis_records::Address;
+use dis_records::SiteApplication;
+use siman_operator::gets;
 use siman_outside::Warning;
 use siman_scripts::{Act, Move, Script, WorldStation, line_of_move};
 use std::alloc::Global;
 
-/// The site number that means every site, and the application number that means every application.
+/// The site number that means every site.
 const EVERY: u16 = 0xFFFF;
 
-/// Whether the station with this address receives what is sent to this site and application.
-fn gets(address: Address, site: u16, application: u16) -> bool
-    ensures { result ≡ gets site application address }
-{
-    address.site() == site && (application == EVERY || address.application() == application)
-}
-
 /// Whether one of these stations receives what is sent to this site and application.
-fn is_got(stations: &[WorldStation], site: u16, application: u16) -> bool
-    ensures { result ≡ is_got stations.now site application }
+fn is_got(stations: &[WorldStation], to: SiteApplication) -> bool
+    ensures { result ≡ is_got stations.now to }
 {
-    stations.iter().any(|station| gets(station.station.address(), site, application))
+    stations
+        .iter()
+        .any(|station| gets(station.station.address(), to))
 }
 
 /// Site and application of an order, if none of these stations receives it.
-fn absent_receiver(stations: &[WorldStation], act: &Act) -> Option<(u16, u16)>
+fn absent_receiver(stations: &[WorldStation], act: &Act) -> Option<SiteApplication>
     ensures { result ≡ absent_receiver stations.now act.now }
 {
     match act {
         Act::Command(order) => {
-            let (site, application) = (order.target.site, order.target.application);
-            if site == EVERY || is_got(stations, site, application) {
+            let to = order.target.site_application();
+            if to.site == EVERY || is_got(stations, to) {
                 return None;
             }
-            Some((site, application))
+            Some(to)
         }
         Act::Deliver(_) | Act::Tick | Act::Tell(_) => None,
     }
@@ -62,11 +57,11 @@ pub(crate) fn no_such_station(alloc: Global, text: &[u8], script: &Script) -> Op
     let Some(step) = script.moves.as_slice().get(number) else {
         return None;
     };
-    let (site, application) = absent_receiver(stations, &step.act)?;
+    let to = absent_receiver(stations, &step.act)?;
     let line = line_of_move(alloc, text, number).ok()??;
     Some(Warning::NoSuchStation {
         line,
-        site,
-        application,
+        site: to.site,
+        application: to.application,
     })
 }

@@ -5,7 +5,7 @@ use Rattle.std.specs.List.{AllByRecursion, list_any}
 use Rattle.std.proofs.lemmas.Bool.{and_parts, and_from, eq-eqb, eqb-true, or_cases, or_right}
 use Rattle.std.proofs.lemmas.Option.{same_Some}
 use Rattle.std.proofs.lemmas.Slice.Eq.{bytes_eq-Decides}
-use Rattle.dis_records.specs.Address.{Pair}
+use Rattle.dis_records.specs.declared.address.SiteApplication.{SiteApplication}
 use Rattle.siman_pdus.specs.declared.pdu.Pdu.{Pdu}
 use Rattle.siman_pdus.specs.Answers.{same_id, same_pair}
 use Rattle.siman_pdus.specs.Role.{request_id_of, is_request_body}
@@ -169,10 +169,10 @@ order_of w h books own within received s b p has e request =
       sender = at.sender;
       within = at.within;
       ordered = is;
-      from = subst (λ (d : Pair). is_from d p ≡ true) of.address is.from;
+      from = subst (λ (d : SiteApplication). is_from d p ≡ true) of.address is.from;
     }
 
-from_pair : (d : Pair) (p q : Pdu) → same_pair q.origin p.origin ≡ true → is_from d p ≡ true → is_from d q ≡ true
+from_pair : (d : SiteApplication) (p q : Pdu) → same_pair q.origin p.origin ≡ true → is_from d p ≡ true → is_from d q ≡ true
 from_pair d p q same from =
     let a = and_parts (q.origin.site == p.origin.site) (q.origin.application == p.origin.application) same in
     let c = and_parts (p.origin.site == d.site) (p.origin.application == d.application) from in

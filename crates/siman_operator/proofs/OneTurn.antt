@@ -26,7 +26,7 @@ use Rattle.siman_lines.specs.KeptAtLine.{IsWritten}
 use Rattle.siman_lines.specs.LineDatagrams.{Datagrams, GrowsAll, MayGrow}
 use Rattle.siman_lines.specs.Serving.{State, HasServed, LosesSend, BreaksTurn, ServeEnds, reply_at, entries_after, text_of, texts_after, short_of, is_short}
 use Rattle.siman_lines.proofs.Offered.{written_one, written_none, written_all, entries_stamped}
-use Rattle.siman_operator.specs.declared.logging.TracingLine.{TracingLine}
+use Rattle.siman_operator.specs.declared.tracing_line.TracingLine.{TracingLine}
 use Rattle.siman_operator.specs.Noted.{last_of}
 use Rattle.siman_operator.specs.Noting.{datagrams_sent, datagrams_received, telling}
 use Rattle.siman_operator.specs.Printing.{Printing, line_of, IsPrinted, PrintsLine, PrintsNothing, StopsPrinting}

@@ -20,7 +20,7 @@ use Rattle.siman_lines.specs.AtLines.{OrdersAt, RepeatsAt, TellsAt, LeavesRefuse
 use Rattle.siman_lines.specs.KeptAtLine.{IsWritten}
 use Rattle.siman_lines.specs.LineDatagrams.{Datagrams, MayGrow}
 use Rattle.siman_lines.proofs.Offered.{written_one, written_none}
-use Rattle.siman_operator.specs.declared.logging.TracingLine.{TracingLine}
+use Rattle.siman_operator.specs.declared.tracing_line.TracingLine.{TracingLine}
 use Rattle.siman_operator.specs.Noted.{last_of}
 use Rattle.siman_operator.specs.Noting.{datagrams_sent, telling}
 use Rattle.siman_operator.specs.Printing.{Printing, line_of, IsPrinted, PrintsLine, PrintsNothing, StopsPrinting}

@@ -1,5 +1,6 @@
 -- Result of a line of text in a session, and its report (profile).
 use Rattle.std.specs.Prelude.{ℕ, Bool, true, false, ◌||◌, List, [], ◌++◌, codes, decimal, Option, Some, None, Result, Ok, Err, if◌then◌else◌}
+use Rattle.dis_records.specs.declared.address.SiteApplication.{SiteApplication}
 use Rattle.siman_manager.specs.declared.fault.OrderFault.TheVariants as orders
 use Rattle.siman_stations.specs.declared.station_fault.StationFault.{StationFault}
 use Rattle.siman_stations.specs.declared.station_fault.StationFault.TheVariants as stations
@@ -104,9 +105,9 @@ failed_text number came = rejection_text number came ++ shortage_text (is_out_of
 abbrev pub warned_line : (number site application : ℕ) → List ℕ
 warned_line number site application = codes "warning: " ++ (at_line number ++ nobody_text site application)
 
-abbrev pub warning_text : (number : ℕ) → (nobody : Option (ℕ × ℕ)) → List ℕ
+abbrev pub warning_text : (number : ℕ) → (nobody : Option SiteApplication) → List ℕ
 warning_text number None = []
-warning_text number (Some (site, application)) = warned_line number site application
+warning_text number (Some nobody) = warned_line number nobody.site nobody.application
 
 -- THE REPORT OF A LINE, given its number: why it was not done, and that a call of the station's link failed, each
 -- with a second line that explains it; that memory ran out; that an entry was not recorded or not printed; and a

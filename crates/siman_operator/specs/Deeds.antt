@@ -12,7 +12,7 @@ use Rattle.siman_lines.specs.AtLines.{Telling, state_at}
 use Rattle.siman_lines.specs.KeptAtLine.{IsWritten, IsKept}
 use Rattle.siman_lines.specs.LineDatagrams.{Datagrams}
 use Rattle.siman_lines.specs.Serving.{ServeEnds}
-use Rattle.siman_operator.specs.declared.logging.TracingLine.{TracingLine}
+use Rattle.siman_operator.specs.declared.tracing_line.TracingLine.{TracingLine}
 use Rattle.siman_operator.specs.Noted.{last_of}
 use Rattle.siman_operator.specs.Noting.{datagrams_sent, datagrams_received}
 use Rattle.siman_operator.specs.Printing.{Printing, line_of, IsPrinted, PrintsLine, PrintsNothing, StopsPrinting}

@@ -3,7 +3,7 @@ use Rattle.std.specs.Prelude.{◌≡◌, ◌⊎◌, ℕ, List, [], ◌∷◌, �
 use Rattle.siman_lines.specs.declared.line.LineFault.{LineFault}
 use Rattle.siman_lines.specs.AtLines.{Telling}
 use Rattle.siman_lines.specs.LineDatagrams.{Datagrams, Same, Grows, MayGrow}
-use Rattle.siman_operator.specs.declared.logging.TracingLine.{TracingLine}
+use Rattle.siman_operator.specs.declared.tracing_line.TracingLine.{TracingLine}
 use Rattle.siman_operator.specs.Noted.{datagrams_of}
 
 -- EACH DATAGRAM PASSED TO ITS SENDS, the oldest first, and each that its receives returned

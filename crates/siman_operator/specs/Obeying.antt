@@ -1,6 +1,6 @@
 -- The effect of a line of text at a post (profile).
 use Rattle.std.specs.Prelude.{◌≡◌, ◌≢◌, ◌⊎◌, ℕ, Option, Some, None, Result, Ok, Err}
-use Rattle.dis_records.specs.Address.{Pair}
+use Rattle.dis_records.specs.declared.address.SiteApplication.{SiteApplication}
 use Rattle.exercise_recording.specs.Writer.{WriterState}
 use Rattle.siman_lines.specs.declared.fault.AtLineFault.{AtLineFault}
 use Rattle.siman_lines.specs.declared.fault.AtLineFault.TheVariants as below
@@ -36,7 +36,7 @@ abbrev pub Rests : {L : Type 0} → (p : StationAtLine L) → (w : WriterState) 
 Rests p w q v = (q ≡ p) × (v ≡ w)
 
 -- the station does a task, if the line names its address; another address is unknown
-abbrev pub DoesAsked : {L : Type 0} → Telling L → (own : Pair) → (now : ℕ) → (named : Pair) → StationTask → (p : StationAtLine L) → (w : WriterState)
+abbrev pub DoesAsked : {L : Type 0} → Telling L → (own : SiteApplication) → (now : ℕ) → (named : SiteApplication) → StationTask → (p : StationAtLine L) → (w : WriterState)
     → (q : StationAtLine L) → (v : WriterState) → Result (Unit {0}) Rejection → Type 0
 DoesAsked told own now named task p w q v result =
     ((named ≢ own) × (result ≡ Err undone.UnknownStation) × Rests p w q v)
@@ -44,14 +44,14 @@ DoesAsked told own now named task p w q v result =
 
 -- THE EFFECT OF A LINE with this command at a post, given the time of its clock before and after; memory may run
 -- out before anything is done
-abbrev pub ObeysIt : {L : Type 0} → Telling L → (own : Pair) → Option Command → (now later : ℕ) → (p : StationAtLine L) → (w : WriterState)
+abbrev pub ObeysIt : {L : Type 0} → Telling L → (own : SiteApplication) → Option Command → (now later : ℕ) → (p : StationAtLine L) → (w : WriterState)
     → (q : StationAtLine L) → (v : WriterState) → Result (Unit {0}) Rejection → Type 0
 ObeysIt told own None now later p w q v result = (result ≡ Err undone.BadLine) × (later ≡ now) × Rests p w q v
 ObeysIt told own (Some commands.Nothing) now later p w q v result = (result ≡ Ok tt) × (later ≡ now) × Rests p w q v
 ObeysIt told own (Some (commands.At n)) now later p w q v result = (result ≡ Ok tt) × (later ≡ n) × Rests p w q v
 ObeysIt told own (Some (commands.Asks named task)) now later p w q v result = (later ≡ now) × DoesAsked told own now named task p w q v result
 
-abbrev pub Obeys : {L : Type 0} → Telling L → (own : Pair) → Option Command → (now later : ℕ) → (p : StationAtLine L) → (w : WriterState)
+abbrev pub Obeys : {L : Type 0} → Telling L → (own : SiteApplication) → Option Command → (now later : ℕ) → (p : StationAtLine L) → (w : WriterState)
     → (q : StationAtLine L) → (v : WriterState) → Result (Unit {0}) Rejection → Type 0
 Obeys told own said now later p w q v result =
     ObeysIt told own said now later p w q v result ⊎ ((result ≡ Err undone.Memory) × (later ≡ now) × Rests p w q v)

@@ -1,13 +1,13 @@
 -- A POST takes lines of text (profile).
 use Rattle.std.specs.Bool.{MatchBool}
 use Rattle.std.specs.Prelude.{◌≡◌, ℕ, Bool, true, false, ◌||◌, List, [], Option, None, Result, Ok, Err, if◌then◌else◌}
-use Rattle.dis_records.specs.Address.{Pair}
+use Rattle.dis_records.specs.declared.address.SiteApplication.{SiteApplication}
 use Rattle.exercise_recording.specs.Writer.{WriterState}
 use Rattle.siman_stations.specs.declared.turn.Node.{Node}
 use Rattle.siman_lines.specs.declared.station_at_line.StationAtLine.{StationAtLine}
 use Rattle.siman_lines.specs.AtLines.{Telling}
 use Rattle.siman_scripts.specs.declared.command.Command.{Command}
-use Rattle.siman_operator.specs.declared.logging.TracingLine.{TracingLine}
+use Rattle.siman_operator.specs.declared.tracing_line.TracingLine.{TracingLine}
 use Rattle.siman_operator.specs.declared.obeying.Rejection.{Rejection}
 use Rattle.siman_operator.specs.declared.obeying.Rejection.TheVariants as undone
 use Rattle.siman_operator.specs.declared.post.LineResult.{LineResult}
@@ -19,7 +19,7 @@ use Rattle.siman_operator.specs.Turns.{TakesTurns}
 
 -- A POST IN ITS INITIAL STATE: station 0 with this node, whose link was passed nothing and returned nothing, and
 -- whose clock shows 0; printing has not failed
-pub record IsBegun {L : Type 0} (exercise : ℕ) (address : Pair) (node : Node) (post : Post L) : Type 0 where
+pub record IsBegun {L : Type 0} (exercise : ℕ) (address : SiteApplication) (node : Node) (post : Post L) : Type 0 where
   pub index : post.station.index ≡ 0
   pub node_is : post.station.node ≡ node
   pub sent : datagrams_sent post.station.line ≡ []

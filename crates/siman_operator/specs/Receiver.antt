@@ -1,7 +1,8 @@
 -- Receiver of an order for which its script may have no station (profile).
 use Rattle.std.specs.Prelude.{◌≡◌, ◌⊎◌, ℕ, ◌==◌, Bool, ◌||◌, ◌&&◌, List, ◌++◌, codes, decimal, Option, Some, None, Result, Ok, Err, if◌then◌else◌}
 use Rattle.std.specs.List.{list_any}
-use Rattle.dis_records.specs.Address.{Pair}
+use Rattle.dis_records.specs.declared.address.SiteApplication.{SiteApplication}
+use Rattle.dis_records.specs.Entity.{site_application_of}
 use Rattle.siman_print.specs.Records.{line_end}
 use Rattle.siman_scripts.specs.declared.command.Command.{Command}
 use Rattle.siman_scripts.specs.declared.command.Command.TheVariants as commands
@@ -11,25 +12,25 @@ use Rattle.siman_operator.specs.declared.receiver.TheConstants.{EVERY}
 
 -- a station receives what is sent to this site and application: it has that address, or the application means all
 -- of its site
-abbrev pub gets : (site application : ℕ) → Pair → Bool
-gets site application a = (a.site == site) && ((application == EVERY) || (a.application == application))
+abbrev pub gets : (to : SiteApplication) → (station : SiteApplication) → Bool
+gets to station = (station.site == to.site) && ((to.application == EVERY) || (station.application == to.application))
 
 -- one of these stations receives it
-abbrev pub is_got : List Pair → (site application : ℕ) → Bool
-is_got stations site application = list_any (gets site application) stations
+abbrev pub is_got : List SiteApplication → (to : SiteApplication) → Bool
+is_got stations to = list_any (gets to) stations
 
 -- the site and application, if none of these stations receives it; something sent to every site is always received
-abbrev pub missing : List Pair → (site application : ℕ) → Option (ℕ × ℕ)
-missing stations site application = if (site == EVERY) || is_got stations site application then None else Some (site, application)
+abbrev pub missing : List SiteApplication → (to : SiteApplication) → Option SiteApplication
+missing stations to = if (to.site == EVERY) || is_got stations to then None else Some to
 
 -- THE RECEIVER OF AN ORDER THAT NOBODY RECEIVES: its site and application
-abbrev pub absent_receiver : List Pair → Option Command → Option (ℕ × ℕ)
-absent_receiver stations (Some (commands.Asks a (tasks.Order order))) = missing stations order.target.site order.target.application
+abbrev pub absent_receiver : List SiteApplication → Option Command → Option SiteApplication
+absent_receiver stations (Some (commands.Asks a (tasks.Order order))) = missing stations (site_application_of order.target)
 absent_receiver stations other = None
 
 -- THE RECEIVER THAT A WARNING NAMES, of a line that was done; none, if memory ran out; always none of a line that
 -- was not done
-abbrev pub WarnsOf : List Pair → Option Command → Result (Unit {0}) Rejection → Option (ℕ × ℕ) → Type 0
+abbrev pub WarnsOf : List SiteApplication → Option Command → Result (Unit {0}) Rejection → Option SiteApplication → Type 0
 WarnsOf stations said (Ok x) nobody = (nobody ≡ absent_receiver stations said) ⊎ (nobody ≡ None)
 WarnsOf stations said (Err why) nobody = nobody ≡ None
 

@@ -2,7 +2,7 @@
 use Rattle.std.specs.Prelude.{◌≡◌, ◌≤◌, ◌⊎◌, ℕ, List, ◌++◌, length, Option, Some, None, Ok, Err}
 use Rattle.std.specs.Io.KnownBytes.{Appends}
 use Rattle.byte_files.specs.Writing.{WritesPart}
-use Rattle.dis_records.specs.Address.{Pair}
+use Rattle.dis_records.specs.declared.address.SiteApplication.{SiteApplication}
 use Rattle.exercise_model.specs.declared.form.Form.TheVariants.{Open}
 use Rattle.exercise_model.specs.Entry.{Entry}
 use Rattle.exercise_model.specs.History.{past, log_at}
@@ -36,7 +36,7 @@ pub record IsReady {L : Type 0} (ready : ReadyStation L) : Type 0 where
   pub fresh : IsFresh 0 ready.post.station.node (open_setting ready.head) (Some (datagrams_sent ready.post.station.line))
 
 -- a post is played with a recorder; its file has what the recorder wrote
-abbrev pub RecordsBegun : {L : Type 0} → (stations : List Pair) → (strangers : L → ℕ) → (known : Option (List ℕ)) → Post L → WriterState → (out out_after errors errors_after : Option (List ℕ))
+abbrev pub RecordsBegun : {L : Type 0} → (stations : List SiteApplication) → (strangers : L → ℕ) → (known : Option (List ℕ)) → Post L → WriterState → (out out_after errors errors_after : Option (List ℕ))
     → (file : Option (List ℕ)) → SessionReport → Type 0
 RecordsBegun {L} stations strangers known post w out out_after errors errors_after file told =
     (after : PrintedPost L) × (after.out ≡ out_after) × (file ≡ after.recorder.contents)

@@ -2,10 +2,10 @@
 use Rattle.std.specs.Prelude.{◌≡◌, ℕ, ◌+◌, max, true, false, List, [], ◌∷◌, ◌++◌, map, Option, Some, None}
 use Rattle.std.specs.List.{AllByRecursion}
 use Rattle.byte_files.specs.Writing.{Writes}
-use Rattle.dis_records.specs.Address.{Pair}
+use Rattle.dis_records.specs.declared.address.SiteApplication.{SiteApplication}
 use Rattle.exercise_recording.specs.Writer.{WriterState}
 use Rattle.siman_lines.specs.AtLines.{Telling}
-use Rattle.siman_operator.specs.declared.logging.TracingLine.{TracingLine}
+use Rattle.siman_operator.specs.declared.tracing_line.TracingLine.{TracingLine}
 use Rattle.siman_operator.specs.declared.post.Post.{Post}
 use Rattle.siman_operator.specs.declared.printing.PrintFault.{PrintFault}
 use Rattle.siman_operator.specs.Deeds.{PostState, GoesOn}
@@ -44,7 +44,7 @@ pub record Taken : Type 0 where
 
 -- A LINE IS TAKEN as the command that it says; a bad line has its reason in the result, and an order that no
 -- station of the script receives has its receiver there
-pub record TakesOne {L : Type 0} (stations : List Pair) (told : Telling (TracingLine L)) (t : Taken) (old new : RecordedPost L) : Type 0 where
+pub record TakesOne {L : Type 0} (stations : List SiteApplication) (told : Telling (TracingLine L)) (t : Taken) (old new : RecordedPost L) : Type 0 where
   pub takes : TakesLine told (said_by t.line) old.post old.recorder new.post new.recorder t.came.line
   pub print_stop : t.came.print_stop ≡ print_stop_at old.post.printer.fault new.post.printer.fault
   pub site : t.came.site ≡ old.post.address.site
@@ -53,7 +53,7 @@ pub record TakesOne {L : Type 0} (stations : List Pair) (told : Telling (Tracing
   pub nobody : WarnsOf stations (said_by t.line) t.came.line.done t.came.nobody
 
 -- LINES ARE TAKEN, one after the other
-abbrev pub TakesAll : {L : Type 0} → (stations : List Pair) → Telling (TracingLine L) → List Taken → (old new : RecordedPost L) → Type 0
+abbrev pub TakesAll : {L : Type 0} → (stations : List SiteApplication) → Telling (TracingLine L) → List Taken → (old new : RecordedPost L) → Type 0
 TakesAll stations told [] old new = new ≡ old
 TakesAll {L} stations told (t ∷ ts) old new = (mid : RecordedPost L) × TakesOne stations told t old mid × TakesAll stations told ts mid new
 
@@ -88,7 +88,7 @@ Stops known stops.Unread ts = MayGoOn ts × AreFirstLines known (lines_in ts)
 Stops known stops.Unrecorded ts = IsOver ts × AreFirstLines known (lines_in ts)
 
 -- THE LINES OF A TEXT ARE PLAYED: taken up to the stop, and reported, with their worst status
-pub record PlaysLines {L : Type 0} (stations : List Pair) (told : Telling (TracingLine L)) (known : Option (List ℕ)) (old new : RecordedPost L)
+pub record PlaysLines {L : Type 0} (stations : List SiteApplication) (told : Telling (TracingLine L)) (known : Option (List ℕ)) (old new : RecordedPost L)
     (errors errors_after : Option (List ℕ)) (played : Played) : Type 0 where
   pub taken : List Taken
   pub takes : TakesAll stations told taken old new
@@ -138,7 +138,7 @@ EndsSession strangers post stops.Unrecorded w v out out_after before after error
     (v ≡ w) × (out_after ≡ out) × (after ≡ before) × (errors_after ≡ errors)
 
 -- A POST IS PLAYED by the lines of a text, to the end, with these stations in its script
-pub record Plays {L : Type 0} (stations : List Pair) (strangers : L → ℕ) (known : Option (List ℕ)) (old new : PrintedPost L) (errors errors_after : Option (List ℕ)) (told : SessionReport) : Type 0 where
+pub record Plays {L : Type 0} (stations : List SiteApplication) (strangers : L → ℕ) (known : Option (List ℕ)) (old new : PrintedPost L) (errors errors_after : Option (List ℕ)) (told : SessionReport) : Type 0 where
   -- the post after the lines is the post at the end; intermediate values are its recorder, the output and the
   -- reports
   pub recorder : WriterState

@@ -11,6 +11,7 @@ use crate::reason::BadReason;
 use crate::receiver::put_nobody;
 use crate::{LineResult, PrintFault, Rejection};
 use byte_files::{WriteFailed, put, put_both};
+use dis_records::SiteApplication;
 use itoa::Buffer;
 use siman_lines::LineTrouble;
 use siman_manager::OrderFault;
@@ -35,7 +36,7 @@ pub struct Came {
     pub trouble: Option<LineTrouble>,
     /// Site and application of the line's order, if the line was done and no station of the script
     /// receives it. `None` also if memory ran out.
-    pub nobody: Option<(u16, u16)>,
+    pub nobody: Option<SiteApplication>,
 }
 
 impl Came {
@@ -255,12 +256,12 @@ fn put_warning<E: Write>(
 fn put_any_warning<E: Write>(
     errors: &mut E,
     number: u64,
-    nobody: Option<(u16, u16)>,
+    nobody: Option<SiteApplication>,
 ) -> Result<(), WriteFailed>
     ensures { Writes result (E.contents errors.old) (E.contents errors.new) (warning_text number nobody) }
 {
     match nobody {
-        Some((site, application)) => put_warning(errors, number, site, application),
+        Some(nobody) => put_warning(errors, number, nobody.site, nobody.application),
         None => Ok(()),
     }
 }

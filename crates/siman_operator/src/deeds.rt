@@ -8,8 +8,8 @@ ghost use Rattle.siman_operator.specs.Noting.{telling, datagrams_sent};
 ghost use Rattle.siman_operator.specs.Printing.{Printing};
 ghost use Rattle.siman_operator.specs.Deeds.{PostState, PrintsSent, PrintsTurn, ServesOnce, GoesOn};
 
-use crate::logging::TracingLine;
 use crate::printing::EntryPrinter;
+use crate::tracing_line::TracingLine;
 use exercise_model::EntryView;
 use exercise_recording::RecordingWriter;
 use siman_lines::{

@@ -7,8 +7,8 @@ ghost use Rattle.siman_operator.specs.Deeds.{PostState, GoesOn};
 ghost use Rattle.siman_operator.specs.Obeying.{rejection_of, reported_as, DoesTask, DoesAsked, Obeys};
 
 use crate::deeds::{order_at_post, repeat_at_post, tell_at_post};
-use crate::logging::TracingLine;
 use crate::printing::EntryPrinter;
+use crate::tracing_line::TracingLine;
 use dis_records::Address;
 use exercise_recording::RecordingWriter;
 use siman_lines::{AtLineFault, Line, StationAtLine};

@@ -7,9 +7,9 @@ ghost use Rattle.siman_operator.specs.Noting.{telling, datagrams_sent};
 ghost use Rattle.siman_operator.specs.Deeds.{PostState, GoesOn};
 ghost use Rattle.siman_operator.specs.Posts.{IsBegun, is_unrecorded, is_over, worst, TakesLine};
 
-use crate::logging::TracingLine;
 use crate::obeying::{Rejection, obey};
 use crate::printing::{EntryPrinter, PrintFault};
+use crate::tracing_line::TracingLine;
 use crate::turns::{Trouble, take_turns};
 use dis_records::Address;
 use exercise_recording::RecordingWriter;

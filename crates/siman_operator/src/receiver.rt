@@ -10,7 +10,7 @@ use crate::Rejection;
 use crate::explanation::put_behind;
 use crate::reading::line_or_placeholder;
 use byte_files::{WriteFailed, put};
-use dis_records::Address;
+use dis_records::{Address, SiteApplication};
 use siman_scripts::{Command, StationTask, read_command};
 use std::alloc::Global;
 use std::io::Write;
@@ -19,33 +19,32 @@ use std::io::Write;
 const EVERY: u16 = 0xFFFF;
 
 /// Whether the station with this address receives what is sent to this site and application.
-fn gets(address: Address, site: u16, application: u16) -> bool
-    ensures { result ≡ gets site application address }
+pub fn gets(station: Address, to: SiteApplication) -> bool
+    ensures { result ≡ gets to station }
 {
-    address.site() == site && (application == EVERY || address.application() == application)
+    station.site() == to.site
+        && (to.application == EVERY || station.application() == to.application)
 }
 
 /// Whether one of these stations receives what is sent to this site and application.
-fn is_got(stations: &[Address], site: u16, application: u16) -> bool
-    ensures { result ≡ is_got stations.now site application }
+fn is_got(stations: &[Address], to: SiteApplication) -> bool
+    ensures { result ≡ is_got stations.now to }
 {
-    stations
-        .iter()
-        .any(|address| gets(*address, site, application))
+    stations.iter().any(|station| gets(*station, to))
 }
 
 /// Site and application of an order, if none of these stations receives it.
-fn missing(stations: &[Address], site: u16, application: u16) -> Option<(u16, u16)>
-    ensures { result ≡ missing stations.now site application }
+fn missing(stations: &[Address], to: SiteApplication) -> Option<SiteApplication>
+    ensures { result ≡ missing stations.now to }
 {
-    if site == EVERY || is_got(stations, site, application) {
+    if to.site == EVERY || is_got(stations, to) {
         return None;
     }
-    Some((site, application))
+    Some(to)
 }
 
 /// Receiver of a line's order, if none of these stations receives it.
-fn absent_receiver(stations: &[Address], said: &Option<Command>) -> Option<(u16, u16)>
+fn absent_receiver(stations: &[Address], said: &Option<Command>) -> Option<SiteApplication>
     ensures { result ≡ absent_receiver stations.now said.now }
 {
     match said {
@@ -54,7 +53,7 @@ fn absent_receiver(stations: &[Address], said: &Option<Command>) -> Option<(u16,
                 task: StationTask::Order(order),
                 ..
             },
-        ) => missing(stations, order.target.site, order.target.application),
+        ) => missing(stations, order.target.site_application()),
         _ => None,
     }
 }
@@ -66,7 +65,7 @@ pub(crate) fn warned_receiver(
     stations: &[Address],
     held: &[u8],
     done: Result<(), Rejection>,
-) -> Option<(u16, u16)>
+) -> Option<SiteApplication>
     ensures { WarnsOf stations.now (said_by held.now) done result }
 {
     if done.is_err() {

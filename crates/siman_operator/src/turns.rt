@@ -6,8 +6,8 @@ ghost use Rattle.siman_operator.specs.Deeds.{PostState, GoesOn};
 ghost use Rattle.siman_operator.specs.Turns.{is_followed, is_lost, is_out_of_memory, is_unrecorded, TakesTurns};
 
 use crate::deeds::serve_at_post;
-use crate::logging::TracingLine;
 use crate::printing::EntryPrinter;
+use crate::tracing_line::TracingLine;
 use exercise_recording::RecordingWriter;
 use siman_lines::{Line, ServeFault, Served, StationAtLine};
 use std::alloc::Global;

@@ -3,7 +3,7 @@ use Rattle.std.specs.Prelude.{ℕ, Bool, true, false, ◌&&◌, ◌==◌, Option
 use Rattle.dis_records.specs.declared.entity.EntityId.{EntityId}
 use Rattle.dis_records.specs.declared.kind.Kind.{Kind}
 use Rattle.dis_records.specs.declared.kind.Kind.TheVariants as kinds
-use Rattle.dis_records.specs.Entity.{pair_of, is_addressed, are_fitting}
+use Rattle.dis_records.specs.Entity.{site_application_of, is_addressed, are_fitting}
 use Rattle.siman_pdus.specs.declared.pdu.Body.{Body}
 use Rattle.siman_pdus.specs.declared.pdu.Body.TheVariants.{Acknowledge, ActionResponse, DataPdu}
 use Rattle.siman_pdus.specs.declared.pdu.Pdu.{Pdu}
@@ -54,5 +54,5 @@ is_answer_to p q =
     matches_kind p.body (body_kind q.body)
     && (same_id (request_id_of p.body) (request_id_of q.body)
     && (same_pair p.target q.origin
-    && (is_addressed q.target (pair_of p.origin)
+    && (is_addressed q.target (site_application_of p.origin)
     && are_fitting (body_kind q.body) q.target.entity p.origin.entity)))

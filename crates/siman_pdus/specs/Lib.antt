@@ -10,3 +10,4 @@ pub mod Role
 pub mod Answers
 pub mod Message
 pub mod Texts
+pub mod FieldNames

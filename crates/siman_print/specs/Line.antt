@@ -1,6 +1,6 @@
 -- A row: one printed line as a value, with a name and fields in order, each with a key and a value.
 use Rattle.std.specs.Prelude.{ℕ, Bool, List, Option, Some, None}
-use Rattle.dis_records.specs.Address.{Pair}
+use Rattle.dis_records.specs.declared.address.SiteApplication.{SiteApplication}
 
 -- the value of a field
 pub data Value : Type 0 where
@@ -17,7 +17,7 @@ pub data Value : Type 0 where
   -- printable ASCII up to the end of the line
   Phrase : List ℕ → Value
   -- addresses, in order
-  Ring : List Pair → Value
+  Ring : List SiteApplication → Value
   -- no value
   Missing : Value
 

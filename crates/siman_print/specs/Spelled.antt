@@ -1,7 +1,7 @@
 -- The two spellings of a row: text, and JSON with one object a line.
 use Rattle.std.specs.Prelude.{ℕ, Bool, true, false, List, [], ◌∷◌, ◌++◌, codes, decimal, nat_eq, chars, encode_utf8, Option, Some, None, if◌then◌else◌}
 use Rattle.std.specs.List.{flat_map}
-use Rattle.dis_records.specs.Address.{Pair}
+use Rattle.dis_records.specs.declared.address.SiteApplication.{SiteApplication}
 use Rattle.siman_print.specs.declared.spelling.Spelling.{Spelling}
 use Rattle.siman_print.specs.declared.spelling.Spelling.TheVariants.{Text, Json}
 use Rattle.siman_print.specs.Line.{Value, Number, Clock, Word, Named, Truth, Phrase, Ring, Missing, Field, Bare, Keyed, Spelt, Called, Line}
@@ -9,7 +9,7 @@ use Rattle.siman_print.specs.Line.{Value, Number, Clock, Word, Named, Truth, Phr
 -- ---- text
 
 -- SITE:APPLICATION
-abbrev pub address_text : Pair → List ℕ
+abbrev pub address_text : SiteApplication → List ℕ
 address_text address = decimal address.site ++ codes ":" ++ decimal address.application
 
 -- the name of a number, in brackets
@@ -22,11 +22,11 @@ truth_text true = codes "yes"
 truth_text false = codes "no"
 
 -- an address after a blank
-abbrev pub further_text : Pair → List ℕ
+abbrev pub further_text : SiteApplication → List ℕ
 further_text address = codes " " ++ address_text address
 
 -- addresses with blanks between them
-abbrev pub ring_text : List Pair → List ℕ
+abbrev pub ring_text : List SiteApplication → List ℕ
 ring_text [] = []
 ring_text (address ∷ addresses) = address_text address ++ flat_map further_text addresses
 
@@ -73,11 +73,11 @@ truth_json true = codes "true"
 truth_json false = codes "false"
 
 -- an address after a comma
-abbrev pub further_json : Pair → List ℕ
+abbrev pub further_json : SiteApplication → List ℕ
 further_json address = codes "," ++ quoted (address_text address)
 
 -- a list of addresses
-abbrev pub ring_json : List Pair → List ℕ
+abbrev pub ring_json : List SiteApplication → List ℕ
 ring_json [] = codes "[]"
 ring_json (address ∷ addresses) = codes "[" ++ quoted (address_text address) ++ flat_map further_json addresses ++ codes "]"
 

@@ -5,7 +5,7 @@ use Rattle.std.specs.Option.{option_or, option_and_then, is_some, is_none}
 use Rattle.std.specs.Str.{bytes_eq}
 use Rattle.std.proofs.lemmas.Slice.Eq.{bytes_eq-Decides}
 use Rattle.std.proofs.lemmas.Bool.Decides.{nat_tests}
-use Rattle.dis_records.specs.Address.{Pair}
+use Rattle.dis_records.specs.declared.address.SiteApplication.{SiteApplication}
 use Rattle.dis_records.specs.declared.datum.FixedDatum.{FixedDatum}
 use Rattle.dis_records.specs.declared.entity_state.EntityState.{EntityState}
 use Rattle.siman_pdus.specs.declared.pdu.Body.{Body}
@@ -75,10 +75,10 @@ abbrev query_with : List ℕ → Body
 query_with ids = bodies.DataQuery 0 0 (record { fixed = ids; variable = [] })
 
 -- an opening, by its number and its state
-abbrev opened : Pair → Option ℕ → Option EntityState → Option Statement
+abbrev opened : SiteApplication → Option ℕ → Option EntityState → Option Statement
 opened a n y = option_and_then (λ e. option_and_then (λ st. cond (is_entity e) (Some (says.Opening a e st)) None) y) n
 
-entity_and_state_at : (a : Pair) (e : ℕ) (fits : Bool) (y : Option EntityState) (r q : ℕ × LineWhy)
+entity_and_state_at : (a : SiteApplication) (e : ℕ) (fits : Bool) (y : Option EntityState) (r q : ℕ × LineWhy)
     → is_none (option_or (unless (is_some (cond fits (Some e) None)) r) (option_or (unless (is_some y) q) None))
     ≡ is_some (option_and_then (λ st. cond fits (Some (says.Opening a e st)) None) y)
 entity_and_state_at a e true None r q = refl
@@ -86,7 +86,7 @@ entity_and_state_at a e true (Some st) r q = refl
 entity_and_state_at a e false None r q = refl
 entity_and_state_at a e false (Some st) r q = refl
 
-entity_and_state : (a : Pair) (n : Option ℕ) (y : Option EntityState) (r q : ℕ × LineWhy)
+entity_and_state : (a : SiteApplication) (n : Option ℕ) (y : Option EntityState) (r q : ℕ × LineWhy)
     → is_none (option_or (unless (is_some (option_and_then (λ e. cond (is_entity e) (Some e) None) n)) r) (option_or (unless (is_some y) q) None)) ≡ is_some (opened a n y)
 entity_and_state a None y r q = refl
 entity_and_state a (Some e) y r q = entity_and_state_at a e (is_entity e) y r q
@@ -95,12 +95,12 @@ abbrev largest_wait : List ℕ → Option ℕ
 largest_wait long = number_to 18446744073709551615 long
 
 -- rules, by their three words
-abbrev ruled : Pair → Option ℕ → Option ℕ → Option (List ℕ) → Option Statement
+abbrev ruled : SiteApplication → Option ℕ → Option ℕ → Option (List ℕ) → Option Statement
 ruled a first tries long =
     option_and_then (λ r. Some (says.Station a r))
     (option_and_then (λ f. option_and_then (λ t. option_and_then (λ l. option_and_then (λ w. cond (nat_le 1 t) (Some (record { first_id = f; tries = t; wait = w })) None) (largest_wait l)) long) tries) first)
 
-rules_at : (a : Pair) (f t : ℕ) (fits : Bool) (wait : Option ℕ) (q p : ℕ × LineWhy)
+rules_at : (a : SiteApplication) (f t : ℕ) (fits : Bool) (wait : Option ℕ) (q p : ℕ × LineWhy)
     → is_none (option_or (unless (is_some (cond fits (Some t) None)) q) (option_or (unless (is_some wait) p) None))
     ≡ is_some (option_and_then {T = ManagerRules} {U = Statement} (λ r. Some (says.Station a r)) (option_and_then (λ w. cond fits (Some (record { first_id = f; tries = t; wait = w })) None) wait))
 rules_at a f t true None q p = refl
@@ -108,14 +108,14 @@ rules_at a f t true (Some w) q p = refl
 rules_at a f t false None q p = refl
 rules_at a f t false (Some w) q p = refl
 
-rules_long : (a : Pair) (f t : ℕ) (fits : Bool) (long : Option (List ℕ)) (q p : ℕ × LineWhy)
+rules_long : (a : SiteApplication) (f t : ℕ) (fits : Bool) (long : Option (List ℕ)) (q p : ℕ × LineWhy)
     → is_none (option_or (unless (is_some (cond fits (Some t) None)) q) (option_or (unless (is_some (option_and_then largest_wait long)) p) None))
     ≡ is_some (option_and_then {T = ManagerRules} {U = Statement} (λ r. Some (says.Station a r)) (option_and_then (λ l. option_and_then (λ w. cond fits (Some (record { first_id = f; tries = t; wait = w })) None) (largest_wait l)) long))
 rules_long a f t true None q p = refl
 rules_long a f t false None q p = refl
 rules_long a f t fits (Some l) q p = rules_at a f t fits (largest_wait l) q p
 
-rules : (a : Pair) (first tries : Option ℕ) (long : Option (List ℕ)) (r q p : ℕ × LineWhy)
+rules : (a : SiteApplication) (first tries : Option ℕ) (long : Option (List ℕ)) (r q p : ℕ × LineWhy)
     → is_none (option_or (unless (is_some first) r) (option_or (unless (is_some (option_and_then (λ t. cond (nat_le 1 t) (Some t) None) tries)) q) (option_or (unless (is_some (option_and_then largest_wait long)) p) None)))
     ≡ is_some (ruled a first tries long)
 rules a None tries long r q p = refl

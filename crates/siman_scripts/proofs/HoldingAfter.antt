@@ -3,7 +3,7 @@ use Rattle.std.proofs.Common.{◌≡◌, ℕ, Bool, true, false, cond, nat_lt, l
 use Rattle.std.specs.List.{slice_get}
 use Rattle.std.specs.Option.{IfSome, is_some}
 use Rattle.std.proofs.lemmas.Bool.Decides.{nat_tests}
-use Rattle.dis_records.specs.Address.{Pair}
+use Rattle.dis_records.specs.declared.address.SiteApplication.{SiteApplication}
 use Rattle.dis_records.specs.declared.entity_state.EntityState.{EntityState}
 use Rattle.exercise_model.specs.Station.{is_below}
 use Rattle.siman_scripts.specs.declared.part.ScriptPart.{ScriptPart}
@@ -35,31 +35,31 @@ exercise_so : (d : DraftData) (s : Statement) (wants : Bool) → wants_exercise 
 exercise_so d s true e = tt
 exercise_so d s false e = e
 
-below_so : (d : DraftData) (s : Statement) (before a : Pair) (below : Bool) → is_below before a ≡ below → last_address d.stations ≡ Some before → station_named s ≡ Some a
+below_so : (d : DraftData) (s : Statement) (before a : SiteApplication) (below : Bool) → is_below before a ≡ below → last_address d.stations ≡ Some before → station_named s ≡ Some a
     → So d s (cond below None (Some (1, whys.StationNotAbove before.site before.application)))
 below_so d s before a true e l n = tt
 below_so d s before a false e l n = (before, a, l, n, refl, refl, e)
 
-rising_so : (d : DraftData) (s : Statement) (a : Pair) (o : Option Pair) → last_address d.stations ≡ o → station_named s ≡ Some a → So d s (rising_reason o a)
+rising_so : (d : DraftData) (s : Statement) (a : SiteApplication) (o : Option SiteApplication) → last_address d.stations ≡ o → station_named s ≡ Some a → So d s (rising_reason o a)
 rising_so d s a None l n = tt
 rising_so d s a (Some before) l n = below_so d s before a (is_below before a) refl l n
 
-station_so : (d : DraftData) (s : Statement) (a : Pair) (room : Bool) → nat_lt (length d.stations) 256 ≡ room → station_named s ≡ Some a
+station_so : (d : DraftData) (s : Statement) (a : SiteApplication) (room : Bool) → nat_lt (length d.stations) 256 ≡ room → station_named s ≡ Some a
     → So d s (cond room (rising_reason (last_address d.stations) a) (Some (0, whys.TooManyStations)))
 station_so d s a true e n = rising_so d s a (last_address d.stations) refl n
 station_so d s a false e n = grind (arith, nat_tests)
 
-known_so : (d : DraftData) (s : Statement) (a : Pair) (place : ℕ) (next : ℕ → Refused) (o : Option ℕ) → index_of a d.stations ≡ o → station_named s ≡ Some a
+known_so : (d : DraftData) (s : Statement) (a : SiteApplication) (place : ℕ) (next : ℕ → Refused) (o : Option ℕ) → index_of a d.stations ≡ o → station_named s ≡ Some a
     → ((i : ℕ) → index_of a d.stations ≡ Some i → So d s (next i)) → So d s (known_reason place a next o)
 known_so d s a place next None e n h = (a, n, refl, refl, e)
 known_so d s a place next (Some i) e n h = h i e
 
-opened_so : (d : DraftData) (a : Pair) (e : ℕ) (y : EntityState) (i : ℕ) (w : WorldStationData) (o : Option WorldStationData) → index_of a d.stations ≡ Some i → slice_get d.stations i ≡ Some w → opened_with e y w ≡ o
+opened_so : (d : DraftData) (a : SiteApplication) (e : ℕ) (y : EntityState) (i : ℕ) (w : WorldStationData) (o : Option WorldStationData) → index_of a d.stations ≡ Some i → slice_get d.stations i ≡ Some w → opened_with e y w ≡ o
     → So d (says.Opening a e y) (cond (is_some o) None (Some (2, whys.EntityNotAbove (last_number 0 w.station.opening))))
 opened_so d a e y i w (Some v) n at o = tt
 opened_so d a e y i w None n at o = (i, w, n, at, refl, o)
 
-opening_so : (d : DraftData) (a : Pair) (e : ℕ) (y : EntityState) (i : ℕ) → index_of a d.stations ≡ Some i → So d (says.Opening a e y) (opening_reason e y (slice_get d.stations i))
+opening_so : (d : DraftData) (a : SiteApplication) (e : ℕ) (y : EntityState) (i : ℕ) → index_of a d.stations ≡ Some i → So d (says.Opening a e y) (opening_reason e y (slice_get d.stations i))
 opening_so d a e y i n =
     let found = found_station a d.stations i n in
     rw found.1 (opened_so d a e y i found.0 (opened_with e y found.0) n found.1 refl)

@@ -5,7 +5,7 @@ use Rattle.std.specs.Option.{option_map, option_or, option_and_then, is_some, is
 use Rattle.std.specs.Result.{result_err}
 use Rattle.std.proofs.lemmas.List.Quantifiers.{position-Some}
 use Rattle.std.proofs.lemmas.Option.{slice_get-get_or}
-use Rattle.dis_records.specs.Address.{Pair}
+use Rattle.dis_records.specs.declared.address.SiteApplication.{SiteApplication}
 use Rattle.dis_records.specs.declared.entity_state.EntityState.{EntityState}
 use Rattle.exercise_model.specs.Station.{is_above, is_below}
 use Rattle.siman_scripts.specs.declared.act.Act.{Act}
@@ -51,28 +51,28 @@ exercise_fault : (wants : Bool) (made : DraftData) → line_fault {A = ℕ} (con
 exercise_fault true made = refl
 exercise_fault false made = refl
 
-below_fault : (below : Bool) (before : Pair) (made : DraftData)
+below_fault : (below : Bool) (before : SiteApplication) (made : DraftData)
     → line_fault {A = ℕ} (cond below None (Some (1, whys.StationNotAbove before.site before.application))) ≡ result_err (cond below (Ok made) (Err Bad))
 below_fault true before made = refl
 below_fault false before made = refl
 
-rising_fault : (before : Option Pair) (a : Pair) (made : DraftData) → line_fault (rising_reason before a) ≡ result_err (cond (is_above before a) (Ok made) (Err Bad))
+rising_fault : (before : Option SiteApplication) (a : SiteApplication) (made : DraftData) → line_fault (rising_reason before a) ≡ result_err (cond (is_above before a) (Ok made) (Err Bad))
 rising_fault None a made = refl
 rising_fault (Some before) a made = below_fault (is_below before a) before made
 
-station_fault : (room : Bool) (before : Option Pair) (a : Pair) (made : DraftData)
+station_fault : (room : Bool) (before : Option SiteApplication) (a : SiteApplication) (made : DraftData)
     → line_fault (cond room (rising_reason before a) (Some (0, whys.TooManyStations))) ≡ result_err (cond (room && is_above before a) (Ok made) (Err Bad))
 station_fault true before a made = rising_fault before a made
 station_fault false before a made = refl
 
 -- a station that is found is there
-station_there : (a : Pair) (ws : List WorldStationData) (i : ℕ) (d : WorldStationData) → index_of a ws ≡ Some i → slice_get ws i ≡ Some (get_or ws i d)
+station_there : (a : SiteApplication) (ws : List WorldStationData) (i : ℕ) (d : WorldStationData) → index_of a ws ≡ Some i → slice_get ws i ≡ Some (get_or ws i d)
 station_there a ws i d e =
     let p = position-Some (is_at a) ws i d e in
     slice_get-get_or ws i d p.0
 
 -- a station is there, as far as one is needed to say so
-pub found_station : (a : Pair) (ws : List WorldStationData) (i : ℕ) → index_of a ws ≡ Some i → (w : WorldStationData) × (slice_get ws i ≡ Some w)
+pub found_station : (a : SiteApplication) (ws : List WorldStationData) (i : ℕ) → index_of a ws ≡ Some i → (w : WorldStationData) × (slice_get ws i ≡ Some w)
 found_station a [] i e = cc
 found_station a (w ∷ ws) i e = (get_or (w ∷ ws) i w, station_there a (w ∷ ws) i w e)
 
@@ -85,20 +85,20 @@ opening_at : (d : DraftData) (i e : ℕ) (y : EntityState) (station : Option Wor
 opening_at d i e y None = refl
 opening_at d i e y (Some w) = opened_fault d i (last_number 0 w.station.opening) (opened_with e y w)
 
-opening_fault : (d : DraftData) (a : Pair) (e : ℕ) (y : EntityState) (index : Option ℕ)
+opening_fault : (d : DraftData) (a : SiteApplication) (e : ℕ) (y : EntityState) (index : Option ℕ)
     → line_fault (known_reason 1 a (λ i. opening_reason e y (slice_get d.stations i)) index) ≡ result_err (with_outfit d (opened_with e y) index)
 opening_fault d a e y None = refl
 opening_fault d a e y (Some i) = opening_at d i e y (slice_get d.stations i)
 
 -- a station that is there is changed
-changed_fault : (d : DraftData) (a : Pair) (change : WorldStationData → WorldStationData) (index : Option ℕ) → index_of a d.stations ≡ index
+changed_fault : (d : DraftData) (a : SiteApplication) (change : WorldStationData → WorldStationData) (index : Option ℕ) → index_of a d.stations ≡ index
     → line_fault (known_reason 1 a (λ i. None) index) ≡ result_err (with_outfit d (λ w. Some (change w)) index)
 changed_fault d a change None e = refl
 changed_fault d a change (Some i) e =
     let found = found_station a d.stations i e in
     rw found.1
 
-move_fault : (d : DraftData) (a : Pair) (act : Act) (place : ℕ) (index : Option ℕ) → line_fault (known_reason place a (λ i. None) index) ≡ result_err (with_move d act index)
+move_fault : (d : DraftData) (a : SiteApplication) (act : Act) (place : ℕ) (index : Option ℕ) → line_fault (known_reason place a (λ i. None) index) ≡ result_err (with_move d act index)
 move_fault d a act place None = refl
 move_fault d a act place (Some i) = refl
 

@@ -1,7 +1,7 @@
 -- Commands that lines of text give to a station, in the forms of the moves of a script (profile).
 use Rattle.std.specs.Prelude.{ℕ, List, Option, Some, None}
 use Rattle.std.specs.Option.{option_and_then}
-use Rattle.dis_records.specs.Address.{Pair}
+use Rattle.dis_records.specs.declared.address.SiteApplication.{SiteApplication}
 use Rattle.siman_scripts.specs.declared.act.Act.{Act}
 use Rattle.siman_scripts.specs.declared.act.Act.TheVariants as acts
 use Rattle.siman_scripts.specs.declared.command.Command.{Command}
@@ -19,7 +19,7 @@ task_of (acts.Deliver place) = None
 task_of acts.Tick = Some tasks.Repeat
 task_of (acts.Tell e) = Some (tasks.Tell e)
 
-abbrev pub asked : Pair → Option StationTask → Option Command
+abbrev pub asked : SiteApplication → Option StationTask → Option Command
 asked a None = None
 asked a (Some task) = Some (commands.Asks a task)
 

@@ -1,7 +1,7 @@
 -- The draft of the lines of a script so far, and the effect of one more line on it (profile).
 use Rattle.std.specs.Prelude.{◌≡◌, ℕ, ◌-◌, Bool, true, false, ◌==◌, ◌&&◌, nat_lt, List, [], ◌∷◌, ◌++◌, length, position, slice_get, slice_set, Option, Some, None, Result, Ok, Err, if◌then◌else◌}
 use Rattle.std.specs.Option.{option_map, option_and_then}
-use Rattle.dis_records.specs.Address.{Pair}
+use Rattle.dis_records.specs.declared.address.SiteApplication.{SiteApplication}
 use Rattle.dis_records.specs.declared.datum.FixedDatum.{FixedDatum}
 use Rattle.dis_records.specs.declared.entity_state.EntityState.{EntityState}
 use Rattle.exercise_model.specs.Station.{is_above, is_opening}
@@ -59,7 +59,7 @@ takes_moves parts.Moves = true
 -- Stations.
 
 -- a station as its own line describes it: it opens with no entity, holds no datum, and knows no action
-abbrev pub new_station : Pair → ManagerRules → WorldStationData
+abbrev pub new_station : SiteApplication → ManagerRules → WorldStationData
 new_station a rules = record {
   station = record { address = a; opening = [] };
   first_id = rules.first_id;
@@ -70,14 +70,14 @@ new_station a rules = record {
 }
 
 -- the address of the last station, if any
-abbrev pub last_address : List WorldStationData → Option Pair
+abbrev pub last_address : List WorldStationData → Option SiteApplication
 last_address ws = option_map (λ w. w.station.address) (slice_get ws (length ws - 1))
 
-abbrev pub is_at : Pair → WorldStationData → Bool
+abbrev pub is_at : SiteApplication → WorldStationData → Bool
 is_at a w = (w.station.address.site == a.site) && (w.station.address.application == a.application)
 
 -- the index of the station at an address, if any
-abbrev pub index_of : Pair → List WorldStationData → Option ℕ
+abbrev pub index_of : SiteApplication → List WorldStationData → Option ℕ
 index_of a ws = position (is_at a) ws
 
 -- the number of the last entity, or this one if there is none
@@ -100,7 +100,7 @@ knowing id w = record w { actions = w.actions ++ id ∷ [] }
 
 -- One more line.
 
-abbrev pub with_station : DraftData → Pair → ManagerRules → DraftData
+abbrev pub with_station : DraftData → SiteApplication → ManagerRules → DraftData
 with_station d a rules = record d { stations = d.stations ++ new_station a rules ∷ [] }
 
 abbrev pub with_changed : DraftData → ℕ → Option WorldStationData → Result DraftData ScriptLineFault

@@ -1,7 +1,7 @@
 -- The meaning of a reason for the lines before its line (profile).
 use Rattle.std.specs.Prelude.{◌≡◌, ℕ, ◌≤◌, true, false, length, slice_get, Option, Some, None}
 use Rattle.std.specs.Option.{IfSome}
-use Rattle.dis_records.specs.Address.{Pair}
+use Rattle.dis_records.specs.declared.address.SiteApplication.{SiteApplication}
 use Rattle.exercise_model.specs.Station.{is_below}
 use Rattle.siman_scripts.specs.declared.statement.Statement.{Statement}
 use Rattle.siman_scripts.specs.declared.statement.Statement.TheVariants as says
@@ -12,7 +12,7 @@ use Rattle.siman_scripts.specs.Draft.{DraftData, wants_exercise, takes_stations,
 use Rattle.siman_scripts.specs.Reason.{draft_reason}
 
 -- the station that a line names, if any
-abbrev pub station_named : Statement → Option Pair
+abbrev pub station_named : Statement → Option SiteApplication
 station_named says.Nothing = None
 station_named (says.Exercise x) = None
 station_named (says.Station a rules) = Some a
@@ -24,12 +24,12 @@ station_named (says.Does a act) = Some a
 
 -- no station has the address that the line names, which has this site and application
 abbrev pub IsUnknown : DraftData → Statement → ℕ → ℕ → Type 0
-IsUnknown d s site application = (a : Pair) × (station_named s ≡ Some a) × (site ≡ a.site) × (application ≡ a.application) × (index_of a d.stations ≡ None)
+IsUnknown d s site application = (a : SiteApplication) × (station_named s ≡ Some a) × (site ≡ a.site) × (application ≡ a.application) × (index_of a d.stations ≡ None)
 
 -- the last station, which has this site and application, is not below the one that the line names
 abbrev pub IsNotAbove : DraftData → Statement → ℕ → ℕ → Type 0
 IsNotAbove d s site application =
-    (before : Pair) × (a : Pair) × (last_address d.stations ≡ Some before) × (station_named s ≡ Some a) × (site ≡ before.site) × (application ≡ before.application) × (is_below before a ≡ false)
+    (before : SiteApplication) × (a : SiteApplication) × (last_address d.stations ≡ Some before) × (station_named s ≡ Some a) × (site ≡ before.site) × (application ≡ before.application) × (is_below before a ≡ false)
 
 -- the station that an opening names has an entity of this number last, and cannot open with this one besides
 abbrev pub IsNotNext : DraftData → Statement → ℕ → Type 0

@@ -2,7 +2,7 @@
 use Rattle.std.specs.Prelude.{◌≡◌, ℕ, ◌+◌, Bool, true, false, nat_lt, List, [], ◌∷◌, length, slice_get, Option, Some, None, Result, Ok, Err, is_some, unwrap_or, if◌then◌else◌}
 use Rattle.std.specs.Option.{option_map, option_or}
 use Rattle.std.specs.Result.{result_err}
-use Rattle.dis_records.specs.Address.{Pair}
+use Rattle.dis_records.specs.declared.address.SiteApplication.{SiteApplication}
 use Rattle.dis_records.specs.declared.entity_state.EntityState.{EntityState}
 use Rattle.exercise_model.specs.Station.{is_below}
 use Rattle.siman_scripts.specs.declared.form.LineForm.{LineForm}
@@ -44,11 +44,11 @@ abbrev pub part_reason : ScriptPart → Bool → Why → Refused → Refused
 part_reason part takes late reason = if takes then reason else Some (0, part_why part late)
 
 -- the reason of a station that is not above this one, if there is one
-abbrev pub rising_reason : Option Pair → Pair → Refused
+abbrev pub rising_reason : Option SiteApplication → SiteApplication → Refused
 rising_reason None a = None
 rising_reason (Some before) a = if is_below before a then None else Some (1, whys.StationNotAbove before.site before.application)
 
-abbrev pub station_reason : List WorldStationData → Pair → Refused
+abbrev pub station_reason : List WorldStationData → SiteApplication → Refused
 station_reason stations a = if nat_lt (length stations) 256 then rising_reason (last_address stations) a else Some (0, whys.TooManyStations)
 
 -- the reason of an entity of a station, if the station is known
@@ -57,7 +57,7 @@ opening_reason e y None = Some (2, whys.EntityNotAbove 0)
 opening_reason e y (Some w) = if is_some (opened_with e y w) then None else Some (2, whys.EntityNotAbove (last_number 0 w.station.opening))
 
 -- the reason of a station in this word that is not known, or that of its index
-abbrev pub known_reason : ℕ → Pair → (ℕ → Refused) → Option ℕ → Refused
+abbrev pub known_reason : ℕ → SiteApplication → (ℕ → Refused) → Option ℕ → Refused
 known_reason place a next None = Some (place, whys.UnknownStation a.site a.application)
 known_reason place a next (Some i) = next i
 

@@ -2,7 +2,8 @@
 use Rattle.std.specs.Prelude.{ℕ, Bool, true, ◌==◌, nat_le, List, [], ◌∷◌, codes, Option, Some, None, if◌then◌else◌}
 use Rattle.std.specs.Option.{option_and_then}
 use Rattle.std.specs.Str.{bytes_eq}
-use Rattle.dis_records.specs.Address.{Pair, is_address}
+use Rattle.dis_records.specs.declared.address.SiteApplication.{SiteApplication}
+use Rattle.dis_records.specs.Address.{is_address}
 use Rattle.dis_records.specs.declared.clock_time.ClockTime.{ClockTime}
 use Rattle.dis_records.specs.declared.datum.FixedDatum.{FixedDatum}
 use Rattle.dis_records.specs.declared.entity.EntityId.{EntityId}
@@ -25,7 +26,7 @@ o >>= f = option_and_then f o
 -- Words.
 
 -- `S:A`, the address of a station: each number in 1 to 65534
-abbrev pub address_of : List ℕ → Option Pair
+abbrev pub address_of : List ℕ → Option SiteApplication
 address_of word = do
   p ← cut_at 58 word
   site ← number_to 65535 p.0

@@ -31,10 +31,10 @@ pub(crate) fn value_of<'a>(name: &[u8], word: &'a [u8]) -> Option<&'a [u8]>
 pub(crate) fn state_of(word: &[u8]) -> Option<EntityState>
     ensures { result ≡ state_of word.now }
 {
-    if word == b"stopped".as_slice() {
+    if word == EntityState::Stopped.name().as_bytes() {
         return Some(EntityState::Stopped);
     }
-    if word == b"running".as_slice() {
+    if word == EntityState::Running.name().as_bytes() {
         return Some(EntityState::Running);
     }
     None

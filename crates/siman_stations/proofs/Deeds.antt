@@ -3,7 +3,7 @@ use Rattle.std.proofs.Common.{◌≡◌, ℕ, ◌<◌, ◌^◌, List, [], ◌∷
 use Rattle.std.specs.Prelude.{Bool, true, false, ◌==◌, ◌&&◌, ◌||◌, not, is_none, slice_get, Option, Some, None, option_map}
 use Rattle.std.specs.Option.{option_map_or}
 use Rattle.std.proofs.lemmas.Bool.{and_from, and_right, eq-eqb}
-use Rattle.dis_records.specs.Address.{Pair}
+use Rattle.dis_records.specs.declared.address.SiteApplication.{SiteApplication}
 use Rattle.dis_records.specs.declared.entity.EntityId.{EntityId}
 use Rattle.dis_records.specs.declared.entity_state.EntityState.{EntityState}
 use Rattle.dis_records.specs.declared.entity_state.EntityState.TheVariants as states
@@ -193,7 +193,7 @@ deeds_by a st calls (Send s b ∷ log) fit at ours all answers told =
       by p e (inl request) =
           let of = all.0 p e request in
           let are = fit_requests calls fit in
-          order_causes a.exercise a.station log p (subst (λ (d : Pair). is_from d p ≡ true) at (life_from st calls are p of)) request
+          order_causes a.exercise a.station log p (subst (λ (d : SiteApplication). is_from d p ≡ true) at (life_from st calls are p of)) request
           (not_reused st calls are a.exercise p log of all.1)
       by p e (inr answer) = answers.0 p e answer
 deeds_by a st calls (Get s b ∷ log) fit at ours all answers told = deeds_by a st calls log fit at ours all.1 answers told

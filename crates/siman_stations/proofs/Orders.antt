@@ -10,7 +10,7 @@ use Rattle.siman_pdus.specs.Ranges.{IsBodyInRange, IsInRange}
 use Rattle.siman_pdus.specs.Role.{is_request_body}
 use Rattle.siman_pdus.specs.Spelling.{HasCarriedStatus, pdu_size, pdu_text}
 use Rattle.siman_pdus.proofs.Offered.{text_is_bytes, text_is_read}
-use Rattle.dis_records.specs.Address.{Pair}
+use Rattle.dis_records.specs.declared.address.SiteApplication.{SiteApplication}
 use Rattle.exercise_model.specs.Place.{first_below}
 use Rattle.siman_application.specs.AppProfile.{AppProfile}
 use Rattle.siman_application.specs.Ranges.{IsProfileInRange}
@@ -94,7 +94,7 @@ made_own a st x at own n order stamp fit none =
           exercise = subst (λ (m : ℕ). m < 2 ^ 8) (sym x) own.exercise;
           stamp = fit.stamp_is;
           status = omega arith;
-          origin = subst (λ (d : Pair). (d.site < 2 ^ 16) × (d.application < 2 ^ 16) × (0 < 2 ^ 16)) (sym at) (own.site, own.application, omega arith);
+          origin = subst (λ (d : SiteApplication). (d.site < 2 ^ 16) × (d.application < 2 ^ 16) × (0 < 2 ^ 16)) (sym at) (own.site, own.application, omega arith);
           target = fit.range.target;
           body = numbered_in_range 0 (next_id st n) order.body (ltb-true (next_id st n) (2 ^ 32) within.0) fit.range.body;
         };

@@ -2,8 +2,8 @@
 //! rows of `review` for them are in the cases of `siman_cases`.
 
 use crate::losses::losses;
-use dis_records::EntityState;
 use dis_records::EntityState::{Running, Stopped};
+use dis_records::{EntityState, SiteApplication};
 use exercise_findings::Findings;
 use exercise_model::ExerciseLog;
 use exercise_review::*;

@@ -1,7 +1,6 @@
 use Rattle.std.proofs.Common.{◌≡◌, ℕ, length, sym, ap, ◌∙◌, ◌+◌, subst, arith, Some, None}
 use Rattle.exercise_model.specs.Recording.{PlainRecording}
 use Rattle.exercise_review.specs.Order.{OrderData, order_of}
-use Rattle.exercise_review.specs.Party.{pair_at}
 use Rattle.exercise_review.specs.Parties.{number_of, candidate_at}
 use Rattle.exercise_review.proofs.PartyPlaces.{IsNearest, still_nearest, nearest_more, nearest_is_next}
 use Rattle.exercise_review.proofs.parties.next_party.Goals.{in-Some, in_default}
@@ -15,7 +14,7 @@ loop-place-preserved g c =
     let from : ℕ = c.args.first in
     elim c.match-candidate.branch as (λ _. IsNearest r o from (k + 1) c.match-candidate.next) [
       | in-Some w ↦
-          let n : ℕ = number_of (pair_at w.in-Some.address) in
+          let n : ℕ = number_of w.in-Some.address in
           let at : candidate_at r o k ≡ Some n = sym w.in-Some.ensures in
           subst (IsNearest r o from (k + 1)) (sym (w.next-is ∙ w.lower_party-next.ensures.next))
           (nearest_more r o from k n c.loop-place.next at w.lower_party-next.ensures.within c.loop-place.invariant)

@@ -1,7 +1,7 @@
 -- What was fetched is set up as all that there was would be.
 use Rattle.std.proofs.Common.{ℕ, List, subst}
 use Rattle.std.specs.Prelude.{Err}
-use Rattle.dis_records.specs.Address.{Pair}
+use Rattle.dis_records.specs.declared.address.SiteApplication.{SiteApplication}
 use Rattle.siman_outside.specs.declared.input.InputFault.{InputFault}
 use Rattle.siman_outside.specs.declared.input.InputFault.TheVariants as inputs
 use Rattle.siman_exercise_commands.specs.Explained.{TextRead, text_read}
@@ -11,7 +11,7 @@ use Rattle.siman_outside.proofs.Offered.{at_fault, of_any}
 use Rattle.siman_exercise_commands.proofs.Scripts.{of_text}
 use Rattle.siman_exercise_commands.proofs.station.set_up_file.Goals as goal
 
-not_read : (t : TextRead) (address : Pair) (fault : InputFault) → SetsUpRead t address (Err (of_unread_script fault))
+not_read : (t : TextRead) (address : SiteApplication) (fault : InputFault) → SetsUpRead t address (Err (of_unread_script fault))
 not_read t address (inputs.Unread failed) = (tt, tt)
 not_read t address inputs.Memory = (tt, tt)
 

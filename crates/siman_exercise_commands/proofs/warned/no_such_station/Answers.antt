@@ -11,7 +11,7 @@ returns c =
       number = c.in_ok-number.number;
       move = c.in-Some.step.now;
       there = let at = slice_get-get_or c.args.script.now.moves c.in_ok-number.number c.in-Some.step.now in grind (arith, common_steps, at, lookup);
-      nobody = (c.in_ok-site.site, c.in_ok-site.application);
+      nobody = c.in_ok-to.to;
       receiver = search rules;
       line = c.in_ok-line.line;
       line_is = search rules;

@@ -2,4 +2,4 @@
 use Rattle.siman_operator.proofs.came.put_any_warning.Goals as goal
 
 pub returns-in-Some : goal.returns-in-Some
-returns-in-Some g c = rw (c.in-Some.is, c.in-Some.site-is, c.in-Some.application-is) c.put_warning.ensures
+returns-in-Some g c = rw c.in-Some.is c.put_warning.ensures

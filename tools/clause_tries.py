@@ -5,6 +5,7 @@
 
 The last line is `N tried, M wrong`; the status is 0 where M is 0, else 1.
 """
+import re
 import sys
 
 import clauses
@@ -207,6 +208,15 @@ MOVES = {
     "crate renamed": ({**{path: "" for path in TEXTS if "low" in path}, **{path.replace("low", "deep"): text.replace("Rattle.low", "Rattle.deep") for path, text in TEXTS.items() if "low" in path}},
                       ["moved function low::find", "moved function low::trait Line::send", "moved type low::State", "moved definition low::first"], 0),
 }
+# Lines of renames, words of TEXTS that have other names in the second tree, and what is told then.
+RENAMES = {
+    "word renamed": (["find look"], [("find", "look")], [], 0),
+    "word renamed, and weaker": (["find look"], [("find", "look"), ("result ≡ None → key ≡ 0", "result ≡ None → key ≡ key")], ["changed function low::look"], 1),
+    "word of a page renamed": (["first earliest low.specs.Table"], [("first", "earliest")], [], 0),
+    "word of another page": (["first earliest low.specs.Other"], [("first", "earliest")], None, 2),
+    "text renamed": ([" key < 8 => key < 9"], [("key < 8", "key < 9")], [], 0),
+    "renames nothing": (["nowhere there"], [], None, 2),
+}
 QUIET = ("traits: ", "types: ", "definitions: ", "tests: ", "cases: ")
 
 
@@ -231,6 +241,20 @@ def wrong(tree, wanted, status):
     return f"status {int(is_bad)}, and not {status}: {told}" if is_bad != status else ""
 
 
+def renamed_wrong(renames, words, wanted, status):
+    """Why the tool's answer to a tree with other names is not as wanted, or nothing."""
+    tree = TEXTS
+    for old, new in words:
+        tree = {path: re.sub(rf"(?<!\w){re.escape(old)}(?!\w)", new, text) for path, text in tree.items()}
+    before, idle = clauses.renamed(TEXTS, renames)
+    if wanted is None:
+        return "" if idle else "no line renames nothing"
+    lines, is_bad = clauses.compare(before, tree)
+    told = [it for it in lines[:-1] if not it.startswith(QUIET)]
+    right = not idle and is_bad == status and len(told) >= len(wanted) and all(any(line.startswith(it) for line in told) for it in wanted)
+    return "" if right and (wanted or not told) else f"status {int(is_bad)}, told {told}, idle {idle}"
+
+
 def main():
     tries = [(name, edited(edits), told, status) for name, (edits, told, status) in TRIES.items()]
     tries += [(name, {**TEXTS, **texts}, told, status) for name, (texts, told, status) in MOVES.items()]
@@ -240,7 +264,12 @@ def main():
         bad += bool(why)
         if why:
             print(f"{name}: {why}")
-    print(f"{len(tries)} tried, {bad} wrong")
+    for name, (renames, words, told, status) in RENAMES.items():
+        why = renamed_wrong(renames, words, told, status)
+        bad += bool(why)
+        if why:
+            print(f"{name}: {why}")
+    print(f"{len(tries) + len(RENAMES)} tried, {bad} wrong")
     return 1 if bad else 0
 
 

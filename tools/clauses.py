@@ -1,7 +1,12 @@
 #!/usr/bin/env python3
 """Compares what two commits promise: public functions with their clauses, public types, and the definitions they cite.
 
-    python3 tools/clauses.py OLD [NEW]        NEW: the work tree, if left out
+    python3 tools/clauses.py OLD [NEW] [--renames FILE]        NEW: the work tree, if left out
+
+A line `OLD NEW` of FILE says that a word has another name in NEW; `OLD NEW PAGE`, only where the word is imported from
+that page, as low.specs.Table; ` OLD => NEW`, with a space before it, that a whole text has another one. The texts of the
+first commit are read with the names of the second, so that what has another name and nothing else is neither lost nor
+changed. A line that renames nothing is a mistake.
 
 Public is what a crate's lib.rt exports: `pub fn`, methods of types and of traits, what types implement, and the
 `main` of a program. Of a function its signature counts and its clauses, whatever their order and layout; comments
@@ -167,11 +172,50 @@ def tree_of(commit=None):
         return {it.name: whole.extractfile(it).read().decode("utf-8") for it in files}
 
 
+def is_imported(word, page, path, text):
+    """Whether a text, at a path, has a word from a page of specs, or is that page."""
+    crate, _, name = page.partition(".specs.")
+    stands = re.search(rf"\bRattle\.{re.escape(page)}\.\{{[^}}]*(?<![\w]){re.escape(word)}(?![\w])", text)
+    return bool(stands) or path == f"crates/{crate}/specs/{name.replace('.', '/')}.antt"
+
+
+def renamed(tree, lines):
+    """The texts of a tree with the names that these lines give them, and the lines that rename nothing."""
+    idle = []
+    for line in lines:
+        if line.startswith(" "):
+            old, new = line[1:].split(" => ", 1)
+            pattern, takes = re.escape(old), lambda path, text: True
+        else:
+            old, new, *page = line.split()
+            pattern = rf"(?<![\w]){re.escape(old)}(?![\w])"
+            takes = lambda path, text: not page or is_imported(old, page[0], path, text)
+        changed = {path: re.sub(pattern, lambda _: new, text) if takes(path, text) else text for path, text in tree.items()}
+        if changed == tree:
+            idle.append(line)
+        tree = changed
+    return tree, idle
+
+
+def names_of(words):
+    """The commits that words name, and the lines of the file of renames."""
+    if "--renames" not in words:
+        return words, []
+    at = words.index("--renames")
+    text = Path(words[at + 1]).read_text(encoding="utf-8") if at + 1 < len(words) else ""
+    return words[:at] + words[at + 2:], [it for it in text.splitlines() if it.strip() and not it.startswith("#")]
+
+
 def main(words):
-    if not 1 <= len(words) <= 2 or words[0].startswith("-"):
+    commits, renames = names_of(words)
+    if not 1 <= len(commits) <= 2 or any(it.startswith("-") for it in commits):
         print(__doc__, end="", file=sys.stderr)
         return 2
-    lines, is_bad = compare(tree_of(words[0]), tree_of(*words[1:]))
+    before, idle = renamed(tree_of(commits[0]), renames)
+    if idle:
+        print("clauses.py: renames nothing: " + "; ".join(idle), file=sys.stderr)
+        return 2
+    lines, is_bad = compare(before, tree_of(*commits[1:]))
     print("\n".join(lines))
     return 1 if is_bad else 0
 

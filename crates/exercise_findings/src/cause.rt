@@ -23,8 +23,8 @@ use dis_records::{EntityState, Kind, Scope};
 use exercise_model::{Cause, Change, ExerciseLog, Form, is_answer, is_entity, key_of, responds};
 use siman_pdus::{ABLE, PduView, UNABLE, answers};
 
-/// Whether a PDU that a station sends at an entry is an Able after an Unable under its key, or an
-/// Unable after an Able. `base` is the hash base of both keys.
+/// Cause 9, changed answer: whether a PDU that a station sends at an entry is an Able after an
+/// Unable under its key, or an Unable after an Able. `base` is the hash base of both keys.
 #[tactic(auto, unfolding(exercise_model::specs::Cause::is_changed_answer))]
 fn is_changed_answer<L: ExerciseLog>(
     log: &L,
@@ -84,8 +84,8 @@ fn is_hopeless<L: ExerciseLog>(
     }
 }
 
-/// Whether a PDU that a station sends at an entry claims an impossible change of the request that
-/// it answers. `first`: whether it is the first Able under its key.
+/// Cause 10, impossible: whether a PDU that a station sends at an entry claims an impossible change
+/// of the request that it answers. `first`: whether it is the first Able under its key.
 #[tactic(auto, unfolding(exercise_model::specs::Cause::is_impossible))]
 fn is_impossible<L: ExerciseLog>(
     log: &L,
@@ -106,7 +106,7 @@ fn is_impossible<L: ExerciseLog>(
     first && is_hopeless(log, tables, station, before, Change::of(pdu, request))
 }
 
-/// The first cause against a PDU that a station sends at an entry. `base`: the hash base of an
+/// The first of causes 5 to 10 against a PDU that a station sends at an entry. `base`: the hash base of an
 /// answer's keys; `from`: whether its sender is that station; `reused`: whether it is a request
 /// that reuses its identifier; `first`: whether it is the first Able under its key; `taken`: the
 /// request that an answer takes up, with its entry.
@@ -156,8 +156,8 @@ pub(crate) fn judge_sent<L: ExerciseLog>(
     }
 }
 
-/// The first cause against a received PDU if nothing was sent before, given the form of the
-/// recording and whether the sender is a recorded station.
+/// Causes 11 and 12, stranger and never sent: the first against a received PDU if nothing was sent
+/// before, given the form of the recording and whether the sender is a recorded station.
 #[tactic(auto, unfolding(exercise_model::specs::Cause::get_cause, exercise_model::specs::Cause::was_sent, exercise_model::specs::Setting::may_be_heard))]
 pub(crate) fn judge_unsent(form: Form, recorded: bool) -> Option<Cause>
     ensures { (w : SettingData) (b : List ℕ) (p : Pdu) → form ≡ w.form → recorded ≡ is_recorded w p → result ≡ get_cause w [] b p }
@@ -171,7 +171,7 @@ pub(crate) fn judge_unsent(form: Form, recorded: bool) -> Option<Cause>
     }
 }
 
-/// The first cause against a state told by a station at an entry.
+/// Cause 13, wrong state: against a state that a station tells at an entry.
 pub(crate) fn judge_told<L: ExerciseLog>(
     log: &L,
     tables: &Tables,

@@ -6,8 +6,9 @@
 //! [`review_command`] and [`log_command`] for views of a recording, [`why_command`] and
 //! [`why_not_command`] for its contradictions, [`world_command`] for a script and the recording of
 //! its world, and [`trial`] for a script and the report of its world. The commands are in
-//! `siman_file_commands`, `siman_analysis_commands`, `siman_file_commands` and `siman_exercise_commands`, their common parts in
-//! `siman_outside`; this crate leads from words to commands and writes the reasons of faults.
+//! `siman_file_commands`, `siman_exercise_commands` and `siman_analysis_commands`, their common
+//! parts in `siman_outside`; this crate leads from words to commands and writes the reasons of
+//! faults.
 //!
 //! It opens no file itself and ends no process.
 //!

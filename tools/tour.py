@@ -1,7 +1,7 @@
 #!/usr/bin/env python3
 """Takes the tour of the pages: runs every command that they show, and follows every link between them.
 
-    python3 tools/tour.py [PAGE ..] [--program PROGRAM] [--top FOLDER]
+    python3 tools/tour.py [PAGE ..] [--program PROGRAM | --read] [--top FOLDER]
 
 A command is a line that begins with `$ ` in a block of a page. The commands of a page are run by bash in their order,
 in a copy of the repository's tree with the built program, and what each prints, on standard output and on standard
@@ -10,7 +10,8 @@ error, is compared with the lines that stand below it. A line `..` stands for li
 any other page the files of examples/ are made. A link has to lead to a file of the tree, and to a heading where it
 names one; and a source that the text names, as `laws.rt` or `tools/tour.py`, has to be there, with the folders before
 its name. The lines of a block of `rust` have to stand in a source of crates/siman_tests/src/uses, in their order, with what a
-line `..` stands for between them. Any other block without `$ `, and a link to another site, are not looked at.
+line `..` stands for between them. Any other block without `$ `, and a link to another site, are not looked at. With
+`--read` no command is run, so no program is needed: links, sources and quoted lines alone.
 
 Each command, link and name that is wrong is told with its page and line; the last line is `N tried, M wrong`, with
 status 1 where something is. Nothing is written outside of temporary copies.
@@ -59,17 +60,21 @@ def arguments():
     parser.add_argument("pages", nargs="*", metavar="PAGE", help="pages, from the top; all of them if none is given")
     parser.add_argument("--program", type=Path, help=f"{PROGRAM} if not given")
     parser.add_argument("--top", type=Path, default=TOP, help="the repository; the one of this tool if not given")
+    parser.add_argument("--read", action="store_true", help="runs no command, and needs no program")
     given = parser.parse_args()
     given.program = (given.program or given.top / PROGRAM).resolve()
-    if not os.access(given.program, os.X_OK):
+    if not given.read and not os.access(given.program, os.X_OK):
         parser.error(f"there is no program {given.program}: ./siman --build builds it")
     return given
 
 
 def files_of(top):
-    """The files of the tree: those that git knows, and those that it would take in."""
+    """The files of the tree: those that git knows, and those that it would take in; without git, all but what is built."""
     words = ["git", "-C", str(top), "ls-files", "-z", "--cached", "--others", "--exclude-standard"]
-    names = subprocess.run(words, check=True, capture_output=True, text=True).stdout.split("\0")
+    try:
+        names = subprocess.run(words, check=True, capture_output=True, text=True).stdout.split("\0")
+    except (OSError, subprocess.CalledProcessError):
+        names = [str(it.relative_to(top)) for it in top.rglob("*") if not {".git", "out"} & set(it.relative_to(top).parts)]
     return sorted(Path(name) for name in set(names) if name and (top / name).is_file())
 
 
@@ -279,11 +284,14 @@ def wrong_sources(files, name, sources):
 
 def tour_of(pages, given, files, tree):
     """Of each page how many commands, links and names were tried, and those that are wrong."""
-    copy_tree(given.top, files, given.program, tree)
-    made = make_examples(tree)
+    made = []
+    if not given.read:
+        copy_tree(given.top, files, given.program, tree)
+        made = make_examples(tree)
     for name in pages:
         page = (given.top / name).read_text(encoding="utf-8")
-        commands, links, sources = commands_of(page), list(links_of(page)), list(sources_of(page))
+        links, sources = list(links_of(page)), list(sources_of(page))
+        commands = [] if given.read else commands_of(page)
         quotes = list(quotes_of(page))
         wrong = [*wrong_links(given.top, set(files), name, links), *wrong_sources(files, name, sources)]
         wrong.extend(wrong_quotes(given.top, name, quotes))

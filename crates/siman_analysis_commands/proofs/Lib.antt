@@ -1,5 +1,4 @@
 mod Searches
 mod Reviewed
 mod Logged
-mod Reasons
 mod Said

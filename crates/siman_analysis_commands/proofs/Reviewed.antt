@@ -1,24 +1,12 @@
--- Words that ask for filters, recordings that could not be reviewed, and what holds of each fate.
-use Rattle.std.proofs.Common.{◌≡◌, ℕ, zero, suc, ◌<◌, List, [], ◌∷◌, ◌++◌, length, take, drop, get_or, map, None, Ok, Err, arith, refl, sym, ap, ◌∙◌, inl}
-use Rattle.std.specs.Prelude.{Option}
-use Rattle.std.specs.Result.{IsErrAnd}
-use Rattle.std.proofs.KnownBytes.{Keeps-refl}
+-- Words that ask for filters, and what holds of each fate.
+use Rattle.std.proofs.Common.{◌≡◌, ℕ, zero, suc, ◌<◌, List, [], ◌∷◌, ◌++◌, length, take, drop, get_or, map, None, arith, sym, ap, ◌∙◌}
 use Rattle.std.proofs.lemmas.List.{map-append}
-use Rattle.byte_files.specs.Fields.{Fails}
-use Rattle.exercise_recording.specs.declared.format_fault.RecordingFault.{RecordingFault}
-use Rattle.exercise_recording.specs.Reading.{format_of}
 use Rattle.exercise_review.specs.declared.fate.Fate.{Fate}
 use Rattle.exercise_review.specs.declared.fate.Fate.TheVariants.{Done, Answered, Refused, Pending, Unheard, Unanswered, Lost, Unknown, Nobody}
 use Rattle.exercise_review.specs.declared.filter.Filter.{Filter}
-use Rattle.siman_print.specs.declared.spelling.Spelling.{Spelling}
 use Rattle.siman_outside.specs.declared.commands.ViewWord.{ViewWord}
-use Rattle.siman_outside.specs.declared.fault.Fault.{Fault}
-use Rattle.siman_outside.specs.Ending.{of_recording}
 use Rattle.siman_analysis_commands.specs.FilterWords.{filter_of}
-use Rattle.siman_outside.specs.Recorded.{Recorded}
-use Rattle.siman_outside.specs.Making.{Answered as Answer}
-use Rattle.siman_analysis_commands.specs.Review.{AskFor, IsFirstBad, IsUnsaid, GivesReview}
-use Rattle.siman_outside.proofs.Offered.{unsearched}
+use Rattle.siman_analysis_commands.specs.View.{AskFor, IsFirstBad}
 
 -- a list, taken apart at one of its items
 apart_at : {X : Type 0} (xs : List X) (i : ℕ) (x : X) → i < length xs → x ≡ get_or xs i x → xs ≡ take i xs ++ x ∷ drop (suc i) xs
@@ -37,18 +25,6 @@ first_bad view text ws i w filters within is ask bad = record {
   first = ask;
   bad = bad;
 }
-
--- nothing was said, and nothing is out
-pub untold : (spelling : Spelling) (filters : List Filter) (recorded : Recorded) (fault : Fault) (result : Answer) (known : Option (List ℕ))
-    → IsErrAnd result (λ e. e ≡ fault) → IsUnsaid recorded fault → GivesReview spelling filters recorded result (record { old = known; new = known })
-untold spelling filters recorded fault (Ok status) known passed why = absurd passed
-untold spelling filters recorded fault (Err e) known passed why = rw passed (inl (fault, why, refl, Keeps-refl known))
-
--- a recording that could not be read
-pub unreviewed : (spelling : Spelling) (filters : List Filter) (recorded : Recorded) (fault : RecordingFault) (result : Answer) (known : Option (List ℕ))
-    → IsErrAnd result (λ e. e ≡ of_recording fault) → Fails (format_of fault) recorded → GivesReview spelling filters recorded result (record { old = known; new = known })
-unreviewed spelling filters recorded fault result known passed why =
-    untold spelling filters recorded (of_recording fault) result known passed (inl (unsearched recorded fault why))
 
 -- what holds of each fate holds of one
 pub each_fate : (P : Fate → Type 0) → P Done → P Answered → P Refused → P Pending → P Unheard → P Unanswered → P Lost → P Unknown → P Nobody → (fate : Fate) → P fate

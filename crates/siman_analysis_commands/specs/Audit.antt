@@ -1,5 +1,5 @@
 -- The answer of `audit` about a recording, and its ending.
-use Rattle.std.specs.Prelude.{◌≡◌, ◌⊎◌, ℕ, Bool, List, [], length, string_bytes, Option, Result, Ok, Err}
+use Rattle.std.specs.Prelude.{◌≡◌, ◌⊎◌, ℕ, List, length, string_bytes, Option, Result, Ok, Err}
 use Rattle.std.specs.Io.KnownBytes.{Keeps}
 use Rattle.exercise_model.specs.Recording.{PlainRecording}
 use Rattle.exercise_model.specs.Headline.{Holds}
@@ -11,12 +11,13 @@ use Rattle.exercise_check.specs.Goodness.{IsGood}
 use Rattle.exercise_audit.specs.declared.blocks.Block.{Block}
 use Rattle.exercise_audit.specs.Audit.{IsBlocked}
 use Rattle.siman_outside.specs.declared.fault.Fault.{Fault}
-use Rattle.siman_analysis_commands.specs.declared.audit.Finding.{Finding}
-use Rattle.siman_analysis_commands.specs.declared.audit.Finding.TheVariants.{Sequence, Stuck}
+use Rattle.siman_outside.specs.declared.product.Product.{Product}
+use Rattle.siman_outside.specs.declared.product.Product.TheVariants.{File, Nothing}
+use Rattle.siman_analysis_commands.specs.declared.audit.SequenceTexts.{SequenceTexts}
 use Rattle.siman_outside.specs.Recorded.{Recorded, IsUnsearched, explained_text}
 use Rattle.siman_outside.specs.Ending.{EndsWith}
-use Rattle.siman_outside.specs.Outside.{Has, Stream, Deed}
-use Rattle.siman_outside.specs.Making.{MakesFile, PutsBoth, PutsBlocked}
+use Rattle.siman_outside.specs.Outside.{Given, Stream}
+use Rattle.siman_outside.specs.Making.{PutsBoth, PutsProduct}
 use Rattle.siman_outside.specs.declared.limits.TheConstants.{LARGEST_RECORDING}
 use Rattle.exercise_recording.specs.Reading.{recording_at}
 use Rattle.siman_print.specs.Spelled.{lines_text}
@@ -61,10 +62,13 @@ pub record AreTextsOf (steps : List Step) (certificate line : List ℕ) : Type 0
   pub line_is : line ≡ explained_text (length steps)
 
 -- the result of a search, with its texts
+abbrev pub Finding : Type 0
+Finding = Product SequenceTexts
+
 abbrev pub Finds : Recorded → Finding → Type 0
-Finds recorded (Sequence texts) =
+Finds recorded (File texts) =
     (steps : List Step) × FindsSequence recorded steps × AreTextsOf steps texts.certificate.items (string_bytes texts.line)
-Finds recorded (Stuck text) = FindsNone recorded (string_bytes text)
+Finds recorded (Nothing text) = FindsNone recorded (string_bytes text)
 
 abbrev pub Searches : Recorded → Result Finding Fault → Type 0
 Searches recorded (Ok finding) = Finds recorded finding
@@ -72,28 +76,21 @@ Searches recorded (Err fault) = IsUnsearched recorded fault
 
 -- ---- the writing
 
--- THE TEXTS OF A RESULT are written: certificate and line of a sequence, or the blocked list
-abbrev pub PutsFinding : Finding → Result ℕ Fault → (file out : Stream) → Type 0
-PutsFinding (Sequence texts) answered file out = PutsBoth texts.certificate.items (string_bytes texts.line) answered file out
-PutsFinding (Stuck text) answered file out = Keeps file.old file.new × PutsBlocked (string_bytes text) answered out
+-- the texts about a sequence are written: its certificate to the file, and then its line
+abbrev pub PutsSequence : SequenceTexts → Result ℕ Fault → (file out : Stream) → Type 0
+PutsSequence texts = PutsBoth texts.certificate.items (string_bytes texts.line)
 
 -- The answer of `audit`: a fault, with nothing written; or a sequence explains the recording, and its certificate and its line are written; or none does, the file is unchanged, and the blocked list is written.
 abbrev pub GivesAudit : Recorded → (answered : Result ℕ Fault) → (file out : Stream) → Type 0
 GivesAudit recorded answered file out =
     ((fault : Fault) × IsUnsearched recorded fault × (answered ≡ Err fault) × Keeps file.old file.new × Keeps out.old out.new)
-    ⊎ ((finding : Finding) × Finds recorded finding × PutsFinding finding answered file out)
+    ⊎ ((finding : Finding) × Finds recorded finding × PutsProduct PutsSequence finding answered file out)
 
 -- HOW `audit` ENDS: its answer is in the file and on the output, and its status and fault are those of the answer
 abbrev pub EndsAudit : Recorded → (status : ℕ) → (file out errors : Stream) → Type 0
 EndsAudit recorded status file out errors =
     (answered : Result ℕ Fault) × GivesAudit recorded answered file out × EndsWith answered status errors.old errors.new
 
--- ---- by the names of files
-
--- THE RESULT OF A FILE with these bytes, if they are known, and the file made of it: a certificate if there is a sequence, else no file
+-- THE RESULT FOR A FILE with these bytes, if they are known
 abbrev pub SearchesFile : (known : Option (List ℕ)) → Result Finding Fault → Type 0
-SearchesFile known found = (bytes : List ℕ) × Has known bytes × Searches (recording_at LARGEST_RECORDING bytes) found
-
-abbrev pub MakesFinding : Finding → (force : Bool) → (name : List ℕ) → List Deed → Result ℕ Fault → (out : Stream) → Type 0
-MakesFinding (Sequence texts) force name deeds answered out = MakesFile (PutsBoth texts.certificate.items (string_bytes texts.line)) force name deeds answered out
-MakesFinding (Stuck text) force name deeds answered out = (deeds ≡ []) × PutsBlocked (string_bytes text) answered out
+SearchesFile known found = Given known (λ bytes. Searches (recording_at LARGEST_RECORDING bytes) found)

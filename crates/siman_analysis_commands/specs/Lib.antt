@@ -1,5 +1,6 @@
 pub mod FilterWords
+pub mod AnswerText
 pub mod Audit
 pub mod Review
-pub mod Log
+pub mod View
 pub mod Why

@@ -1,24 +1,23 @@
 //! The command `audit`: searches a recording for a sequence that explains it.
 
-ghost use Rattle.std.specs.Prelude.{◌≡◌, ◌≤◌, ℕ, List, Option, length, All, Ok, IfOk};
+ghost use Rattle.std.specs.Prelude.{◌≡◌, ◌≤◌, ℕ, List, length, Ok, IfOk};
 ghost use Rattle.std.specs.Io.KnownBytes.{Keeps};
 ghost use Rattle.exercise_recording.specs.Reading.{recording_at};
 ghost use Rattle.exercise_check.specs.Certificate.{certificate_text};
 ghost use Rattle.exercise_check.specs.Goodness.{IsGood};
 ghost use Rattle.exercise_audit.specs.Audit.{IsBlocked};
 ghost use Rattle.siman_outside.specs.declared.limits.TheConstants.{LARGEST_RECORDING};
-ghost use Rattle.siman_outside.specs.Outside.{Has, Stream, Deed, Found, Adds, WasHeld};
-ghost use Rattle.siman_analysis_commands.specs.Audit.{Finds, Searches, PutsFinding, GivesAudit, EndsAudit, MakesFinding};
+ghost use Rattle.siman_outside.specs.Outside.{Has, Stream};
+ghost use Rattle.siman_analysis_commands.specs.Audit.{Finds, EndsAudit};
 
 use byte_files::put;
 use exercise_audit::{Audit, Block, audit};
 use exercise_check::{Certificate, good_steps_have_no_cause, write_certificate};
 use exercise_conflict::put_blocked;
 use exercise_model::{ExerciseLog, entries_have_one_place, what_explains_holds};
-use exercise_recording::{RecordingView, fetch_recording};
 use siman_outside::{
-    Fault, LARGEST_RECORDING, Making, Notes, Outside, Product, end, flush_and_print, make_file,
-    put_blocked_answer,
+    Fault, Making, Notes, OfFile, OfRecording, Product, end, put_of_file, put_settled,
+    say_of_recording,
 };
 use siman_print::{Spelling, counted};
 use std::alloc::{AllocError, Global};
@@ -32,14 +31,10 @@ pub struct SequenceTexts {
     pub line: String,
 }
 
-/// Result of a search, with its texts.
+/// The command `audit`: the certificate of a sequence that explains a recording, or its blocked
+/// list if there is no such sequence.
 #[derive(Drop)]
-pub enum Finding {
-    /// Some sequence explains the recording.
-    Sequence(SequenceTexts),
-    /// No sequence does: the blocked list.
-    Stuck(String),
-}
+pub struct AuditCommand;
 
 /// Reads a recording and searches for a sequence that explains it. If there is such a sequence,
 /// writes its whole certificate to the file, then `explained steps=N` to `out`, and returns status
@@ -64,48 +59,48 @@ pub fn audit_command<R: Read + Drop, F: Write, W: Write, E: Write>(
         (bytes : List ℕ) × Has (R.remaining recording) bytes × EndsAudit (recording_at LARGEST_RECORDING bytes) result file out errors }
     ensures silent { result ≤ 1 → Keeps (E.contents errors.old) (E.contents errors.new) }
 {
-    end(audited(alloc, recording, certificate, out), errors).status
+    let found = put_of_file(alloc, AuditCommand, recording, certificate, out);
+    end(found, errors).status
 }
 
-/// Reads and searches a recording, writes the result, and returns the status.
-fn audited<R: Read + Drop, F: Write, W: Write>(
-    alloc: Global,
-    recording: R,
-    certificate: &mut F,
-    out: &mut W,
-) -> Result<u8, Fault<'static>>
-    ensures { let file : Stream = record { old = F.contents certificate.old; new = F.contents certificate.new } in
-        let out : Stream = record { old = W.contents out.old; new = W.contents out.new } in
-        (bytes : List ℕ) × Has (R.remaining recording) bytes × GivesAudit (recording_at LARGEST_RECORDING bytes) result file out }
-{
-    match search(alloc, recording, &mut Notes::nothing()) {
-        Ok(finding) => put_finding(alloc, &finding, certificate, out),
-        Err(fault) => Err(fault),
+impl<'a> OfRecording<'a> for AuditCommand {
+    ghost use Rattle.std.specs.Prelude.{Ok};
+    ghost use Rattle.siman_analysis_commands.specs.Audit.{Searches};
+
+    type Answer = Product<SequenceTexts>;
+
+    ghost says = { λ _ r found _. Searches (Ok r) found };
+
+    fn say<L: ExerciseLog, W: Write>(
+        self,
+        alloc: Global,
+        log: &L,
+        _out: &mut W,
+    ) -> Result<Product<SequenceTexts>, Fault<'a>> {
+        Ok(search(alloc, log)?)
     }
 }
 
-/// Reads a recording and searches for a sequence that explains it.
-fn search<R: Read + Drop>(
-    alloc: Global,
-    recording: R,
-    notes: &mut Notes,
-) -> Result<Finding, Fault<'static>>
-    ensures { (bytes : List ℕ) × Has (R.remaining recording) bytes × Searches (recording_at LARGEST_RECORDING bytes) result }
-{
-    let bytes = fetch_recording(alloc, recording, LARGEST_RECORDING)?;
-    search_bytes(alloc, &bytes, notes)
+impl OfFile for AuditCommand {
+    ghost use Rattle.siman_analysis_commands.specs.Audit.{SearchesFile};
+
+    type Made = SequenceTexts;
+
+    ghost reads = { λ _. SearchesFile };
+
+    fn read<R: Read + Drop>(
+        self,
+        alloc: Global,
+        file: R,
+        notes: &mut Notes,
+    ) -> Result<Product<SequenceTexts>, Fault<'static>> {
+        let mut nothing: Vec<u8> = Vec::new(alloc);
+        say_of_recording(alloc, self, file, &mut nothing, notes)
+    }
 }
 
-/// Searches the recording of a file's bytes for a sequence that explains it.
-fn search_bytes(alloc: Global, bytes: &[u8], notes: &mut Notes) -> Result<Finding, Fault<'static>>
-    ensures { Searches (recording_at LARGEST_RECORDING bytes.now) result }
-{
-    let log = RecordingView::over_limited(alloc, bytes, LARGEST_RECORDING)?;
-    notes.note_recording(&log);
-    Ok(search_log(alloc, &log)?)
-}
-
-fn search_log<L: ExerciseLog>(alloc: Global, log: &L) -> Result<Finding, AllocError>
+/// Searches for a sequence that explains a recording.
+fn search<L: ExerciseLog>(alloc: Global, log: &L) -> Result<Product<SequenceTexts>, AllocError>
     ensures { IfOk result (Finds (Ok (L.recording log.now))) }
 {
     match audit(alloc, log)? {
@@ -119,7 +114,7 @@ fn order<L: ExerciseLog>(
     alloc: Global,
     log: &L,
     certificate: &Certificate,
-) -> Result<Finding, AllocError>
+) -> Result<Product<SequenceTexts>, AllocError>
     requires { IsGood (L.recording log.now) certificate.now.steps.items }
     ensures { IfOk result (Finds (Ok (L.recording log.now))) }
 {
@@ -128,7 +123,7 @@ fn order<L: ExerciseLog>(
     entries_have_one_place();
     // There is a step for each entry.
     let steps = log.entry_count();
-    Ok(Finding::Sequence(SequenceTexts {
+    Ok(Product::File(SequenceTexts {
         certificate: certificate_bytes(alloc, certificate)?,
         line: counted(alloc, "explained", "steps", steps)?,
     }))
@@ -147,38 +142,24 @@ fn certificate_bytes(alloc: Global, certificate: &Certificate) -> Result<Vec<u8>
 
 /// The blocked list of a recording that no sequence explains.
 #[tactic(auto, using(exercise_conflict::proofs::Offered::blocks_within))]
-fn stuck<L: ExerciseLog>(alloc: Global, log: &L, blocks: &[Block]) -> Result<Finding, AllocError>
+fn stuck<L: ExerciseLog>(
+    alloc: Global,
+    log: &L,
+    blocks: &[Block],
+) -> Result<Product<SequenceTexts>, AllocError>
     requires { IsBlocked (L.recording log.now) blocks.now }
     ensures { IfOk result (Finds (Ok (L.recording log.now))) }
 {
     let mut text = String::new(alloc);
     put_blocked(alloc, &mut text, Spelling::Text, log, blocks)?;
-    Ok(Finding::Stuck(text))
-}
-
-/// Writes the result of a search, and returns the status.
-fn put_finding<F: Write, W: Write>(
-    alloc: Global,
-    finding: &Finding,
-    file: &mut F,
-    out: &mut W,
-) -> Result<u8, Fault<'static>>
-    ensures { let file : Stream = record { old = F.contents file.old; new = F.contents file.new } in
-        let out : Stream = record { old = W.contents out.old; new = W.contents out.new } in
-        PutsFinding finding.now result file out }
-{
-    match finding {
-        Finding::Sequence(order) => order.put(alloc, file, out),
-        Finding::Stuck(text) => put_blocked_answer(text, out),
-    }
+    Ok(Product::Nothing(text))
 }
 
 /// The file of a certificate.
 impl Making for SequenceTexts {
-    ghost use Rattle.std.specs.Prelude.{string_bytes};
-    ghost use Rattle.siman_outside.specs.Making.{PutsBoth};
+    ghost use Rattle.siman_analysis_commands.specs.Audit.{PutsSequence};
 
-    ghost puts = { λ order. PutsBoth order.certificate.items (string_bytes order.line) };
+    ghost puts = { PutsSequence };
 
     fn put<F: Write, W: Write>(
         &self,
@@ -186,58 +167,9 @@ impl Making for SequenceTexts {
         file: &mut F,
         out: &mut W,
     ) -> Result<u8, Fault<'static>> {
-        if put(file, &self.certificate).is_err() {
-            return Err(Fault::Output);
+        match put(file, &self.certificate) {
+            Ok(()) => put_settled(file, &self.line, out),
+            Err(_) => Err(Fault::Output),
         }
-        match flush_and_print(file, &self.line, out) {
-            Ok(()) => Ok(0),
-            Err(fault) => Err(fault),
-        }
-    }
-}
-
-/// The file of a certificate, made from a recording; the blocked list for a recording without one.
-impl Product for Finding {
-    ghost use Rattle.siman_analysis_commands.specs.Audit.{SearchesFile};
-
-    ghost reads = { SearchesFile };
-
-    ghost makes = { MakesFinding };
-
-    fn read<R: Read + Drop>(
-        alloc: Global,
-        file: R,
-        notes: &mut Notes,
-    ) -> Result<Finding, Fault<'static>> {
-        search(alloc, file, notes)
-    }
-
-    fn make<O: Outside, W: Write>(
-        self,
-        alloc: Global,
-        name: &str,
-        force: bool,
-        outside: &mut O,
-        out: &mut W,
-    ) -> Result<u8, Fault<'static>> {
-        make_found(alloc, &self, name, force, outside, out)
-    }
-}
-
-/// Makes the file of the certificate; without one makes no file and writes the blocked list.
-fn make_found<O: Outside, W: Write>(
-    alloc: Global,
-    finding: &Finding,
-    name: &str,
-    force: bool,
-    outside: &mut O,
-    out: &mut W,
-) -> Result<u8, Fault<'static>>
-    ensures { let out : Stream = record { old = W.contents out.old; new = W.contents out.new } in
-        (deeds : List Deed) × Adds (O.deeds outside.old) (O.deeds outside.new) deeds × ((holds : List ℕ → Option Found) → All (WasHeld holds) deeds) × MakesFinding finding.now force name.now deeds result out }
-{
-    match finding {
-        Finding::Sequence(order) => make_file(alloc, order, name, force, outside, out),
-        Finding::Stuck(list) => put_blocked_answer(list, out),
     }
 }

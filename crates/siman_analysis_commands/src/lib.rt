@@ -1,24 +1,25 @@
-//! The commands that judge and show the history of a recording: `audit`, which searches for a
-//! sequence that explains it, the views `review` and `log`, and `why`, which says what contradicts
-//! what. Over readers and writers there are [`audit_command`], [`review_command`], [`log_command`],
-//! [`why_command`] and [`why_not_command`]; over the names of files and a `siman_outside::Outside`
-//! [`review_named`], [`log_named`], [`why_named`] and the [`Finding`] of a search. Their lines are
-//! those of `siman_print`, `exercise_log` and `exercise_conflict`; [`filter_of`] parses a filter.
+//! The commands that judge and show the history of a recording: [`AuditCommand`], which searches for
+//! a sequence that explains it, the [`View`]s `review` and `log`, and [`WhyCommand`], which says what
+//! contradicts what. `siman_outside` runs them on readers and on the names of files;
+//! [`audit_command`] writes to a certificate's writer, and [`why_named`] takes the names of one file
+//! or of two. Their lines are those of `siman_print`, `exercise_log` and `exercise_conflict`;
+//! [`filter_of`] parses a filter.
 //!
 //! It opens no file itself and ends no process.
 //!
 //! The layer above may use its contracts on the status and the bytes of the answer: `EndsAudit`,
-//! `EndsReview`, `EndsLog` and `EndsWhy`.
+//! `PrintsView` and `WhyNamed`.
 #![tactic(auto)]
 
+mod answer_text;
 mod audit;
 mod filter_words;
 mod log;
 mod review;
+mod view;
 mod why;
 
-pub use audit::{Finding, SequenceTexts, audit_command};
+pub use audit::{AuditCommand, SequenceTexts, audit_command};
 pub use filter_words::filter_of;
-pub use log::{log_command, log_named};
-pub use review::{review_command, review_named};
-pub use why::{why_command, why_named, why_not_command};
+pub use view::View;
+pub use why::{WhyCommand, why_named};

@@ -4,11 +4,9 @@ use Rattle.std.specs.declared.alloc.Global.{Global}
 use Rattle.std.specs.Io.KnownBytes.{Keeps}
 use Rattle.std.specs.declared.io.ErrorKind.{ErrorKind}
 use Rattle.byte_files.specs.Text.{lines_of}
-use Rattle.siman_print.specs.declared.spelling.Spelling.{Spelling}
 use Rattle.siman_outside.specs.declared.commands.NoWord.{NoWord}
 use Rattle.siman_outside.specs.declared.commands.OneWord.{OneWord}
 use Rattle.siman_outside.specs.declared.commands.TwoWords.{TwoWords}
-use Rattle.siman_outside.specs.declared.commands.ViewWord.{ViewWord}
 use Rattle.siman_outside.specs.Words.{Asked, Trial, Bare, One, Two, View, asked, asks_help}
 use Rattle.siman_outside.specs.Words as asks
 use Rattle.siman_lines.specs.AtLines.{Telling}
@@ -18,36 +16,31 @@ use Rattle.siman_outside.specs.declared.notes.Warning.{Warning}
 use Rattle.siman_console.specs.Reasons.{Explains}
 use Rattle.siman_outside.specs.declared.fault.Fault.TheVariants.{Words, Output, Memory}
 use Rattle.siman_file_commands.specs.Answer.{said_of_hex, IsSaid}
-use Rattle.siman_analysis_commands.specs.Audit.{SearchesFile, MakesFinding}
+use Rattle.siman_analysis_commands.specs.Audit.{SearchesFile, PutsSequence}
 use Rattle.siman_file_commands.specs.Chart.{ChartsNamed}
-use Rattle.siman_file_commands.specs.Check.{ChecksFiles}
-use Rattle.siman_file_commands.specs.Convert.{CarriesFile, MakesConverted}
+use Rattle.siman_file_commands.specs.Check.{ChecksCertificate}
+use Rattle.siman_file_commands.specs.Convert.{CarriesFile, PutsConverted}
 use Rattle.siman_outside.specs.Ending.{Ends, fault_in, IsFaultOf}
 use Rattle.siman_outside.specs.Outside.{Has, Stream, Outcome, Deed}
 use Rattle.siman_file_commands.specs.Join.{word_of, JoinsPieces}
 use Rattle.siman_exercise_commands.specs.Live.{EndsLive}
-use Rattle.siman_outside.specs.Making.{Answered}
-use Rattle.siman_file_commands.specs.Mend.{MendsFile, MakesMended}
-use Rattle.siman_outside.specs.Opening.{WorksSparing}
+use Rattle.siman_outside.specs.Making.{Answered, MakesProduct}
+use Rattle.siman_file_commands.specs.Mend.{MendsFile, PutsMended}
+use Rattle.siman_outside.specs.Opening.{MakesOfFile}
 use Rattle.siman_file_commands.specs.Pdus.{EndsLines}
-use Rattle.siman_analysis_commands.specs.Log.{LogsNamed}
-use Rattle.siman_analysis_commands.specs.Review.{ReviewsNamed}
+use Rattle.siman_analysis_commands.specs.View.{ViewsNamed}
+use Rattle.siman_outside.specs.Recorded.{SaysOfBytes, SaysOfBoth}
 use Rattle.siman_outside.specs.Saying.{SaysOfFile, SaysOfFiles}
-use Rattle.siman_file_commands.specs.Show.{ShowsFile}
+use Rattle.siman_file_commands.specs.Show.{ShowsRecording}
 use Rattle.siman_exercise_commands.specs.ScriptTrial.{TriesInput}
 use Rattle.siman_exercise_commands.specs.Station.{EndsStation}
 use Rattle.siman_analysis_commands.specs.Why.{WhyNamed}
-use Rattle.siman_exercise_commands.specs.World.{RunsFile, MakesWorld}
+use Rattle.siman_exercise_commands.specs.World.{RunsFile, PutsWorld}
 
 -- WHAT A COMMAND DOES: the files that it opens and makes, in their order, its answer or fault, and its output
 abbrev pub DoesOne : OneWord → (word : List ℕ) → List Deed → Answered → Stream → Type 0
 DoesOne OneWord.Pdu hex deeds answered out = (deeds ≡ []) × IsSaid (said_of_hex hex) answered out.old out.new
-DoesOne OneWord.Show recording deeds answered out = SaysOfFile ShowsFile recording deeds answered out
-
--- a view of a recording, under words that are to be filters, in a spelling
-abbrev pub DoesView : ViewWord → (recording : List ℕ) → (filters : List (List ℕ)) → Spelling → List Deed → Answered → Stream → Type 0
-DoesView ViewWord.Review recording filters spelling = ReviewsNamed spelling recording filters
-DoesView ViewWord.Log recording filters spelling = LogsNamed spelling recording filters
+DoesOne OneWord.Show recording deeds answered out = SaysOfFile (SaysOfBytes ShowsRecording) recording deeds answered out
 
 -- the ending with this answer or fault, and with no recording begun
 abbrev pub EndsIn : Answered → Outcome → Type 0
@@ -59,12 +52,12 @@ EndsAs Tells o = (answered : Answered) × Tells answered o.out × EndsIn answere
 
 -- the ending of a command with two words
 abbrev pub EndsTwo : {L : Type 0} → Telling L → TwoWords → (first second : List ℕ) → (force : Bool) → List Deed → Outcome → Type 0
-EndsTwo told TwoWords.Check recording certificate force deeds o = EndsAs (SaysOfFiles ChecksFiles recording certificate deeds) o
-EndsTwo told TwoWords.Audit recording certificate force deeds o = EndsAs (WorksSparing SearchesFile MakesFinding force recording certificate deeds) o
-EndsTwo told TwoWords.World script recording force deeds o = EndsAs (WorksSparing RunsFile MakesWorld force script recording deeds) o
+EndsTwo told TwoWords.Check recording certificate force deeds o = EndsAs (SaysOfFiles (SaysOfBoth ChecksCertificate) recording certificate deeds) o
+EndsTwo told TwoWords.Audit recording certificate force deeds o = EndsAs (MakesOfFile SearchesFile (MakesProduct PutsSequence) force recording certificate deeds) o
+EndsTwo told TwoWords.World script recording force deeds o = EndsAs (MakesOfFile RunsFile (MakesProduct PutsWorld) force script recording deeds) o
 EndsTwo told TwoWords.Live script recording force deeds o = EndsLive told script recording deeds o
-EndsTwo told TwoWords.Convert old new force deeds o = EndsAs (WorksSparing CarriesFile MakesConverted force old new deeds) o
-EndsTwo told TwoWords.Mend old new force deeds o = EndsAs (WorksSparing MendsFile MakesMended force old new deeds) o
+EndsTwo told TwoWords.Convert old new force deeds o = EndsAs (MakesOfFile CarriesFile (MakesProduct PutsConverted) force old new deeds) o
+EndsTwo told TwoWords.Mend old new force deeds o = EndsAs (MakesOfFile MendsFile (MakesProduct PutsMended) force old new deeds) o
 
 -- the ending of a command without words, which reads standard input with these bytes, if they are known
 abbrev pub EndsBare : NoWord → Option (List ℕ) → Outcome → Type 0
@@ -78,7 +71,7 @@ EndsTask told (One command word) deeds input o = EndsAs (DoesOne command word de
 EndsTask told (Two command first second force) deeds input o = EndsTwo told command first second force deeds o
 EndsTask told (asks.Join pieces made form force) deeds input o = EndsAs (JoinsPieces pieces force made (word_of form) deeds) o
 EndsTask told (asks.Station words) deeds input o = EndsStation told.strangers words deeds input o
-EndsTask told (View view recording filters spelling) deeds input o = EndsAs (DoesView view recording filters spelling deeds) o
+EndsTask told (View view recording filters spelling) deeds input o = EndsAs (ViewsNamed view spelling recording filters deeds) o
 EndsTask told (asks.Why recording certificate spelling) deeds input o = EndsAs (WhyNamed spelling recording certificate deeds) o
 EndsTask told (asks.Chart recording certificate picture words force) deeds input o = EndsAs (ChartsNamed recording certificate picture words force deeds) o
 

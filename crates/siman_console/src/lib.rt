@@ -3,9 +3,9 @@
 //! files and links of an [`Outside`]. Over readers and writers there are [`pdu_command`] and
 //! [`pdus_command`] for datagrams in hex text, [`show_command`] for recordings, [`check_command`]
 //! for a recording and its certificate, [`audit_command`] for the search of a recording,
-//! [`review_command`] and [`log_command`] for views of a recording, [`why_command`] and
-//! [`why_not_command`] for its contradictions, [`world_command`] for a script and the recording of
-//! its world, and [`trial`] for a script and the report of its world. The commands are in
+//! [`world_command`] for a script and the recording of its world, and [`trial`] for a script and
+//! the report of its world; the [`View`]s of a recording and [`WhyCommand`] run by
+//! [`say_of_recording`] and [`say_of_certificate`]. The commands are in
 //! `siman_file_commands`, `siman_exercise_commands` and `siman_analysis_commands`, their common
 //! parts in `siman_outside`; this crate leads from words to commands and writes the reasons of
 //! faults.
@@ -30,18 +30,17 @@ mod warning;
 
 pub use laws::conversion_keeps_answers;
 pub use program::run;
-pub use siman_analysis_commands::{
-    audit_command, filter_of, log_command, review_command, why_command, why_not_command,
-};
+pub use siman_analysis_commands::{AuditCommand, View, WhyCommand, audit_command, filter_of};
 pub use siman_exercise_commands::{perform, trial, world_command};
 pub use siman_file_commands::{
-    LARGEST_OLD_RECORDING, answers_follow_the_grammar, check_command, check_files, pdu_command,
-    pdus_command, show_command,
+    CheckCommand, LARGEST_OLD_RECORDING, ShowCommand, answers_follow_the_grammar, check_command,
+    check_files, pdu_command, pdus_command, show_command,
 };
 pub use siman_outside::{
     CommandLine, Ended, Endpoint, FileKind, FilesFault, JoinForm, Known, LARGEST_CERTIFICATE,
-    LARGEST_RECORDING, NoWord, OneWord, Outside, SystemCall, SystemFault, Task, TrialFault,
-    TwoWords, Unread, ViewWord, asks_help, file_kind_of, read_words,
+    LARGEST_RECORDING, NoWord, Notes, OneWord, Outside, SystemCall, SystemFault, Task, TrialFault,
+    TwoWords, Unread, ViewWord, asks_help, end, file_kind_of, read_words, say_of_certificate,
+    say_of_recording,
 };
 pub use siman_print::Spelling;
 pub use siman_scripts::{

@@ -1,25 +1,25 @@
 //! The program, from the words of its command line to its exit status.
 
-ghost use Rattle.std.specs.Prelude.{List, string_bytes, map};
+ghost use Rattle.std.specs.Prelude.{string_bytes, map};
 ghost use Rattle.std.specs.IoError.{error_kind};
-ghost use Rattle.std.specs.List.{All};
-ghost use Rattle.siman_outside.specs.Outside.{Deed, Adds, WasHeld, Stream, outcome_of};
-ghost use Rattle.siman_console.specs.Program.{DoesOne, DoesView, EndsTwo, EndsTask, EndsExplained, EndsWords, EndsProgram, words_by};
+ghost use Rattle.siman_outside.specs.Outside.{Did, outcome_of, stream};
+ghost use Rattle.siman_analysis_commands.specs.View.{ViewsNamed};
+ghost use Rattle.siman_console.specs.Program.{DoesOne, EndsTwo, EndsTask, EndsExplained, EndsWords, EndsProgram, words_by};
 ghost use Rattle.siman_outside.specs.Words.{asked_by};
 ghost use Rattle.siman_lines.specs.AtLines.{Telling};
 
 use crate::explaining::explained;
 use crate::named::{named_by, nothing_named};
 use crate::usage::end_usage;
-use siman_analysis_commands::{Finding, log_named, review_named, why_named};
-use siman_exercise_commands::{TrialCommand, WorldFile, end_live, end_station};
+use siman_analysis_commands::{AuditCommand, View, why_named};
+use siman_exercise_commands::{WorldCommand, end_live, end_station, try_input};
 use siman_file_commands::{
-    Carried, CheckCommand, MendedFile, ShowCommand, chart_named, end_lines, join_pieces, show_word,
-    word_of,
+    CheckCommand, ConvertCommand, MendCommand, ShowCommand, chart_named, end_lines, join_pieces,
+    show_word, word_of,
 };
 use siman_outside::{
-    Ended, Ending, Fault, NoWord, Notes, OfFile, OneWord, Outside, Task, TwoWords, ViewWord,
-    asks_help, conclude, make_of_file, of_error, read_words, say_of_file, say_of_files, usage_text,
+    Ended, Ending, Fault, NoWord, Notes, OneWord, Outside, Task, TwoWords, ViewWord, asks_help,
+    conclude, make_of_file, of_error, read_words, say_of_file, say_of_files, usage_text,
 };
 use siman_print::Spelling;
 use std::alloc::{AllocError, Global};
@@ -33,53 +33,54 @@ fn do_one<'a, O: Outside, W: Write>(
     word: &'a str,
     outside: &mut O,
     out: &mut W,
-    notes: &mut Notes,
 ) -> Result<u8, Fault<'a>>
-    ensures { let out : Stream = record { old = W.contents out.old; new = W.contents out.new } in
-        (deeds : List Deed) × Adds (O.deeds outside.old) (O.deeds outside.new) deeds × All (WasHeld (O.holds outside.old)) deeds × DoesOne command word.now deeds result out }
+    ensures { Did O.deeds O.holds outside.old outside.new (λ deeds. DoesOne command word.now deeds result (stream (W.contents out.old) (W.contents out.new))) }
 {
     match command {
         OneWord::Pdu => show_word(alloc, word, out),
-        OneWord::Show => say_of_file(alloc, &ShowCommand, word, outside, out, notes),
+        OneWord::Show => {
+            let notes = &mut Notes::nothing();
+            say_of_file(alloc, ShowCommand, word, outside, out, notes)
+        }
     }
 }
 
-/// Runs a command with two words, and ends it.
+/// Runs a command with two words, and ends it; the flag says whether an existing file with the
+/// second name is replaced.
 fn end_two<'a, O: Outside, W: Write, E: Write>(
     alloc: Global,
     command: TwoWords,
-    words: (&'a str, &'a str),
-    force: bool,
+    words: (&'a str, &'a str, bool),
     outside: &mut O,
     out: &mut W,
     errors: &mut E,
     notes: &mut Notes,
 ) -> Ending<'a>
     ensures { let told : Telling O.Line = record { received = O.Line.received; sent = O.Line.sent; failures = O.Line.failures; strangers = O.Line.strangers } in
-        let out : Stream = record { old = W.contents out.old; new = W.contents out.new } in
-        let errors : Stream = record { old = E.contents errors.old; new = E.contents errors.new } in
-        (deeds : List Deed) × Adds (O.deeds outside.old) (O.deeds outside.new) deeds × All (WasHeld (O.holds outside.old)) deeds × EndsTwo told command words.entry.0.now words.entry.1.now force deeds (outcome_of result out errors) }
+        Did O.deeds O.holds outside.old outside.new (λ deeds. EndsTwo told command words.entry.0.now words.entry.1.now words.entry.2 deeds (outcome_of result (stream (W.contents out.old) (W.contents out.new)) (stream (E.contents errors.old) (E.contents errors.new)))) }
 {
+    let (first, second, force) = words;
+    let names = (first, second);
     match command {
         TwoWords::Check => conclude(
-            say_of_files(alloc, &CheckCommand, words, outside, out, notes),
+            say_of_files(alloc, CheckCommand, names, outside, out, notes),
             errors,
         ),
         TwoWords::Audit => conclude(
-            make_of_file::<Finding, O, W>(alloc, words, force, outside, out, notes),
+            make_of_file(alloc, AuditCommand, names, force, outside, out, notes),
             errors,
         ),
         TwoWords::World => conclude(
-            make_of_file::<WorldFile, O, W>(alloc, words, force, outside, out, notes),
+            make_of_file(alloc, WorldCommand, names, force, outside, out, notes),
             errors,
         ),
-        TwoWords::Live => end_live(alloc, words, outside, out, errors),
+        TwoWords::Live => end_live(alloc, names, outside, out, errors),
         TwoWords::Convert => conclude(
-            make_of_file::<Carried, O, W>(alloc, words, force, outside, out, notes),
+            make_of_file(alloc, ConvertCommand, names, force, outside, out, notes),
             errors,
         ),
         TwoWords::Mend => conclude(
-            make_of_file::<MendedFile, O, W>(alloc, words, force, outside, out, notes),
+            make_of_file(alloc, MendCommand, names, force, outside, out, notes),
             errors,
         ),
     }
@@ -96,13 +97,12 @@ fn do_view<'a, O: Outside, W: Write>(
     out: &mut W,
     notes: &mut Notes,
 ) -> Result<u8, Fault<'a>>
-    ensures { let out : Stream = record { old = W.contents out.old; new = W.contents out.new } in
-        (deeds : List Deed) × Adds (O.deeds outside.old) (O.deeds outside.new) deeds × All (WasHeld (O.holds outside.old)) deeds × DoesView view words.entry.0.now (map (λ word. word.now) words.entry.1.now) spelling deeds result out }
+    ensures { Did O.deeds O.holds outside.old outside.new (λ deeds. ViewsNamed view spelling words.entry.0.now (map (λ word. word.now) words.entry.1.now) deeds result (stream (W.contents out.old) (W.contents out.new))) }
 {
     let (recording, words) = words;
-    match view {
-        ViewWord::Review => review_named(alloc, recording, words, spelling, outside, out, notes),
-        ViewWord::Log => log_named(alloc, recording, words, spelling, outside, out, notes),
+    match View::of(alloc, view, words, spelling) {
+        Ok(asked) => say_of_file(alloc, asked, recording, outside, out, notes),
+        Err(fault) => Err(fault),
     }
 }
 
@@ -117,20 +117,18 @@ fn end_task<'a, O: Outside, R: Read + Drop, W: Write, E: Write>(
     notes: &mut Notes,
 ) -> Ending<'a>
     ensures { let told : Telling O.Line = record { received = O.Line.received; sent = O.Line.sent; failures = O.Line.failures; strangers = O.Line.strangers } in
-        let out : Stream = record { old = W.contents out.old; new = W.contents out.new } in
-        let errors : Stream = record { old = E.contents errors.old; new = E.contents errors.new } in
-        (deeds : List Deed) × Adds (O.deeds outside.old) (O.deeds outside.new) deeds × All (WasHeld (O.holds outside.old)) deeds × EndsTask told (asked_by (λ word. word.now) task.entry) deeds (R.remaining input) (outcome_of result out errors) }
+        Did O.deeds O.holds outside.old outside.new (λ deeds. EndsTask told (asked_by (λ word. word.now) task.entry) deeds (R.remaining input) (outcome_of result (stream (W.contents out.old) (W.contents out.new)) (stream (E.contents errors.old) (E.contents errors.new)))) }
 {
     match task {
-        Task::Trial => conclude(TrialCommand.say(alloc, input, out, notes), errors),
+        Task::Trial => conclude(try_input(alloc, input, out), errors),
         Task::Bare(NoWord::Pdus) => end_lines(alloc, input, out, errors),
         Task::One(command, word) => {
-            let done = do_one(alloc, command, word, outside, out, notes);
+            let done = do_one(alloc, command, word, outside, out);
             conclude(done, errors)
         }
         Task::Two(command, first, second, force) => {
-            let words = (first, second);
-            end_two(alloc, command, words, force, outside, out, errors, notes)
+            let words = (first, second, force);
+            end_two(alloc, command, words, outside, out, errors, notes)
         }
         Task::Join(pieces, new, form, force) => {
             let word = word_of(form);
@@ -149,8 +147,8 @@ fn end_task<'a, O: Outside, R: Read + Drop, W: Write, E: Write>(
             conclude(done, errors)
         }
         Task::Chart(recording, certificate, picture, steps, force) => {
-            let names = (recording, certificate);
-            let charted = chart_named(alloc, names, picture, force, steps, outside, out, notes);
+            let names = (recording, certificate, picture);
+            let charted = chart_named(alloc, names, force, steps, outside, out, notes);
             conclude(charted, errors)
         }
     }
@@ -168,10 +166,7 @@ fn end_words<O: Outside, R: Read + Drop, W: Write, E: Write, S: Write>(
     reasons: &mut S,
 ) -> Ended
     ensures { let told : Telling O.Line = record { received = O.Line.received; sent = O.Line.sent; failures = O.Line.failures; strangers = O.Line.strangers } in
-        let out : Stream = record { old = W.contents out.old; new = W.contents out.new } in
-        let errors : Stream = record { old = E.contents errors.old; new = E.contents errors.new } in
-        let reasons : Stream = record { old = S.contents reasons.old; new = S.contents reasons.new } in
-        (deeds : List Deed) × Adds (O.deeds outside.old) (O.deeds outside.new) deeds × All (WasHeld (O.holds outside.old)) deeds × EndsExplained (EndsWords told (map string_bytes words.now) deeds (R.remaining input)) result out errors reasons }
+        Did O.deeds O.holds outside.old outside.new (λ deeds. EndsExplained (EndsWords told (map string_bytes words.now) deeds (R.remaining input)) result (stream (W.contents out.old) (W.contents out.new)) (stream (E.contents errors.old) (E.contents errors.new)) (stream (S.contents reasons.old) (S.contents reasons.new))) }
 {
     let line = match read_words(alloc, words) {
         Ok(line) => line,
@@ -211,10 +206,7 @@ pub fn run<O: Outside, R: Read + Drop, W: Write, E: Write, S: Write>(
     reasons: &mut S,
 ) -> Ended
     ensures { let told : Telling O.Line = record { received = O.Line.received; sent = O.Line.sent; failures = O.Line.failures; strangers = O.Line.strangers } in
-        let out : Stream = record { old = W.contents out.old; new = W.contents out.new } in
-        let errors : Stream = record { old = E.contents errors.old; new = E.contents errors.new } in
-        let reasons : Stream = record { old = S.contents reasons.old; new = S.contents reasons.new } in
-        (deeds : List Deed) × Adds (O.deeds outside.old) (O.deeds outside.new) deeds × All (WasHeld (O.holds outside.old)) deeds × EndsExplained (EndsProgram told (words_by error_kind words) deeds (R.remaining input)) result out errors reasons }
+        Did O.deeds O.holds outside.old outside.new (λ deeds. EndsExplained (EndsProgram told (words_by error_kind words) deeds (R.remaining input)) result (stream (W.contents out.old) (W.contents out.new)) (stream (E.contents errors.old) (E.contents errors.new)) (stream (S.contents reasons.old) (S.contents reasons.new))) }
 {
     match words {
         Ok(words) => end_words(alloc, &words, outside, input, out, errors, reasons),

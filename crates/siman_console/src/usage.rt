@@ -2,7 +2,7 @@
 
 ghost use Rattle.std.specs.Prelude.{ℕ, List, false, Option};
 ghost use Rattle.siman_outside.specs.declared.fault.Fault.{Fault};
-ghost use Rattle.siman_outside.specs.Outside.{Stream, Outcome, outcome_of};
+ghost use Rattle.siman_outside.specs.Outside.{Outcome, outcome_of, stream};
 ghost use Rattle.siman_console.specs.Program.{EndsUsage};
 
 use byte_files::put;
@@ -19,9 +19,7 @@ pub(crate) fn end_usage<W: Write, E: Write>(
     out: &mut W,
     errors: &mut E,
 ) -> Ending<'static>
-    ensures { let out : Stream = record { old = W.contents out.old; new = W.contents out.new } in
-        let errors : Stream = record { old = E.contents errors.old; new = E.contents errors.new } in
-        EndsUsage asks_help (outcome_of result out errors) }
+    ensures { EndsUsage asks_help (outcome_of result (stream (W.contents out.old) (W.contents out.new)) (stream (E.contents errors.old) (E.contents errors.new))) }
 {
     let text = match text {
         Ok(text) => text,

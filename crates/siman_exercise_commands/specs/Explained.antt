@@ -1,5 +1,5 @@
 -- Why a script is refused, and the place of a move that cannot be made (profile).
-use Rattle.std.specs.Prelude.{◌≡◌, ◌⊎◌, ⊤, ℕ, nat_le, List, [], length, take, Option, Some, None, Result, Ok, Err}
+use Rattle.std.specs.Prelude.{◌≡◌, ◌⊎◌, ⊤, ℕ, List, [], length, take, Option, Some, None, Result, Ok, Err}
 use Rattle.siman_scripts.specs.declared.script_fault.ScriptFault.{ScriptFault}
 use Rattle.siman_scripts.specs.declared.script_fault.ScriptFault.TheVariants as scripts
 use Rattle.siman_scripts.specs.declared.why.LineReason.{LineReason}

@@ -16,8 +16,10 @@ use Rattle.siman_stations.specs.World.{WorldData, sent_in, world_recording, worl
 use Rattle.siman_outside.specs.declared.fault.Fault.{Fault}
 use Rattle.siman_outside.specs.declared.fault.Fault.TheVariants.{Script, ScriptRead, World, Output, Memory}
 use Rattle.siman_outside.specs.Ending.{EndsWith}
-use Rattle.siman_outside.specs.Outside.{Has, Stream, Deed}
-use Rattle.siman_outside.specs.Making.{WritesShort, MakesFile}
+use Rattle.siman_outside.specs.declared.product.Product.{Product}
+use Rattle.siman_outside.specs.declared.product.Product.TheVariants.{File, Nothing}
+use Rattle.siman_outside.specs.Outside.{Given, Stream}
+use Rattle.siman_outside.specs.Making.{WritesShort}
 use Rattle.siman_exercise_commands.specs.Explained.{Scripted, TextRead, text_read, GivesReason}
 use Rattle.siman_print.specs.Line.{Number, Keyed, named_line}
 use Rattle.siman_print.specs.Spelled.{line_text}
@@ -100,9 +102,8 @@ abbrev pub EndsWorld : Scripted → (status : ℕ) → (file out errors : Stream
 EndsWorld scripted status file out errors =
     (answered : Result ℕ Fault) × GivesWorld scripted answered file out × EndsWith answered status errors.old errors.new
 
--- THE RECORDING that `world` makes of a file with these bytes, if they are known; and the file of that recording
-abbrev pub RunsFile : (known : Option (List ℕ)) → Result PlainRecording Fault → Type 0
-RunsFile known made = (text : List ℕ) × Has known text × RunsText (text_read text) made
-
-abbrev pub MakesWorld : PlainRecording → (force : Bool) → (name : List ℕ) → List Deed → Result ℕ Fault → (out : Stream) → Type 0
-MakesWorld r force name = MakesFile (PutsWorld r) force name
+-- THE RECORDING that `world` makes of a file with these bytes, if they are known
+abbrev pub RunsFile : (known : Option (List ℕ)) → Result (Product PlainRecording) Fault → Type 0
+RunsFile known (Ok (File r)) = Given known (λ text. RunsText (text_read text) (Ok r))
+RunsFile known (Ok (Nothing text)) = ⊥
+RunsFile known (Err fault) = Given known (λ text. RunsText (text_read text) (Err fault))

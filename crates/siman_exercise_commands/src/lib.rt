@@ -17,6 +17,6 @@ mod warned;
 mod world;
 
 pub use live::end_live;
-pub use script_trial::{TrialCommand, perform, trial};
+pub use script_trial::{perform, trial, try_input};
 pub use station::end_station;
-pub use world::{WorldFile, world_command};
+pub use world::{WorldCommand, WorldFile, world_command};

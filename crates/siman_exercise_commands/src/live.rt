@@ -1,16 +1,15 @@
 //! The command `live`: makes the moves of a script by stations that each have their own link.
 
-ghost use Rattle.std.specs.Prelude.{◌≡◌, ℕ, List, Option, option_map, Ok, Err, length, true, false};
+ghost use Rattle.std.specs.Prelude.{◌≡◌, ℕ, List, Option, option_map, Ok, Err, true, false};
 ghost use Rattle.siman_scripts.specs.Script.{script_at};
 ghost use Rattle.std.specs.IoError.{error_kind};
-ghost use Rattle.std.specs.List.{All};
 ghost use Rattle.exercise_model.specs.Setting.{IsSetting};
 ghost use Rattle.siman_lines.specs.AtLines.{Telling, AreFresh};
 ghost use Rattle.siman_outside.specs.Opening.{WorksOn};
 ghost use Rattle.siman_exercise_commands.specs.Explained.{text_read, GivesReason};
 ghost use Rattle.siman_exercise_commands.specs.Live.{Begins, BeginsText, BeginsFile, IsCreationFault, CreatesLived, LivesAtLines, LivesBegun, IsPlaced, LivesText, is_created, incomplete_recording, EndsLive};
 ghost use Rattle.siman_exercise_commands.specs.Live.Lived.{AreNew};
-ghost use Rattle.siman_outside.specs.Outside.{Stream, outcome_of, Deed, Found, Adds, WasHeld, Has};
+ghost use Rattle.siman_outside.specs.Outside.{outcome_of, Adds, Has, Did, DidMake, stream};
 
 mod moves;
 mod recorded;
@@ -148,8 +147,7 @@ fn create_live<O: Outside, W: Write>(
     requires { let told : Telling O.Line = record { received = O.Line.received; sent = O.Line.sent; failures = O.Line.failures; strangers = O.Line.strangers } in
         IsSetting head.now.setting → AreFresh told head.now.setting stations.items }
     ensures { let told : Telling O.Line = record { received = O.Line.received; sent = O.Line.sent; failures = O.Line.failures; strangers = O.Line.strangers } in
-        let out : Stream = record { old = W.contents out.old; new = W.contents out.new } in
-        (deeds : List Deed) × Adds (O.deeds outside.old) (O.deeds outside.new) deeds × ((holds : List ℕ → Option Found) → All (WasHeld holds) deeds) × CreatesLived told head.now.setting moves.items stations.items name.now deeds result.answered out × (result.created ≡ is_created deeds) }
+        DidMake O.deeds outside.old outside.new (λ deeds. CreatesLived told head.now.setting moves.items stations.items name.now deeds result.answered (stream (W.contents out.old) (W.contents out.new)) × (result.created ≡ is_created deeds)) }
 {
     match outside.create(name) {
         Ok(file) => {
@@ -178,8 +176,7 @@ fn live_at_lines<O: Outside, W: Write>(
 ) -> Lived<'static>
     requires { AreNew begun.recording.setting begun.nodes.items }
     ensures { let told : Telling O.Line = record { received = O.Line.received; sent = O.Line.sent; failures = O.Line.failures; strangers = O.Line.strangers } in
-        let out : Stream = record { old = W.contents out.old; new = W.contents out.new } in
-        (deeds : List Deed) × Adds (O.deeds outside.old) (O.deeds outside.new) deeds × ((holds : List ℕ → Option Found) → All (WasHeld holds) deeds) × LivesAtLines told begun name.now deeds result.answered out × (result.created ≡ is_created deeds) }
+        DidMake O.deeds outside.old outside.new (λ deeds. LivesAtLines told begun name.now deeds result.answered (stream (W.contents out.old) (W.contents out.new)) × (result.created ≡ is_created deeds)) }
 {
     let Begun {
         recording,
@@ -208,8 +205,7 @@ fn live_begun<O: Outside, W: Write>(
 ) -> Lived<'static>
     requires { AreNew begun.recording.setting begun.nodes.items }
     ensures { let told : Telling O.Line = record { received = O.Line.received; sent = O.Line.sent; failures = O.Line.failures; strangers = O.Line.strangers } in
-        let out : Stream = record { old = W.contents out.old; new = W.contents out.new } in
-        (deeds : List Deed) × Adds (O.deeds outside.old) (O.deeds outside.new) deeds × ((holds : List ℕ → Option Found) → All (WasHeld holds) deeds) × LivesBegun told begun name.now deeds result.answered out × (result.created ≡ is_created deeds) }
+        DidMake O.deeds outside.old outside.new (λ deeds. LivesBegun told begun name.now deeds result.answered (stream (W.contents out.old) (W.contents out.new)) × (result.created ≡ is_created deeds)) }
 {
     if outside.is_taken(name) {
         return fault_before_file(Fault::Exists);
@@ -245,8 +241,7 @@ fn live_text<O: Outside, W: Write>(
 ) -> Lived<'static>
     requires { AreNew script.begun.recording.setting script.begun.nodes.items }
     ensures { let told : Telling O.Line = record { received = O.Line.received; sent = O.Line.sent; failures = O.Line.failures; strangers = O.Line.strangers } in
-        let out : Stream = record { old = W.contents out.old; new = W.contents out.new } in
-        (deeds : List Deed) × Adds (O.deeds outside.old) (O.deeds outside.new) deeds × ((holds : List ℕ → Option Found) → All (WasHeld holds) deeds) × LivesText told script name.now deeds result.answered out × (result.created ≡ is_created deeds) }
+        DidMake O.deeds outside.old outside.new (λ deeds. LivesText told script name.now deeds result.answered (stream (W.contents out.old) (W.contents out.new)) × (result.created ≡ is_created deeds)) }
 {
     let BegunText { begun, text } = script;
     let lived = live_begun(alloc, begun, name, outside, out);
@@ -267,8 +262,7 @@ fn live_of_file<'a, O: Outside, W: Write>(
     notes: &mut Notes,
 ) -> Lived<'a>
     ensures { let told : Telling O.Line = record { received = O.Line.received; sent = O.Line.sent; failures = O.Line.failures; strangers = O.Line.strangers } in
-        let out : Stream = record { old = W.contents out.old; new = W.contents out.new } in
-        (deeds : List Deed) × Adds (O.deeds outside.old) (O.deeds outside.new) deeds × All (WasHeld (O.holds outside.old)) deeds × WorksOn BeginsFile (LivesText told) names.entry.0.now names.entry.1.now deeds result.answered out × (result.created ≡ is_created deeds) }
+        Did O.deeds O.holds outside.old outside.new (λ deeds. WorksOn BeginsFile (LivesText told) names.entry.0.now names.entry.1.now deeds result.answered (stream (W.contents out.old) (W.contents out.new)) × (result.created ≡ is_created deeds)) }
 {
     match open_input(names, outside) {
         Ok(opened) => match begin_script(alloc, outside.read(opened), notes) {
@@ -301,9 +295,7 @@ pub fn end_live<'a, O: Outside, W: Write, E: Write>(
     errors: &mut E,
 ) -> Ending<'a>
     ensures { let told : Telling O.Line = record { received = O.Line.received; sent = O.Line.sent; failures = O.Line.failures; strangers = O.Line.strangers } in
-        let out : Stream = record { old = W.contents out.old; new = W.contents out.new } in
-        let errors : Stream = record { old = E.contents errors.old; new = E.contents errors.new } in
-        (deeds : List Deed) × Adds (O.deeds outside.old) (O.deeds outside.new) deeds × All (WasHeld (O.holds outside.old)) deeds × EndsLive told words.entry.0.now words.entry.1.now deeds (outcome_of result out errors) }
+        Did O.deeds O.holds outside.old outside.new (λ deeds. EndsLive told words.entry.0.now words.entry.1.now deeds (outcome_of result (stream (W.contents out.old) (W.contents out.new)) (stream (E.contents errors.old) (E.contents errors.new)))) }
 {
     let mut notes = Notes::nothing();
     let lived = live_of_file(alloc, words, outside, out, &mut notes);

@@ -8,9 +8,9 @@ ghost use Rattle.exercise_findings.specs.Account.{IsAccount};
 ghost use Rattle.exercise_check.specs.declared.certificate.Step.{Step};
 ghost use Rattle.exercise_check.specs.Goodness.{IsGood};
 ghost use Rattle.siman_scripts.specs.Script.{script_at};
-ghost use Rattle.siman_outside.specs.Outside.{Has};
+ghost use Rattle.siman_outside.specs.Outside.{Has, stream};
 ghost use Rattle.siman_exercise_commands.specs.Explained.{text_read};
-ghost use Rattle.siman_exercise_commands.specs.ScriptTrial.{trial_text, Performs, Tries, IsNoTrialFault, GivesTrial};
+ghost use Rattle.siman_exercise_commands.specs.ScriptTrial.{trial_text, Performs, Tries, TriesInput, IsNoTrialFault, GivesTrial};
 
 use crate::explained::{refused, stopped};
 use crate::world::world_line;
@@ -18,7 +18,7 @@ use byte_files::put;
 use exercise_audit::{Audit, audit};
 use exercise_check::{Certificate, CheckFault, Checked, check, report_text};
 use exercise_model::{ExerciseLog, Recording};
-use siman_outside::{Fault, Notes, OfFile, TrialFault, read_text};
+use siman_outside::{Fault, TrialFault, read_text};
 use siman_print::counted;
 use siman_scripts::{LARGEST_SCRIPT, Script, read_script};
 use siman_stations::run_world;
@@ -65,25 +65,17 @@ pub fn trial<R: Read + Drop, W: Write>(
 }
 
 /// The command without words: tries the script of standard input, with status 0.
-pub struct TrialCommand;
-
-impl OfFile for TrialCommand {
-    ghost use Rattle.siman_exercise_commands.specs.ScriptTrial.{TriesInput};
-
-    ghost says = { λ _. TriesInput };
-
-    fn say<R: Read + Drop, W: Write>(
-        &self,
-        alloc: Global,
-        file: R,
-        out: &mut W,
-        _notes: &mut Notes,
-    ) -> Result<u8, Fault<'static>> {
-        let mut input = file;
-        match read_text(alloc, &mut input, LARGEST_SCRIPT) {
-            Ok(text) => answer(alloc, &text, out),
-            Err(fault) => Err(Fault::from(fault)),
-        }
+pub fn try_input<R: Read + Drop, W: Write>(
+    alloc: Global,
+    input: R,
+    out: &mut W,
+) -> Result<u8, Fault<'static>>
+    ensures { TriesInput (R.remaining input) result (stream (W.contents out.old) (W.contents out.new)) }
+{
+    let mut input = input;
+    match read_text(alloc, &mut input, LARGEST_SCRIPT) {
+        Ok(text) => answer(alloc, &text, out),
+        Err(fault) => Err(Fault::from(fault)),
     }
 }
 

@@ -1,9 +1,8 @@
 //! The command `station`: plays one station of a script over the network, by the lines of standard
 //! input.
 
-ghost use Rattle.std.specs.Prelude.{◌≡◌, ◌+◌, ◌∷◌, ℕ, List, length, Option, None, Ok, map};
-ghost use Rattle.std.specs.List.{All};
-ghost use Rattle.siman_outside.specs.Outside.{Stream, outcome_of, Deed, Found, Adds, WasHeld, Has};
+ghost use Rattle.std.specs.Prelude.{◌≡◌, ◌+◌, length, None, Ok, map};
+ghost use Rattle.siman_outside.specs.Outside.{outcome_of, Did, DidMake, stream};
 ghost use Rattle.siman_scripts.specs.Script.{script_at};
 ghost use Rattle.siman_operator.specs.declared.reading.TheConstants.{LONGEST_LINE};
 ghost use Rattle.siman_operator.specs.Recorded.{IsReady};
@@ -154,7 +153,7 @@ fn create_played<O: Outside, R: Read, W: Write, E: Write>(
     requires room { length room.old ≡ LONGEST_LINE + 1 }
     requires ready { IsReady ready }
     ensures { let s : Streams = record { out = record { old = W.contents out.old; new = W.contents out.new }; errors = record { old = E.contents errors.old; new = E.contents errors.new } } in
-        (deeds : List Deed) × Adds (O.deeds outside.old) (O.deeds outside.new) deeds × ((holds : List ℕ → Option Found) → All (WasHeld holds) deeds) × CreatesPlayed O.Line.strangers ready name.now (R.remaining input.old) deeds result s }
+        DidMake O.deeds outside.old outside.new (λ deeds. CreatesPlayed O.Line.strangers ready name.now (R.remaining input.old) deeds result s) }
 {
     match outside.create(name) {
         Ok(file) => {
@@ -186,7 +185,7 @@ fn play_at_line<O: Outside, R: Read, W: Write, E: Write>(
     requires room { length room.old ≡ LONGEST_LINE + 1 }
     requires set_up { IsOfScript set_up }
     ensures { let s : Streams = record { out = record { old = W.contents out.old; new = W.contents out.new }; errors = record { old = E.contents errors.old; new = E.contents errors.new } } in
-        (deeds : List Deed) × Adds (O.deeds outside.old) (O.deeds outside.new) deeds × ((holds : List ℕ → Option Found) → All (WasHeld holds) deeds) × IsAttached O.Line.strangers set_up address name.now (R.remaining input.old) deeds result s }
+        DidMake O.deeds outside.old outside.new (λ deeds. IsAttached O.Line.strangers set_up address name.now (R.remaining input.old) deeds result s) }
 {
     match attach_station(alloc, set_up, address, line) {
         Ok(ready) => create_played(alloc, ready, room, name, outside, input, out, errors),
@@ -208,7 +207,7 @@ fn open_and_play<O: Outside, R: Read, W: Write, E: Write>(
     requires room { length placed.room.items ≡ LONGEST_LINE + 1 }
     requires set_up { IsOfScript set_up }
     ensures { let s : Streams = record { out = record { old = W.contents out.old; new = W.contents out.new }; errors = record { old = E.contents errors.old; new = E.contents errors.new } } in
-        (deeds : List Deed) × Adds (O.deeds outside.old) (O.deeds outside.new) deeds × ((holds : List ℕ → Option Found) → All (WasHeld holds) deeds) × HasLine O.Line.strangers set_up placed name.now (R.remaining input.old) deeds result s }
+        DidMake O.deeds outside.old outside.new (λ deeds. HasLine O.Line.strangers set_up placed name.now (R.remaining input.old) deeds result s) }
 {
     let Placed {
         address,
@@ -243,7 +242,7 @@ fn play_set_up<O: Outside, R: Read, W: Write, E: Write>(
     requires room { length placed.room.items ≡ LONGEST_LINE + 1 }
     requires set_up { IsOfScript set_up }
     ensures { let s : Streams = record { out = record { old = W.contents out.old; new = W.contents out.new }; errors = record { old = E.contents errors.old; new = E.contents errors.new } } in
-        (deeds : List Deed) × Adds (O.deeds outside.old) (O.deeds outside.new) deeds × ((holds : List ℕ → Option Found) → All (WasHeld holds) deeds) × PlaysSetUp O.Line.strangers set_up placed name.now (R.remaining input.old) deeds result s }
+        DidMake O.deeds outside.old outside.new (λ deeds. PlaysSetUp O.Line.strangers set_up placed name.now (R.remaining input.old) deeds result s) }
 {
     if outside.is_taken(name) {
         drop(set_up);
@@ -265,7 +264,7 @@ fn play_file<'a, O: Outside, R: Read, W: Write, E: Write>(
 ) -> Result<SessionReport, Fault<'a>>
     requires { length placed.room.items ≡ LONGEST_LINE + 1 }
     ensures { let s : Streams = record { out = record { old = W.contents out.old; new = W.contents out.new }; errors = record { old = E.contents errors.old; new = E.contents errors.new } } in
-        (deeds : List Deed) × Adds (O.deeds outside.old) (O.deeds outside.new) deeds × All (WasHeld (O.holds outside.old)) deeds × PlaysFile O.Line.strangers (named_by (λ word. word.now) words.now) placed (R.remaining input.old) deeds result s }
+        Did O.deeds O.holds outside.old outside.new (λ deeds. PlaysFile O.Line.strangers (named_by (λ word. word.now) words.now) placed (R.remaining input.old) deeds result s) }
 {
     let opened = match outside.open(words.setup) {
         Ok(opened) => opened,
@@ -301,9 +300,7 @@ pub fn end_station<'a, O: Outside, R: Read + Drop, W: Write, E: Write>(
     out: &mut W,
     errors: &mut E,
 ) -> Ending<'a>
-    ensures { let out : Stream = record { old = W.contents out.old; new = W.contents out.new } in
-        let errors : Stream = record { old = E.contents errors.old; new = E.contents errors.new } in
-        (deeds : List Deed) × Adds (O.deeds outside.old) (O.deeds outside.new) deeds × All (WasHeld (O.holds outside.old)) deeds × EndsStation O.Line.strangers (named_by (λ word. word.now) words.entry) deeds (R.remaining input) (outcome_of result out errors) }
+    ensures { Did O.deeds O.holds outside.old outside.new (λ deeds. EndsStation O.Line.strangers (named_by (λ word. word.now) words.entry) deeds (R.remaining input) (outcome_of result (stream (W.contents out.old) (W.contents out.new)) (stream (E.contents errors.old) (E.contents errors.new)))) }
 {
     let placed = match place(alloc, &words) {
         Ok(placed) => placed,

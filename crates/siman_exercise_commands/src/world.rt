@@ -7,14 +7,14 @@ ghost use Rattle.siman_scripts.specs.Script.{script_at};
 ghost use Rattle.siman_stations.specs.World.{sent_in};
 ghost use Rattle.siman_outside.specs.Outside.{Has, Stream};
 ghost use Rattle.siman_exercise_commands.specs.Explained.{text_read};
-ghost use Rattle.siman_exercise_commands.specs.World.{RunsText, is_sent, world_text, GivesWorld, EndsWorld};
+ghost use Rattle.siman_exercise_commands.specs.World.{RunsText, is_sent, world_text, EndsWorld};
 
 use crate::explained::{refused, stopped};
 use crate::recording_file::put_recording;
 use crate::warned::no_such_station;
 use exercise_model::{EntryView, LogEntry, Recording};
 use siman_outside::{
-    Fault, Making, Notes, Outside, Product, end, flush_and_print, make_file, read_text,
+    Fault, Making, Notes, OfFile, Product, end, put_of_file, put_settled, read_text,
 };
 use siman_print::{Field, Value, named_line};
 use siman_scripts::{LARGEST_SCRIPT, Script, read_script};
@@ -48,23 +48,31 @@ pub fn world_command<R: Read + Drop, F: Write, W: Write, E: Write>(
     ensures status { (result ≡ 0) ⊎ (result ≡ 2) ⊎ (result ≡ 3) }
     ensures silent { result ≡ 0 → Keeps (E.contents errors.old) (E.contents errors.new) }
 {
-    end(world(alloc, script, recording, out), errors).status
+    let made = put_of_file(alloc, WorldCommand, script, recording, out);
+    end(made, errors).status
 }
 
-/// Writes the recording of a script's world, and then its row, and returns the status.
-fn world<R: Read + Drop, F: Write, W: Write>(
-    alloc: Global,
-    script: R,
-    recording: &mut F,
-    out: &mut W,
-) -> Result<u8, Fault<'static>>
-    ensures { let file : Stream = record { old = F.contents recording.old; new = F.contents recording.new } in
-        let out : Stream = record { old = W.contents out.old; new = W.contents out.new } in
-        (text : List ℕ) × Has (R.remaining script) text × GivesWorld (script_at text) result file out }
-{
-    match run_script(alloc, script, &mut Notes::nothing()) {
-        Ok(made) => WorldFile { recording: made }.put(alloc, recording, out),
-        Err(fault) => Err(fault),
+/// The command `world`, which makes the recording of the world of a script.
+#[derive(Drop)]
+pub struct WorldCommand;
+
+impl OfFile for WorldCommand {
+    ghost use Rattle.siman_exercise_commands.specs.World.{RunsFile};
+
+    type Made = WorldFile;
+
+    ghost reads = { λ _. RunsFile };
+
+    fn read<R: Read + Drop>(
+        self,
+        alloc: Global,
+        file: R,
+        notes: &mut Notes,
+    ) -> Result<Product<WorldFile>, Fault<'static>> {
+        match run_script(alloc, file, notes) {
+            Ok(recording) => Ok(Product::File(WorldFile { recording })),
+            Err(fault) => Err(fault),
+        }
     }
 }
 
@@ -139,41 +147,7 @@ impl Making for WorldFile {
     ) -> Result<u8, Fault<'static>> {
         let line = world_line(alloc, &self.recording)?;
         put_recording(alloc, &self.recording, file)?;
-        match flush_and_print(file, &line, out) {
-            Ok(()) => Ok(0),
-            Err(fault) => Err(fault),
-        }
-    }
-}
-
-/// Makes the file of the recording of a script's world.
-impl Product for WorldFile {
-    ghost use Rattle.siman_exercise_commands.specs.World.{RunsFile, MakesWorld};
-
-    ghost reads = { RunsFile };
-
-    ghost makes = { MakesWorld };
-
-    fn read<R: Read + Drop>(
-        alloc: Global,
-        file: R,
-        notes: &mut Notes,
-    ) -> Result<WorldFile, Fault<'static>> {
-        match run_script(alloc, file, notes) {
-            Ok(recording) => Ok(WorldFile { recording }),
-            Err(fault) => Err(fault),
-        }
-    }
-
-    fn make<O: Outside, W: Write>(
-        self,
-        alloc: Global,
-        name: &str,
-        force: bool,
-        outside: &mut O,
-        out: &mut W,
-    ) -> Result<u8, Fault<'static>> {
-        make_file(alloc, &self, name, force, outside, out)
+        put_settled(file, &line, out)
     }
 }
 

@@ -1,36 +1,58 @@
--- How `check` ends that judged two files, or could not read one.
-use Rattle.std.proofs.Common.{◌≡◌, ℕ, List, Option, Bool, Result, Ok, Err}
+-- What `check` says of two files that it judged, or of which it could not read one.
+use Rattle.std.proofs.Common.{◌≡◌, ℕ, List, Option, true, false, ◌==◌, Result, Ok, Err, inl, inr, refl}
 use Rattle.std.specs.Io.KnownBytes.{Keeps}
-use Rattle.exercise_recording.specs.declared.format_fault.RecordingFault.{RecordingFault}
-use Rattle.exercise_recording.specs.declared.format_fault.RecordingFault.TheVariants as recordings
-use Rattle.exercise_model.specs.Recording.{PlainRecording}
-use Rattle.byte_files.specs.Fields.{Fails}
-use Rattle.exercise_recording.specs.Reading as reading
-use Rattle.exercise_check.specs.declared.certificate.Step.{Step}
-use Rattle.exercise_check.specs.declared.certificate_fault.CertificateFault.{CertificateFault}
-use Rattle.exercise_check.specs.declared.certificate_fault.CertificateFault.TheVariants as certificates
-use Rattle.exercise_check.specs.Certificate as certificate
+use Rattle.exercise_recording.specs.Reading.{recording_at}
+use Rattle.exercise_check.specs.Certificate.{certificate_at}
+use Rattle.siman_outside.specs.declared.fault.Fault.{Fault}
 use Rattle.siman_outside.specs.declared.files_fault.FilesFault.{FilesFault}
-use Rattle.siman_outside.specs.Recorded.{Recorded, Certified}
-use Rattle.siman_file_commands.specs.Check.{Judges}
-use Rattle.siman_outside.specs.FilesFaults.{of_recording, of_certificate}
+use Rattle.siman_outside.specs.declared.files_fault.FilesFault.TheVariants.{Recording, Certificate, Write, Memory}
+use Rattle.siman_outside.specs.declared.limits.TheConstants.{LARGEST_CERTIFICATE, LARGEST_RECORDING}
+use Rattle.siman_outside.specs.Ending.{of_files}
+use Rattle.siman_outside.specs.Outside.{Given, Stream}
+use Rattle.siman_outside.specs.Recorded.{Recorded, Certified, IsUnsearched, IsUncertified, SaysOfBoth}
+use Rattle.siman_outside.proofs.Offered.{of_any}
+use Rattle.exercise_model.specs.Recording.{PlainRecording}
+use Rattle.siman_file_commands.specs.Check.{Judges, ChecksCertificate, GivesCheck, files_fault}
 
 -- a recording that could not be read
-pub recording_refused : (recorded : Recorded) (certified : Certified) (fault : RecordingFault) (old new : Option (List ℕ))
-    → Fails (reading.format_of fault) recorded → Keeps old new → Judges recorded certified (Err (of_recording fault)) old new
-recording_refused recorded certified (recordings.Format f) old new why keeps = (why, keeps)
-recording_refused recorded certified recordings.Read old new why keeps = keeps
-recording_refused recorded certified recordings.Memory old new why keeps = keeps
+unread : (recorded : Recorded) (certified : Certified) (fault : Fault) (old new : Option (List ℕ)) → IsUnsearched recorded fault → Keeps old new
+    → GivesCheck recorded certified (Err fault) old new
+unread recorded certified fault old new (inl (bad, none, is)) keeps = (Err (files_fault fault), rw is (none, keeps), rw is refl)
+unread recorded certified fault old new (inr (inl is)) keeps = (Err (files_fault fault), rw is keeps, rw is refl)
+unread recorded certified fault old new (inr (inr is)) keeps = (Err (files_fault fault), rw is keeps, rw is refl)
 
 -- a certificate that could not be read, after the recording was
-pub certificate_refused : (recorded : Recorded) (certified : Certified) (r : PlainRecording) (fault : CertificateFault) (old new : Option (List ℕ))
-    → recorded ≡ Ok r → Fails (certificate.format_of fault) certified → Keeps old new → Judges recorded certified (Err (of_certificate fault)) old new
-certificate_refused recorded certified r (certificates.Format f) old new read why keeps = ((r, read), why, keeps)
-certificate_refused recorded certified r certificates.Read old new read why keeps = ((r, read), keeps)
-certificate_refused recorded certified r certificates.Memory old new read why keeps = keeps
+uncertified : (recorded : Recorded) (certified : Certified) (r : PlainRecording) (fault : Fault) (old new : Option (List ℕ)) → recorded ≡ Ok r → IsUncertified certified fault
+    → Keeps old new → GivesCheck recorded certified (Err fault) old new
+uncertified recorded certified r fault old new read (inl (bad, none, is)) keeps = (Err (files_fault fault), rw is ((r, read), none, keeps), rw is refl)
+uncertified recorded certified r fault old new read (inr (inl is)) keeps = (Err (files_fault fault), rw is ((r, read), keeps), rw is refl)
+uncertified recorded certified r fault old new read (inr (inr is)) keeps = (Err (files_fault fault), rw is keeps, rw is refl)
 
--- two files that were read and judged
-pub judged_files : (recorded : Recorded) (certified : Certified) (r : PlainRecording) (steps : List Step) (result : Result Bool FilesFault) (old new : Option (List ℕ))
-    → recorded ≡ Ok r → certified ≡ Ok steps
-    → Judges (Ok r) (Ok steps) result old new → Judges recorded certified result old new
-judged_files recorded certified r steps result old new read read_too judged = rw read (rw read_too judged)
+-- WHAT IS SAID OF TWO FILES
+pub judged_files : (recording certificate : Option (List ℕ)) (answered : Result ℕ Fault) (out : Stream) → SaysOfBoth ChecksCertificate recording certificate answered out
+    → Given recording (λ bytes. Given certificate (λ text. GivesCheck (recording_at LARGEST_RECORDING bytes) (certificate_at LARGEST_CERTIFICATE text) answered out.old out.new))
+judged_files recording certificate answered out (bytes, has, inl (fault, why, is, keeps)) =
+    (bytes, has, of_any _ certificate (λ text. rw is (unread _ (certificate_at LARGEST_CERTIFICATE text) fault out.old out.new why keeps)))
+judged_files recording certificate answered out (bytes, has, inr (r, read, (text, has_text, inl (fault, why, is, keeps)))) =
+    (bytes, has, (text, has_text, rw is (uncertified _ _ r fault out.old out.new read why keeps)))
+judged_files recording certificate answered out (bytes, has, inr (r, read, (text, has_text, inr (steps, certified, judged)))) =
+    (bytes, has, (text, has_text, rw (read, certified) judged))
+
+-- the judgement for a status, and for a fault
+pub judged_ok : (recorded : Recorded) (certified : Certified) (status : ℕ) (old new : Option (List ℕ)) → GivesCheck recorded certified (Ok status) old new
+    → Judges recorded certified (Ok (status == 0)) old new
+judged_ok recorded certified status old new (Ok true, judged, is) = let zero : status ≡ 0 = cc in rw zero judged
+judged_ok recorded certified status old new (Ok false, judged, is) = let one : status ≡ 1 = cc in rw one judged
+judged_ok recorded certified status old new (Err fault, judged, is) = absurd cc
+
+files_back : (fault : FilesFault) → files_fault (of_files fault) ≡ fault
+files_back (Recording fault) = refl
+files_back (Certificate fault) = refl
+files_back Write = refl
+files_back Memory = refl
+
+pub judged_err : (recorded : Recorded) (certified : Certified) (fault : Fault) (old new : Option (List ℕ)) → GivesCheck recorded certified (Err fault) old new
+    → Judges recorded certified (Err (files_fault fault)) old new
+judged_err recorded certified fault old new (Ok true, judged, is) = absurd cc
+judged_err recorded certified fault old new (Ok false, judged, is) = absurd cc
+judged_err recorded certified fault old new (Err why, judged, is) = let same : fault ≡ of_files why = cc in rw (same, files_back why) judged

@@ -5,10 +5,8 @@ use Rattle.exercise_model.specs.declared.cause.Cause.{Cause}
 use Rattle.exercise_model.specs.Account.{values_below}
 use Rattle.exercise_model.specs.Headline.{Holds}
 use Rattle.exercise_model.specs.Recording.{PlainRecording}
-use Rattle.exercise_recording.specs.Reading.{recording_at}
 use Rattle.exercise_check.specs.declared.certificate.Step.{Step}
 use Rattle.exercise_check.specs.declared.checker.CheckFault.TheVariants.{Bad}
-use Rattle.exercise_check.specs.Certificate.{certificate_at}
 use Rattle.exercise_check.specs.Goodness.{IsGood, Refuses}
 use Rattle.exercise_check.specs.Sequence.{sequence_of}
 use Rattle.exercise_chart.specs.declared.fault.ChartFault.{ChartFault}
@@ -26,18 +24,15 @@ use Rattle.siman_file_commands.specs.declared.chart_words.Window.{Window}
 use Rattle.siman_outside.specs.declared.fault.Fault.{Fault}
 use Rattle.siman_outside.specs.declared.fault.Fault.TheVariants as faults
 use Rattle.siman_outside.specs.declared.fault.Fault.TheVariants.{ChartOverLimit, Memory}
-use Rattle.siman_file_commands.specs.declared.chart.Charted.{Charted}
-use Rattle.siman_file_commands.specs.declared.chart.Charted.TheVariants.{Drawn, Refused}
+use Rattle.siman_outside.specs.declared.product.Product.{Product}
+use Rattle.siman_outside.specs.declared.product.Product.TheVariants.{File, Nothing}
 use Rattle.siman_file_commands.specs.declared.chart.PictureTexts.{PictureTexts}
-use Rattle.siman_outside.specs.declared.limits.TheConstants.{LARGEST_CERTIFICATE, LARGEST_RECORDING}
 use Rattle.siman_file_commands.specs.ChartWords.{window_of, past_of, AreShown}
 use Rattle.siman_outside.specs.Ending.{fault_text}
-use Rattle.siman_outside.specs.Making.{Answered, MakesFile, PutsBoth}
-use Rattle.siman_outside.specs.Opening.{WorksOnBoth}
-use Rattle.siman_outside.specs.Outside.{Has, Stream, Deed}
-use Rattle.siman_outside.specs.Making.{PutsBlocked}
-use Rattle.siman_outside.specs.Recorded.{Recorded, Certified}
-use Rattle.siman_outside.specs.Recorded.{IsUnjudged}
+use Rattle.siman_outside.specs.Making.{Answered, MakesProduct, PutsBoth}
+use Rattle.siman_outside.specs.Opening.{MakesOfFiles}
+use Rattle.siman_outside.specs.Outside.{Stream, Deed}
+use Rattle.siman_outside.specs.Recorded.{SaysOfBoth}
 
 -- ---- a picture
 
@@ -70,23 +65,16 @@ pub record ShowsRun (r : PlainRecording) (steps : List Step) (rows : Rows) (mark
   pub arrows : All (LeadsDown r steps rows) marks.arrows
   pub bars : All (HasState r steps) marks.bars
 
--- ---- the result of two files
+-- ---- the result for a certificate
 
--- THE CERTIFICATE IS GOOD for the recording
-pub record IsCertified (recorded : Recorded) (certified : Certified) (r : PlainRecording) (steps : List Step) : Type 0 where
-  -- The first file is this recording, and the second the certificate with these steps.
-  pub read : recorded ≡ Ok r
-  pub certificate : certified ≡ Ok steps
-  -- There is a step for each entry, and each step is good.
+-- THE CERTIFICATE IS GOOD for the recording: there is a step for each entry, and each step is good; the sequence that the steps name is a run that explains the recording, so that the headline's sentences hold of it
+pub record IsCertified (r : PlainRecording) (steps : List Step) : Type 0 where
   pub good : IsGood r steps
-  -- The sequence that the steps name is a run that explains the recording: the headline's sentences hold of it.
   pub holds : Holds r (sequence_of r steps)
 
 -- A PICTURE IS DRAWN
-pub record DrawsPicture (words : List (List ℕ)) (window : Window) (recorded : Recorded) (certified : Certified) (picture line : List ℕ) : Type 0 where
-  pub recording : PlainRecording
-  pub steps : List Step
-  pub certified_is : IsCertified recorded certified recording steps
+pub record DrawsPicture (words : List (List ℕ)) (window : Window) (recording : PlainRecording) (steps : List Step) (picture line : List ℕ) : Type 0 where
+  pub certified : IsCertified recording steps
   -- No word names a step past the last.
   pub within : past_of (length steps) words ≡ None
   -- These steps are shown, and they are not too many.
@@ -99,11 +87,7 @@ pub record DrawsPicture (words : List (List ℕ)) (window : Window) (recorded : 
   pub run : ShowsRun recording steps rows (marks_of recording steps rows)
 
 -- THE CERTIFICATE IS NOT GOOD, and this is the line of its first bad step, as `check` has it
-pub record RefusesChart (recorded : Recorded) (certified : Certified) (text : List ℕ) : Type 0 where
-  pub recording : PlainRecording
-  pub read : recorded ≡ Ok recording
-  pub steps : List Step
-  pub certificate : certified ≡ Ok steps
+pub record RefusesChart (recording : PlainRecording) (steps : List Step) (text : List ℕ) : Type 0 where
   pub step : ℕ
   pub cause : Cause
   pub refused : Refuses recording steps (Bad step cause)
@@ -125,28 +109,20 @@ IsUndrawn words window r steps fault =
     ((word : List ℕ) × (past_of (length steps) words ≡ Some word) × IsFilterFault word fault × (steps_of fault ≡ Some (length steps)))
     ⊎ ((rows : Rows) × (past_of (length steps) words ≡ None) × AreShown window (length steps) rows × IsOverfilled r rows × (fault ≡ ChartOverLimit))
 
--- NO PICTURE: nothing was judged, where the recording is read first, or it is not drawn
-abbrev pub IsUncharted : (words : List (List ℕ)) → Window → Recorded → Certified → Fault → Type 0
-IsUncharted words window recorded certified fault =
-    IsUnjudged recorded certified fault
-    ⊎ ((r : PlainRecording) × (steps : List Step) × IsCertified recorded certified r steps × IsUndrawn words window r steps fault)
+-- THE RESULT for a recording and a certificate: a picture; or, for a certificate that is not good, the line of its first bad step; or no picture is drawn, or memory ran out
+abbrev pub Charts : (words : List (List ℕ)) → Window → PlainRecording → List Step → Result (Product PictureTexts) Fault → Type 0
+Charts words window r steps (Ok (File texts)) = DrawsPicture words window r steps (string_bytes texts.picture) (string_bytes texts.line)
+Charts words window r steps (Ok (Nothing line)) = RefusesChart r steps (string_bytes line)
+Charts words window r steps (Err fault) = (IsCertified r steps × IsUndrawn words window r steps fault) ⊎ (fault ≡ Memory)
 
--- the result for a recording and a certificate, with its texts
-abbrev pub Charts : (words : List (List ℕ)) → Window → Recorded → Certified → Result Charted Fault → Type 0
-Charts words window recorded certified (Ok (Drawn texts)) = DrawsPicture words window recorded certified (string_bytes texts.picture) (string_bytes texts.line)
-Charts words window recorded certified (Ok (Refused line)) = RefusesChart recorded certified (string_bytes line)
-Charts words window recorded certified (Err fault) = IsUncharted words window recorded certified fault
-
--- THE RESULT OF TWO FILES for `chart` with these bytes, if they are known; for a good certificate the picture is made, and then its line is written, with status 0; for another no file is made, and the line of its first bad step is written, with status 1
-abbrev pub ChartsFiles : (words : List (List ℕ)) → Window → (recording certificate : Option (List ℕ)) → Result Charted Fault → Type 0
+-- THE RESULT OF TWO FILES with these bytes, if they are known
+abbrev pub ChartsFiles : (words : List (List ℕ)) → Window → (recording certificate : Option (List ℕ)) → Result (Product PictureTexts) Fault → Type 0
 ChartsFiles words window recording certificate charted =
-    (bytes : List ℕ) × Has recording bytes
-    × ((text : List ℕ) × Has certificate text
-    × Charts words window (recording_at LARGEST_RECORDING bytes) (certificate_at LARGEST_CERTIFICATE text) charted)
+    (out : Stream) × SaysOfBoth (λ r steps charted out. Charts words window r steps charted) recording certificate charted out
 
-abbrev pub MakesChart : Charted → (force : Bool) → (name : List ℕ) → List Deed → Answered → (out : Stream) → Type 0
-MakesChart (Drawn texts) force name deeds answered out = MakesFile (PutsBoth (string_bytes texts.picture) (string_bytes texts.line)) force name deeds answered out
-MakesChart (Refused line) force name deeds answered out = (deeds ≡ []) × PutsBlocked (string_bytes line) answered out
+-- the file of a picture: the picture, and then its line, with status 0
+abbrev pub PutsPicture : PictureTexts → Answered → (file out : Stream) → Type 0
+PutsPicture texts = PutsBoth (string_bytes texts.picture) (string_bytes texts.line)
 
 -- ---- the words
 
@@ -155,8 +131,8 @@ abbrev pub of_chart : ChartFault → Fault
 of_chart charts.OverLimit = ChartOverLimit
 of_chart charts.Memory = Memory
 
--- WHAT `chart` DOES: the first bad word is reported, with nothing opened; or both files are opened in their order, neither of which is the one to be made, before either is read
+-- WHAT `chart` DOES: the first bad word is reported, with nothing opened; or both files are opened in their order, neither of which is the one to be made, before either is read; for a good certificate the picture is made, for another no file, and the line of its first bad step is written, with status 1
 abbrev pub ChartsNamed : (recording certificate picture : List ℕ) → (words : List (List ℕ)) → (force : Bool) → List Deed → Answered → Stream → Type 0
 ChartsNamed recording certificate picture words force deeds answered out =
     ((word : List ℕ) × (fault : Fault) × (window_of words ≡ Err word) × IsFilterFault word fault × (deeds ≡ []) × (answered ≡ Err fault) × Keeps out.old out.new)
-    ⊎ ((window : Window) × (window_of words ≡ Ok window) × WorksOnBoth (ChartsFiles words window) MakesChart force recording certificate picture deeds answered out)
+    ⊎ ((window : Window) × (window_of words ≡ Ok window) × MakesOfFiles (ChartsFiles words window) (MakesProduct PutsPicture) force recording certificate picture deeds answered out)

@@ -1,5 +1,5 @@
 -- The words that select the steps of a picture: from=STEP and to=STEP (profile).
-use Rattle.std.specs.Prelude.{◌≡◌, ℕ, ◌+◌, List, [], ◌∷◌, codes, min, Bool, true, false, nat_le, nat_lt, Option, Some, None, is_some, option_map, Result, Ok, Err, if◌then◌else◌}
+use Rattle.std.specs.Prelude.{◌≡◌, ℕ, ◌+◌, List, [], ◌∷◌, codes, min, Bool, false, nat_le, nat_lt, Option, Some, None, is_some, option_map, Result, Ok, Err, if◌then◌else◌}
 use Rattle.std.specs.Option.{option_map_or}
 use Rattle.std.specs.Str.{bytes_eq}
 use Rattle.exercise_chart.specs.declared.point.Rows.{Rows}

@@ -17,11 +17,9 @@ use Rattle.exercise_check.specs.Goodness.{IsGood, Refuses}
 use Rattle.siman_outside.specs.declared.files_fault.FilesFault.{FilesFault}
 use Rattle.siman_outside.specs.declared.files_fault.FilesFault.TheVariants.{Recording, Certificate, Write, Memory}
 use Rattle.siman_outside.specs.declared.fault.Fault.{Fault}
+use Rattle.siman_outside.specs.declared.fault.Fault.TheVariants as faults
 use Rattle.siman_outside.specs.Ending.{EndsWith, of_files}
-use Rattle.siman_outside.specs.declared.limits.TheConstants.{LARGEST_CERTIFICATE, LARGEST_RECORDING}
-use Rattle.exercise_recording.specs.Reading.{recording_at}
-use Rattle.exercise_check.specs.Certificate.{certificate_at}
-use Rattle.siman_outside.specs.Outside.{Has, Stream}
+use Rattle.siman_outside.specs.Outside.{Stream}
 use Rattle.siman_outside.specs.Recorded.{Recorded, Certified}
 use Rattle.exercise_check.specs.Report.{report_text, no_text}
 
@@ -99,11 +97,16 @@ abbrev pub GivesCheck : Recorded → Certified → (answered : Result ℕ Fault)
 GivesCheck recorded certified answered old new =
     (judged : Result Bool FilesFault) × Judges recorded certified judged old new × (answered ≡ judged_status judged)
 
--- THE ANSWER OF `check` for two files with these bytes, if they are known
-abbrev pub ChecksFiles : (recording certificate : Option (List ℕ)) → Result ℕ Fault → (out : Stream) → Type 0
-ChecksFiles recording certificate answered out =
-    (bytes : List ℕ) × Has recording bytes
-    × ((text : List ℕ) × Has certificate text × GivesCheck (recording_at LARGEST_RECORDING bytes) (certificate_at LARGEST_CERTIFICATE text) answered out.old out.new)
+-- THE ANSWER OF `check` for a recording and the steps of a certificate
+abbrev pub ChecksCertificate : PlainRecording → List Step → Result ℕ Fault → (out : Stream) → Type 0
+ChecksCertificate r steps answered out = GivesCheck (Ok r) (Ok steps) answered out.old out.new
+
+-- the fault of a judgement, for the fault of a command
+abbrev pub files_fault : Fault → FilesFault
+files_fault (faults.Recording fault) = Recording fault
+files_fault (faults.Certificate fault) = Certificate fault
+files_fault faults.Output = Write
+files_fault fault = Memory
 
 -- HOW `check` ENDS: its answer is on the output, and its status and fault are those of the answer
 abbrev pub EndsCheck : Recorded → Certified → (status : ℕ) → (old new : Option (List ℕ)) → (errors_old errors_new : Option (List ℕ)) → Type 0

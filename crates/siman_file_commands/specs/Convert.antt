@@ -1,5 +1,5 @@
 -- What `convert` makes of a recording, and its ending.
-use Rattle.std.specs.Prelude.{◌≡◌, ◌⊎◌, ℕ, Bool, List, length, codes, Option, Result, Ok, Err, string_bytes}
+use Rattle.std.specs.Prelude.{◌≡◌, ◌⊎◌, ℕ, List, length, codes, Option, Result, Ok, Err, string_bytes}
 use Rattle.exercise_model.specs.Recording.{PlainRecording}
 use Rattle.exercise_model.specs.Conversion.{converted}
 use Rattle.exercise_recording.specs.Text.{recording_text}
@@ -11,8 +11,10 @@ use Rattle.siman_outside.specs.Recorded.{Recorded, IsUnsearched}
 use Rattle.siman_print.specs.CountLine.{counted}
 use Rattle.siman_file_commands.specs.declared.convert.TheConstants.{LARGEST_OLD_RECORDING}
 use Rattle.exercise_recording.specs.Reading.{recording_at}
-use Rattle.siman_outside.specs.Outside.{Has, Stream, Deed}
-use Rattle.siman_outside.specs.Making.{MakesFile, PutsBoth}
+use Rattle.siman_outside.specs.declared.product.Product.{Product}
+use Rattle.siman_outside.specs.declared.product.Product.TheVariants.{File, Nothing}
+use Rattle.siman_outside.specs.Outside.{Given, Stream}
+use Rattle.siman_outside.specs.Making.{PutsBoth}
 use Rattle.siman_print.specs.Spelled.{line_text}
 
 -- the line `converted records=N`
@@ -33,9 +35,12 @@ abbrev pub Carries : Recorded → Result Carried Fault → Type 0
 Carries recorded (Ok carried) = (r : PlainRecording) × IsOld recorded r × CarriesTexts r carried.conversion.text (string_bytes carried.line)
 Carries recorded (Err fault) = IsUncarried recorded fault
 
--- THE RESULT OF A FILE for `convert` with these bytes, if they are known, and the file made of it: the text of the conversion, whole, and then the line, with status 0
-abbrev pub CarriesFile : (known : Option (List ℕ)) → Result Carried Fault → Type 0
-CarriesFile known carried = (bytes : List ℕ) × Has known bytes × Carries (recording_at LARGEST_OLD_RECORDING bytes) carried
+-- THE RESULT FOR A FILE with these bytes, if they are known: the conversion
+abbrev pub CarriesFile : (known : Option (List ℕ)) → Result (Product Carried) Fault → Type 0
+CarriesFile known (Ok (File carried)) = Given known (λ bytes. Carries (recording_at LARGEST_OLD_RECORDING bytes) (Ok carried))
+CarriesFile known (Ok (Nothing text)) = ⊥
+CarriesFile known (Err fault) = Given known (λ bytes. Carries (recording_at LARGEST_OLD_RECORDING bytes) (Err fault))
 
-abbrev pub MakesConverted : Carried → (force : Bool) → (name : List ℕ) → List Deed → Result ℕ Fault → (out : Stream) → Type 0
-MakesConverted carried force name = MakesFile (PutsBoth carried.conversion.text (string_bytes carried.line)) force name
+-- the file of a conversion: its text, whole, and then the line, with status 0
+abbrev pub PutsConverted : Carried → Result ℕ Fault → (file out : Stream) → Type 0
+PutsConverted carried = PutsBoth carried.conversion.text (string_bytes carried.line)

@@ -24,7 +24,7 @@ use Rattle.siman_file_commands.specs.declared.join.OpenPiece.{OpenPiece}
 use Rattle.siman_outside.specs.declared.limits.TheConstants.{LARGEST_RECORDING}
 use Rattle.siman_outside.specs.Ending.{fault_text}
 use Rattle.siman_outside.specs.Making.{Answered, MakesFile, PutsBoth}
-use Rattle.siman_outside.specs.Opening.{OpensInput, Spares, looks_into}
+use Rattle.siman_outside.specs.Opening.{OpensInput, OpensSparing}
 use Rattle.siman_outside.specs.Outside.{Has, Stream, Deed, Opens, Compares, Reads}
 
 -- the form that the words ask for, if they do
@@ -70,13 +70,8 @@ pub record Seen : Type 0 where
 abbrev pub seen_by : {F : Type 0} → (F → Option (List ℕ)) → OpenPiece F → Seen
 seen_by bytes piece = record { name = piece.name.now; bytes = bytes piece.file }
 
--- the opened pieces, or the fault of one that was not opened
-abbrev pub Opening : Type 0
-Opening = Result (List Seen) Fault
-
-abbrev pub opened_by : {F : Type 0} → (F → Option (List ℕ)) → Result (Vec (OpenPiece F) Global) Fault → Opening
-opened_by bytes (Ok pieces) = Ok (map (seen_by bytes) pieces.items)
-opened_by bytes (Err fault) = Err fault
+abbrev pub all_seen : {F : Type 0} → (F → Option (List ℕ)) → Vec (OpenPiece F) Global → List Seen
+all_seen bytes pieces = map (seen_by bytes) pieces.items
 
 -- the calls for one piece, which is not the file to be made
 abbrev pub opening_deeds : (made : List ℕ) → Seen → List Deed
@@ -89,20 +84,15 @@ StopsAt left made deeds fault =
     ⊎ ((name : List ℕ) × (more : List (List ℕ)) × (left ≡ name ∷ more) × OpensInput name made deeds (Err fault))
 
 -- PIECES ARE OPENED in the order of the words, none of which is the file to be made; or some are, up to a fault
-abbrev pub OpensPieces : (names : List (List ℕ)) → (made : List ℕ) → List Deed → Opening → Type 0
+abbrev pub OpensPieces : (names : List (List ℕ)) → (made : List ℕ) → List Deed → Result (List Seen) Fault → Type 0
 OpensPieces names made deeds (Ok pieces) = (names ≡ map (λ (piece : Seen). piece.name) pieces) × (deeds ≡ flat_map (opening_deeds made) pieces)
 OpensPieces names made deeds (Err fault) =
     (pieces : List Seen) × (left : List (List ℕ)) × (last : List Deed) × (names ≡ map (λ (piece : Seen). piece.name) pieces ++ left)
     × (deeds ≡ flat_map (opening_deeds made) pieces ++ last) × StopsAt left made last fault
 
 -- PIECES ARE OPENED, and the name of the file to be made has no file to replace, or `force` is set
-abbrev pub OpensPiecesSpared : (names : List (List ℕ)) → (force : Bool) → (made : List ℕ) → List Deed → Opening → Type 0
-OpensPiecesSpared names force made deeds (Ok pieces) =
-    (names ≡ map (λ (piece : Seen). piece.name) pieces) × (deeds ≡ flat_map (opening_deeds made) pieces ++ looks_into force made)
-OpensPiecesSpared names force made deeds (Err fault) =
-    OpensPieces names made deeds (Err fault)
-    ⊎ ((pieces : List Seen) × (last : List Deed) × (names ≡ map (λ (piece : Seen). piece.name) pieces) × (deeds ≡ flat_map (opening_deeds made) pieces ++ last)
-    × Spares force made last (Err fault))
+abbrev pub OpensPiecesSpared : (names : List (List ℕ)) → (force : Bool) → (made : List ℕ) → List Deed → Result (List Seen) Fault → Type 0
+OpensPiecesSpared names force made = OpensSparing (OpensPieces names made) force made
 
 -- ---- reading
 

@@ -1,5 +1,5 @@
 -- What `mend` makes of a recording, and its ending.
-use Rattle.std.specs.Prelude.{◌≡◌, ◌⊎◌, ℕ, Bool, List, [], ◌∷◌, codes, Option, Some, None, Result, Ok, Err, string_bytes}
+use Rattle.std.specs.Prelude.{◌≡◌, ◌⊎◌, ℕ, List, [], ◌∷◌, codes, Option, Some, None, Result, Ok, Err, string_bytes}
 use Rattle.exercise_recording.specs.declared.format_fault.FormatFault.{FormatFault}
 use Rattle.exercise_recording.specs.declared.format_fault.RecordingFault.TheVariants as recordings
 use Rattle.exercise_recording.specs.declared.mending.Mended.{Mended}
@@ -13,8 +13,10 @@ use Rattle.siman_outside.specs.declared.fault.Fault.TheVariants.{Recording, Memo
 use Rattle.siman_file_commands.specs.declared.mend.MendedFile.{MendedFile}
 use Rattle.siman_file_commands.specs.declared.mend.TheConstants.{LARGEST_TORN_RECORDING}
 use Rattle.siman_print.specs.CountLine.{counted}
-use Rattle.siman_outside.specs.Making.{MakesFile, PutsBoth}
-use Rattle.siman_outside.specs.Outside.{Has, Stream, Deed}
+use Rattle.siman_outside.specs.declared.product.Product.{Product}
+use Rattle.siman_outside.specs.declared.product.Product.TheVariants.{File, Nothing}
+use Rattle.siman_outside.specs.Making.{PutsBoth}
+use Rattle.siman_outside.specs.Outside.{Given, Stream}
 
 -- the line `mended records=N kept=N FAULT`
 abbrev pub torn_line : Mended → FormatFault → Line
@@ -47,9 +49,12 @@ abbrev pub Mends : Result Whole FormatFault → Result MendedFile Fault → Type
 Mends given (Ok mended) = (whole : Whole) × (given ≡ Ok whole) × MendsTexts whole mended.mending.text (string_bytes mended.line)
 Mends given (Err fault) = IsUnmended given fault
 
--- THE RESULT OF A FILE for `mend` with these bytes, if they are known, and the file made of it: the text of the whole part, and then the line, with status 0
-abbrev pub MendsFile : (known : Option (List ℕ)) → Result MendedFile Fault → Type 0
-MendsFile known mended = (bytes : List ℕ) × Has known bytes × Mends (mended_at LARGEST_TORN_RECORDING bytes) mended
+-- THE RESULT FOR A FILE with these bytes, if they are known: its whole part
+abbrev pub MendsFile : (known : Option (List ℕ)) → Result (Product MendedFile) Fault → Type 0
+MendsFile known (Ok (File mended)) = Given known (λ bytes. Mends (mended_at LARGEST_TORN_RECORDING bytes) (Ok mended))
+MendsFile known (Ok (Nothing text)) = ⊥
+MendsFile known (Err fault) = Given known (λ bytes. Mends (mended_at LARGEST_TORN_RECORDING bytes) (Err fault))
 
-abbrev pub MakesMended : MendedFile → (force : Bool) → (name : List ℕ) → List Deed → Result ℕ Fault → (out : Stream) → Type 0
-MakesMended mended force name = MakesFile (PutsBoth mended.mending.text (string_bytes mended.line)) force name
+-- the file of the whole part: its text, and then the line, with status 0
+abbrev pub PutsMended : MendedFile → Result ℕ Fault → (file out : Stream) → Type 0
+PutsMended mended = PutsBoth mended.mending.text (string_bytes mended.line)

@@ -1,12 +1,10 @@
 -- The output of `show` for a recording, and its ending.
-use Rattle.std.specs.Prelude.{◌≡◌, ℕ, List, Option, Result}
+use Rattle.std.specs.Prelude.{◌≡◌, ℕ, List, Option, Result, Ok}
 use Rattle.exercise_recording.specs.declared.format_fault.FormatFault.{FormatFault}
 use Rattle.exercise_model.specs.Recording.{PlainRecording}
 use Rattle.siman_outside.specs.declared.fault.Fault.{Fault}
-use Rattle.siman_outside.specs.declared.limits.TheConstants.{LARGEST_RECORDING}
-use Rattle.exercise_recording.specs.Reading.{recording_at}
 use Rattle.siman_outside.specs.Ending.{EndsWith}
-use Rattle.siman_outside.specs.Outside.{Has, Stream}
+use Rattle.siman_outside.specs.Outside.{Stream}
 use Rattle.siman_outside.specs.Passing.{Gives, shown_status}
 use Rattle.siman_print.specs.EntryLines.{show_text}
 
@@ -18,9 +16,9 @@ Shows recorded shown old new = Gives show_text recorded shown old new
 abbrev pub GivesShow : Result PlainRecording FormatFault → (answered : Result ℕ Fault) → (old new : Option (List ℕ)) → Type 0
 GivesShow recorded answered old new = (shown : Result (Unit {0}) Fault) × Shows recorded shown old new × (answered ≡ shown_status shown)
 
--- THE ANSWER OF `show` for a file with these bytes, if they are known
-abbrev pub ShowsFile : (known : Option (List ℕ)) → Result ℕ Fault → (out : Stream) → Type 0
-ShowsFile known answered out = (bytes : List ℕ) × Has known bytes × GivesShow (recording_at LARGEST_RECORDING bytes) answered out.old out.new
+-- THE ANSWER OF `show` for a recording
+abbrev pub ShowsRecording : PlainRecording → Result ℕ Fault → (out : Stream) → Type 0
+ShowsRecording r answered out = GivesShow (Ok r) answered out.old out.new
 
 -- HOW `show` ENDS: its answer is on the output, and its status and fault are those of the answer
 abbrev pub EndsShow : Result PlainRecording FormatFault → (status : ℕ) → (old new : Option (List ℕ)) → (errors_old errors_new : Option (List ℕ)) → Type 0

@@ -6,15 +6,12 @@ ghost use Rattle.siman_outside.specs.declared.limits.TheConstants.{LARGEST_CERTI
 ghost use Rattle.exercise_recording.specs.Reading.{recording_at};
 ghost use Rattle.exercise_check.specs.Certificate.{certificate_at};
 ghost use Rattle.siman_outside.specs.Outside.{Has};
-ghost use Rattle.siman_file_commands.specs.Check.{Judges, judged_status, EndsCheck};
+ghost use Rattle.siman_file_commands.specs.Check.{Judges, judged_status, files_fault, EndsCheck};
 
 use byte_files::put;
-use exercise_check::{Certificate, CheckFault, check, fetch_certificate, no_line, report_text};
+use exercise_check::{Certificate, CheckFault, check, no_line, report_text};
 use exercise_model::ExerciseLog;
-use exercise_recording::{RecordingView, fetch_recording};
-use siman_outside::{
-    Fault, FilesFault, LARGEST_CERTIFICATE, LARGEST_RECORDING, Notes, OfFiles, end,
-};
+use siman_outside::{Fault, FilesFault, Notes, OfCertificate, end, say_of_certificate};
 use std::alloc::Global;
 use std::io::{Read, Write};
 
@@ -36,40 +33,11 @@ pub fn check_files<R: Read + Drop, C: Read + Drop, W: Write>(
         × ((text : List ℕ) × Has (C.remaining certificate) text
         × Judges (recording_at LARGEST_RECORDING bytes) (certificate_at LARGEST_CERTIFICATE text) result (W.contents out.old) (W.contents out.new)) }
 {
-    check_noting(alloc, recording, certificate, out, &mut Notes::nothing())
-}
-
-/// As [`check_files`], and notes warnings.
-fn check_noting<R: Read + Drop, C: Read + Drop, W: Write>(
-    alloc: Global,
-    recording: R,
-    certificate: C,
-    out: &mut W,
-    notes: &mut Notes,
-) -> Result<bool, FilesFault>
-    ensures { (bytes : List ℕ) × Has (R.remaining recording) bytes
-        × ((text : List ℕ) × Has (C.remaining certificate) text
-        × Judges (recording_at LARGEST_RECORDING bytes) (certificate_at LARGEST_CERTIFICATE text) result (W.contents out.old) (W.contents out.new)) }
-{
-    let bytes = fetch_recording(alloc, recording, LARGEST_RECORDING)?;
-    check_bytes(alloc, &bytes, certificate, out, notes)
-}
-
-/// As [`check_files`], with the recording of a file's bytes.
-fn check_bytes<C: Read + Drop, W: Write>(
-    alloc: Global,
-    bytes: &[u8],
-    certificate: C,
-    out: &mut W,
-    notes: &mut Notes,
-) -> Result<bool, FilesFault>
-    ensures { (text : List ℕ) × Has (C.remaining certificate) text
-        × Judges (recording_at LARGEST_RECORDING bytes.now) (certificate_at LARGEST_CERTIFICATE text) result (W.contents out.old) (W.contents out.new) }
-{
-    let log = RecordingView::over_limited(alloc, bytes, LARGEST_RECORDING)?;
-    notes.note_recording(&log);
-    let certificate = fetch_certificate(alloc, certificate, LARGEST_CERTIFICATE)?;
-    judge(alloc, &log, certificate, out)
+    let notes = &mut Notes::nothing();
+    match say_of_certificate(alloc, CheckCommand, recording, certificate, out, notes) {
+        Ok(status) => Ok(status == 0),
+        Err(fault) => Err(files_fault(fault)),
+    }
 }
 
 /// As [`check_files`], with an exit status and a fault's line on `errors`: 0 is a yes, 1 a no, 2 a
@@ -89,30 +57,29 @@ pub fn check_command<R: Read + Drop, C: Read + Drop, W: Write, E: Write>(
     ensures silent { result ≤ 1 → Keeps (E.contents errors.old) (E.contents errors.new) }
 {
     let notes = &mut Notes::nothing();
-    end(
-        CheckCommand.say(alloc, recording, certificate, out, notes),
-        errors,
-    )
-    .status
+    let judged = say_of_certificate(alloc, CheckCommand, recording, certificate, out, notes);
+    end(judged, errors).status
 }
 
-/// The command `check`, which judges the recording of one file by the certificate of another.
+/// The command `check`, which judges a recording by a certificate.
+#[derive(Drop)]
 pub struct CheckCommand;
 
-impl OfFiles for CheckCommand {
-    ghost use Rattle.siman_file_commands.specs.Check.{ChecksFiles};
+impl<'a> OfCertificate<'a> for CheckCommand {
+    ghost use Rattle.siman_file_commands.specs.Check.{ChecksCertificate};
 
-    ghost says = { λ _. ChecksFiles };
+    type Answer = u8;
 
-    fn say<R: Read + Drop, S: Read + Drop, W: Write>(
-        &self,
+    ghost says = { λ _. ChecksCertificate };
+
+    fn say<L: ExerciseLog, W: Write>(
+        self,
         alloc: Global,
-        first: R,
-        second: S,
+        log: &L,
+        certificate: Certificate,
         out: &mut W,
-        notes: &mut Notes,
-    ) -> Result<u8, Fault<'static>> {
-        status_of(check_noting(alloc, first, second, out, notes))
+    ) -> Result<u8, Fault<'a>> {
+        status_of(judge(alloc, log, certificate, out))
     }
 }
 
@@ -156,5 +123,17 @@ fn status_of(judged: Result<bool, FilesFault>) -> Result<u8, Fault<'static>>
         Ok(true) => Ok(0),
         Ok(false) => Ok(1),
         Err(fault) => Err(Fault::from(fault)),
+    }
+}
+
+/// The fault of a certificate that was not judged, as [`check_files`] returns it.
+fn files_fault(fault: Fault<'static>) -> FilesFault
+    ensures { result ≡ files_fault fault.entry }
+{
+    match fault {
+        Fault::Recording(fault) => FilesFault::Recording(fault),
+        Fault::Certificate(fault) => FilesFault::Certificate(fault),
+        Fault::Output => FilesFault::Write,
+        _ => FilesFault::Memory,
     }
 }

@@ -7,7 +7,7 @@ ghost use Rattle.siman_outside.specs.Outside.{Has};
 ghost use Rattle.siman_file_commands.specs.Convert.{Carries};
 
 use exercise_recording::Conversion;
-use siman_outside::{Fault, Making, Notes, Outside, Product, flush_and_print, make_file};
+use siman_outside::{Fault, Making, Notes, OfFile, Product, put_settled};
 use siman_print::counted;
 use std::alloc::Global;
 use std::io::{Read, Write};
@@ -35,10 +35,9 @@ fn carry<R: Read + Drop>(alloc: Global, old: R) -> Result<Carried, Fault<'static
 
 /// The file of a recording in the second format.
 impl Making for Carried {
-    ghost use Rattle.std.specs.Prelude.{string_bytes};
-    ghost use Rattle.siman_outside.specs.Making.{PutsBoth};
+    ghost use Rattle.siman_file_commands.specs.Convert.{PutsConverted};
 
-    ghost puts = { λ carried. PutsBoth carried.conversion.text (string_bytes carried.line) };
+    ghost puts = { PutsConverted };
 
     fn put<F: Write, W: Write>(
         &self,
@@ -46,40 +45,33 @@ impl Making for Carried {
         file: &mut F,
         out: &mut W,
     ) -> Result<u8, Fault<'static>> {
-        if self.conversion.write(file).is_err() {
-            return Err(Fault::Output);
-        }
-        match flush_and_print(file, &self.line, out) {
-            Ok(()) => Ok(0),
-            Err(fault) => Err(fault),
+        match self.conversion.write(file) {
+            Ok(()) => put_settled(file, &self.line, out),
+            Err(_) => Err(Fault::Output),
         }
     }
 }
 
-/// The file of a conversion, made from a recording.
-impl Product for Carried {
-    ghost use Rattle.siman_file_commands.specs.Convert.{CarriesFile, MakesConverted};
+/// The command `convert`, which makes a recording of the second format of one of the first.
+#[derive(Drop)]
+pub struct ConvertCommand;
 
-    ghost reads = { CarriesFile };
+impl OfFile for ConvertCommand {
+    ghost use Rattle.siman_file_commands.specs.Convert.{CarriesFile};
 
-    ghost makes = { MakesConverted };
+    type Made = Carried;
+
+    ghost reads = { λ _. CarriesFile };
 
     fn read<R: Read + Drop>(
+        self,
         alloc: Global,
         file: R,
         _notes: &mut Notes,
-    ) -> Result<Carried, Fault<'static>> {
-        carry(alloc, file)
-    }
-
-    fn make<O: Outside, W: Write>(
-        self,
-        alloc: Global,
-        name: &str,
-        force: bool,
-        outside: &mut O,
-        out: &mut W,
-    ) -> Result<u8, Fault<'static>> {
-        make_file(alloc, &self, name, force, outside, out)
+    ) -> Result<Product<Carried>, Fault<'static>> {
+        match carry(alloc, file) {
+            Ok(carried) => Ok(Product::File(carried)),
+            Err(fault) => Err(fault),
+        }
     }
 }

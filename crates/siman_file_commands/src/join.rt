@@ -1,15 +1,15 @@
 //! The command `join`: puts pieces of a recording together.
 
-ghost use Rattle.std.specs.Prelude.{◌≡◌, ℕ, List, Option, IfOk, map, string_bytes};
-ghost use Rattle.std.specs.List.{All};
-ghost use Rattle.siman_outside.specs.Outside.{Deed, Found, Adds, WasHeld, Stream};
-ghost use Rattle.siman_file_commands.specs.Join.{word_of, opened_by, seen_by, form_word, joined_text, IsJoinFault, OpensPieces, OpensPiecesSpared, TakesPiece, ReadsPieces, Gives, ReadsAndGives, JoinsPieces};
+ghost use Rattle.std.specs.Prelude.{◌≡◌, Option, IfOk, map, string_bytes};
+ghost use Rattle.siman_outside.specs.Opening.{seen_as};
+ghost use Rattle.siman_outside.specs.Outside.{Did, DidMake, stream};
+ghost use Rattle.siman_file_commands.specs.Join.{word_of, all_seen, seen_by, form_word, joined_text, IsJoinFault, OpensPieces, TakesPiece, ReadsPieces, Gives, ReadsAndGives, JoinsPieces};
 
 use exercise_model::Form;
 use exercise_recording::{FormWord, JoinFault, Joined, Joining, Joint};
 use siman_outside::{
-    Fault, JoinForm, JoinLimit, LARGEST_RECORDING, Making, Outside, flush_and_print, make_file,
-    open_input, spare,
+    Fault, JoinForm, JoinLimit, LARGEST_RECORDING, Making, Outside, if_free, make_file, open_input,
+    put_settled,
 };
 use siman_print::{Field, Value, named_line};
 use std::alloc::{AllocError, Global};
@@ -90,7 +90,7 @@ fn open_pieces<'a, S: AsStr, O: Outside>(
     new: &'a str,
     outside: &mut O,
 ) -> Result<Vec<OpenPiece<'a, O::Opened>>, Fault<'a>>
-    ensures { (deeds : List Deed) × Adds (O.deeds outside.old) (O.deeds outside.new) deeds × All (WasHeld (O.holds outside.old)) deeds × OpensPieces (map S.text names.now) new.now deeds (opened_by O.bytes result) }
+    ensures { Did O.deeds O.holds outside.old outside.new (λ deeds. OpensPieces (map S.text names.now) new.now deeds (seen_as (all_seen O.bytes) result)) }
 {
     let mut pieces = Vec::new(alloc);
     for name in names {
@@ -104,22 +104,6 @@ fn open_pieces<'a, S: AsStr, O: Outside>(
     Ok(pieces)
 }
 
-/// Opens pieces as [`open_pieces`] does; `Exists` if the name of the file to be made has a file to
-/// replace, unless `force` is set.
-fn open_input_if_free<'a, S: AsStr, O: Outside>(
-    alloc: Global,
-    names: &'a [S],
-    new: &'a str,
-    force: bool,
-    outside: &mut O,
-) -> Result<Vec<OpenPiece<'a, O::Opened>>, Fault<'a>>
-    ensures { (deeds : List Deed) × Adds (O.deeds outside.old) (O.deeds outside.new) deeds × All (WasHeld (O.holds outside.old)) deeds × OpensPiecesSpared (map S.text names.now) force new.now deeds (opened_by O.bytes result) }
-{
-    let pieces = open_pieces(alloc, names, new, outside)?;
-    spare(new, force, outside)?;
-    Ok(pieces)
-}
-
 /// Reads an opened piece and appends it to the others.
 fn take_piece<'a, O: Outside>(
     alloc: Global,
@@ -127,7 +111,7 @@ fn take_piece<'a, O: Outside>(
     piece: OpenPiece<'a, O::Opened>,
     outside: &mut O,
 ) -> Result<(), Fault<'a>>
-    ensures { (deeds : List Deed) × Adds (O.deeds outside.old) (O.deeds outside.new) deeds × ((holds : List ℕ → Option Found) → All (WasHeld holds) deeds) × TakesPiece (seen_by O.bytes piece.entry) joining.old deeds result joining.new }
+    ensures { DidMake O.deeds outside.old outside.new (λ deeds. TakesPiece (seen_by O.bytes piece.entry) joining.old deeds result joining.new) }
 {
     let file = outside.read(piece.file);
     match joining.add(alloc, file, LARGEST_RECORDING) {
@@ -143,7 +127,7 @@ fn read_pieces<'a, O: Outside>(
     pieces: Vec<OpenPiece<'a, O::Opened>>,
     outside: &mut O,
 ) -> Result<Joining, Fault<'a>>
-    ensures { (deeds : List Deed) × Adds (O.deeds outside.old) (O.deeds outside.new) deeds × ((holds : List ℕ → Option Found) → All (WasHeld holds) deeds) × ReadsPieces word (map (seen_by O.bytes) pieces.entry.items) deeds result }
+    ensures { DidMake O.deeds outside.old outside.new (λ deeds. ReadsPieces word (map (seen_by O.bytes) pieces.entry.items) deeds result) }
 {
     let mut pieces = pieces;
     let mut joining = Joining::start(alloc, word);
@@ -179,12 +163,9 @@ impl Making for JoinedFile {
         file: &mut F,
         out: &mut W,
     ) -> Result<u8, Fault<'static>> {
-        if self.joint.write(file).is_err() {
-            return Err(Fault::Output);
-        }
-        match flush_and_print(file, &self.line, out) {
-            Ok(()) => Ok(0),
-            Err(fault) => Err(fault),
+        match self.joint.write(file) {
+            Ok(()) => put_settled(file, &self.line, out),
+            Err(_) => Err(Fault::Output),
         }
     }
 }
@@ -196,7 +177,7 @@ fn read_and_give<'a, O: Outside>(
     pieces: Vec<OpenPiece<'a, O::Opened>>,
     outside: &mut O,
 ) -> Result<JoinedFile, Fault<'a>>
-    ensures { (deeds : List Deed) × Adds (O.deeds outside.old) (O.deeds outside.new) deeds × ((holds : List ℕ → Option Found) → All (WasHeld holds) deeds) × ReadsAndGives word (map (seen_by O.bytes) pieces.entry.items) deeds result }
+    ensures { DidMake O.deeds outside.old outside.new (λ deeds. ReadsAndGives word (map (seen_by O.bytes) pieces.entry.items) deeds result) }
 {
     let joining = read_pieces(alloc, word, pieces, outside)?;
     give(alloc, joining)
@@ -214,10 +195,10 @@ pub fn join_pieces<'a, S: AsStr, O: Outside, W: Write>(
     outside: &mut O,
     out: &mut W,
 ) -> Result<u8, Fault<'a>>
-    ensures { let out : Stream = record { old = W.contents out.old; new = W.contents out.new } in
-        (deeds : List Deed) × Adds (O.deeds outside.old) (O.deeds outside.new) deeds × All (WasHeld (O.holds outside.old)) deeds × JoinsPieces (map S.text names.now) force new.now word deeds result out }
+    ensures { Did O.deeds O.holds outside.old outside.new (λ deeds. JoinsPieces (map S.text names.now) force new.now word deeds result (stream (W.contents out.old) (W.contents out.new))) }
 {
-    let pieces = open_input_if_free(alloc, names, new, force, outside)?;
+    let opened = open_pieces(alloc, names, new, outside);
+    let pieces = if_free(opened, new, force, outside)?;
     let joined = read_and_give(alloc, word, pieces, outside)?;
     make_file(alloc, &joined, new, force, outside, out)
 }

@@ -1,14 +1,15 @@
 //! The commands over datagrams in hex text, `pdu` and `pdus`, and those over files of recordings
 //! that search for nothing: `show`, `check`, `convert`, `mend`, `join` and `chart`. Over readers
 //! and writers there are [`pdu_command`], [`pdus_command`], [`show_command`], [`check_command`] and
-//! [`check_files`]; [`Carried`], [`MendedFile`] and [`join_pieces`] make the files of `convert`,
-//! `mend` and `join` over a `siman_outside::Outside`, and [`chart_named`] the picture of `chart`,
-//! which is that of `exercise_chart`.
+//! [`check_files`]. `siman_outside` runs [`ShowCommand`], [`CheckCommand`], [`ConvertCommand`] and
+//! [`MendCommand`] on the names of files; [`join_pieces`] and [`chart_named`] make the files of
+//! `join` and of `chart`, whose picture is that of `exercise_chart`.
 //!
 //! It opens no file itself and ends no process.
 //!
 //! The layer above may use its contracts on the status and the bytes of the answer: `EndsPdu`,
-//! `EndsLines`, `EndsShow`, `EndsCheck`, `Carries`, `Mends`, `JoinsPieces` and `ChartsNamed`.
+//! `EndsLines`, `EndsShow`, `EndsCheck`, `CarriesFile`, `MendsFile`, `JoinsPieces` and
+//! `ChartsNamed`.
 #![tactic(auto)]
 
 mod answer;
@@ -25,11 +26,11 @@ mod pdus;
 mod show;
 
 pub use answer::answers_follow_the_grammar;
-pub use chart::chart_named;
+pub use chart::{PictureTexts, chart_named};
 pub use check::{CheckCommand, check_command, check_files};
-pub use convert::{Carried, LARGEST_OLD_RECORDING};
+pub use convert::{Carried, ConvertCommand, LARGEST_OLD_RECORDING};
 pub use join::{join_pieces, word_of};
-pub use mend::MendedFile;
+pub use mend::{MendCommand, MendedFile};
 pub use pdu::{pdu_command, show_word};
 pub use pdus::{end_lines, pdus_command};
 pub use show::{ShowCommand, show_command};

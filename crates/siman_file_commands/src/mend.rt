@@ -8,7 +8,7 @@ ghost use Rattle.siman_file_commands.specs.Mend.{torn_line, mended_text, Mends};
 ghost use Rattle.siman_print.specs.Spelled.{line_text};
 
 use exercise_recording::{FormatFault, Mended, Mending};
-use siman_outside::{Fault, Making, Notes, Outside, Product, flush_and_print, make_file};
+use siman_outside::{Fault, Making, Notes, OfFile, Product, put_settled};
 use siman_print::{Field, Value, counted, named_line};
 use std::alloc::{AllocError, Global};
 use std::io::{Read, Write};
@@ -58,10 +58,9 @@ fn read_torn<R: Read + Drop>(alloc: Global, old: R) -> Result<MendedFile, Fault<
 
 /// The file of the whole part of a recording.
 impl Making for MendedFile {
-    ghost use Rattle.std.specs.Prelude.{string_bytes};
-    ghost use Rattle.siman_outside.specs.Making.{PutsBoth};
+    ghost use Rattle.siman_file_commands.specs.Mend.{PutsMended};
 
-    ghost puts = { λ mended. PutsBoth mended.mending.text (string_bytes mended.line) };
+    ghost puts = { PutsMended };
 
     fn put<F: Write, W: Write>(
         &self,
@@ -69,40 +68,33 @@ impl Making for MendedFile {
         file: &mut F,
         out: &mut W,
     ) -> Result<u8, Fault<'static>> {
-        if self.mending.write(file).is_err() {
-            return Err(Fault::Output);
-        }
-        match flush_and_print(file, &self.line, out) {
-            Ok(()) => Ok(0),
-            Err(fault) => Err(fault),
+        match self.mending.write(file) {
+            Ok(()) => put_settled(file, &self.line, out),
+            Err(_) => Err(Fault::Output),
         }
     }
 }
 
-/// The file of the whole part, made from a recording.
-impl Product for MendedFile {
-    ghost use Rattle.siman_file_commands.specs.Mend.{MendsFile, MakesMended};
+/// The command `mend`, which makes a recording of the whole entries of a torn one.
+#[derive(Drop)]
+pub struct MendCommand;
 
-    ghost reads = { MendsFile };
+impl OfFile for MendCommand {
+    ghost use Rattle.siman_file_commands.specs.Mend.{MendsFile};
 
-    ghost makes = { MakesMended };
+    type Made = MendedFile;
+
+    ghost reads = { λ _. MendsFile };
 
     fn read<R: Read + Drop>(
+        self,
         alloc: Global,
         file: R,
         _notes: &mut Notes,
-    ) -> Result<MendedFile, Fault<'static>> {
-        read_torn(alloc, file)
-    }
-
-    fn make<O: Outside, W: Write>(
-        self,
-        alloc: Global,
-        name: &str,
-        force: bool,
-        outside: &mut O,
-        out: &mut W,
-    ) -> Result<u8, Fault<'static>> {
-        make_file(alloc, &self, name, force, outside, out)
+    ) -> Result<Product<MendedFile>, Fault<'static>> {
+        match read_torn(alloc, file) {
+            Ok(mended) => Ok(Product::File(mended)),
+            Err(fault) => Err(fault),
+        }
     }
 }

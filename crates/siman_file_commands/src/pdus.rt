@@ -7,7 +7,7 @@ ghost use Rattle.siman_file_commands.specs.declared.hex_text.TheConstants.{LONGE
 ghost use Rattle.siman_outside.specs.declared.fault.Fault.TheVariants.{Memory};
 ghost use Rattle.siman_file_commands.specs.declared.pdus.PdusFault.TheVariants as stops;
 ghost use Rattle.siman_outside.specs.Ending.{Wrote};
-ghost use Rattle.siman_outside.specs.Outside.{Has, Stream, Outcome, begun_by, outcome_of};
+ghost use Rattle.siman_outside.specs.Outside.{Given, Has, Outcome, begun_by, outcome_of, stream};
 ghost use Rattle.siman_file_commands.specs.Pdus.{result_of_line, PutsBadLine, ShowsLine, ShowsLines, EndsAt, EndsLines};
 
 use crate::hex_text::LONGEST_HEX;
@@ -74,9 +74,7 @@ pub fn end_lines<R: Read + Drop, W: Write, E: Write>(
     out: &mut W,
     errors: &mut E,
 ) -> Ending<'static>
-    ensures ends { let out : Stream = record { old = W.contents out.old; new = W.contents out.new } in
-        let errors : Stream = record { old = E.contents errors.old; new = E.contents errors.new } in
-        (bytes : List ℕ) × Has (R.remaining input) bytes × EndsLines (lines_of bytes) (outcome_of result out errors) }
+    ensures ends { Given (R.remaining input) (λ bytes. EndsLines (lines_of bytes) (outcome_of result (stream (W.contents out.old) (W.contents out.new)) (stream (E.contents errors.old) (E.contents errors.new)))) }
     ensures begun { begun_by result ≡ None }
 {
     end_at(show_input(alloc, input, out, errors), errors)
@@ -118,9 +116,7 @@ fn show_input<R: Read + Drop, W: Write, E: Write>(
     out: &mut W,
     errors: &mut E,
 ) -> Result<u8, PdusFault>
-    ensures { let out : Stream = record { old = W.contents out.old; new = W.contents out.new } in
-        let errors : Stream = record { old = E.contents errors.old; new = E.contents errors.new } in
-        (bytes : List ℕ) × Has (R.remaining input) bytes × ShowsLines (lines_of bytes) result out errors }
+    ensures { Given (R.remaining input) (λ bytes. ShowsLines (lines_of bytes) result (stream (W.contents out.old) (W.contents out.new)) (stream (E.contents errors.old) (E.contents errors.new))) }
 {
     let mut reader = buffered(alloc, input)?;
     let mut line = vec![in alloc; 0u8; LONGEST_HEX + 1]?;
@@ -146,9 +142,7 @@ fn show_lines<R: Read, W: Write, E: Write>(
     errors: &mut E,
 ) -> Result<u8, PdusFault>
     requires { length buffer.old ≡ LONGEST_HEX + 1 }
-    ensures { let out : Stream = record { old = W.contents out.old; new = W.contents out.new } in
-        let errors : Stream = record { old = E.contents errors.old; new = E.contents errors.new } in
-        (bytes : List ℕ) × Has (R.remaining reader.old) bytes × ShowsLines (lines_of bytes) result out errors }
+    ensures { Given (R.remaining reader.old) (λ bytes. ShowsLines (lines_of bytes) result (stream (W.contents out.old) (W.contents out.new)) (stream (E.contents errors.old) (E.contents errors.new))) }
 {
     let mut worst = 0;
     let mut count = Count::new();
@@ -170,9 +164,7 @@ fn show_line<W: Write, E: Write>(
     out: &mut W,
     errors: &mut E,
 ) -> Result<u8, PdusFault>
-    ensures { let out : Stream = record { old = W.contents out.old; new = W.contents out.new } in
-        let errors : Stream = record { old = E.contents errors.old; new = E.contents errors.new } in
-        ShowsLine (result_of_line number line.now) result out errors }
+    ensures { ShowsLine (result_of_line number line.now) result (stream (W.contents out.old) (W.contents out.new)) (stream (E.contents errors.old) (E.contents errors.new)) }
 {
     if line.is_empty() {
         return Ok(0);
@@ -188,8 +180,7 @@ fn show_line<W: Write, E: Write>(
 
 /// Reports a bad line by its number, and returns its status, 2.
 fn put_bad_line<E: Write>(number: usize, errors: &mut E) -> Result<u8, PdusFault>
-    ensures { let errors : Stream = record { old = E.contents errors.old; new = E.contents errors.new } in
-        PutsBadLine number result errors }
+    ensures { PutsBadLine number result (stream (E.contents errors.old) (E.contents errors.new)) }
 {
     match tell_fault(Fault::HexLine(number), errors) {
         Ok(()) => Ok(2),

@@ -23,9 +23,9 @@ use std::io::Write;
 /// Names of the calls, in order.
 static CALLS: [&str; 8] = [
     "check_files",
-    "review_command",
-    "why_command",
-    "why_not_command",
+    "review",
+    "why",
+    "why of a certificate",
     "read_script",
     "run_world",
     "perform",

@@ -1,5 +1,5 @@
 -- How a command makes a file (profile).
-use Rattle.std.specs.Prelude.{◌≡◌, ◌⊎◌, ℕ, Bool, List, [], ◌∷◌, Option, Result, Ok, Err}
+use Rattle.std.specs.Prelude.{◌≡◌, ◌⊎◌, ℕ, Bool, List, [], ◌∷◌, string_bytes, Option, Result, Ok, Err}
 use Rattle.std.specs.Io.KnownBytes.{Appends, Keeps}
 use Rattle.byte_files.specs.Writing.{WritesPart}
 use Rattle.std.specs.declared.io.ErrorKind.{ErrorKind}
@@ -7,16 +7,18 @@ use Rattle.std.specs.declared.io.ErrorKind.TheVariants.{AlreadyExists}
 use Rattle.siman_outside.specs.Ending.{IsFaultOf}
 use Rattle.siman_outside.specs.declared.fault.Fault.{Fault}
 use Rattle.siman_outside.specs.declared.fault.Fault.TheVariants.{Output, Exists}
+use Rattle.siman_outside.specs.declared.product.Product.{Product}
+use Rattle.siman_outside.specs.declared.product.Product.TheVariants.{File, Nothing}
 use Rattle.siman_outside.specs.Outside.{Deed, Saved, Makes, Saves, Discards, Stream}
 
 -- the result of a command: its status, or its fault
 abbrev pub Answered : Type 0
 Answered = Result ℕ Fault
 
--- After the flush of the file a line was written, or a prefix of it; the file is unchanged.
-abbrev pub SaysSettled : (line : List ℕ) → Result (Unit {0}) Fault → (file out : Stream) → Type 0
-SaysSettled line (Ok x) file out = Keeps file.old file.new × Appends out.old out.new line
-SaysSettled line (Err fault) file out = (fault ≡ Output) × Keeps file.old file.new × WritesPart out.old out.new line
+-- After the flush of the file a line was written, with status 0, or a prefix of it; the file is unchanged.
+abbrev pub PutsSettled : (line : List ℕ) → Answered → (file out : Stream) → Type 0
+PutsSettled line (Ok status) file out = (status ≡ 0) × Keeps file.old file.new × Appends out.old out.new line
+PutsSettled line (Err fault) file out = (fault ≡ Output) × Keeps file.old file.new × WritesPart out.old out.new line
 
 -- A failed write leaves a prefix of the file and no line, or the whole file and a prefix of the line.
 abbrev pub WritesShort : (first second : List ℕ) → (file out : Stream) → Type 0
@@ -60,3 +62,22 @@ MakesFile Puts force name (Makes made replaces (Err kind) ∷ []) answered out =
 MakesFile Puts force name (Makes made replaces (Ok fresh) ∷ deed ∷ []) answered out =
     (made ≡ name) × (replaces ≡ force) × ((left : Option (List ℕ)) × (put : Answered) × (let file : Stream = record { old = fresh; new = left } in Puts put file out) × IsSaved left put deed answered)
 MakesFile Puts force name deeds answered out = ⊥
+
+-- ---- products
+
+-- WHAT A COMMAND MADE IS WRITTEN to a file that is there: as `Puts` says, or else the text of the answer, and the file is unchanged
+abbrev pub PutsProduct : {M : Type 0} → (Puts : M → Answered → (file out : Stream) → Type 0) → Product M → Answered → (file out : Stream) → Type 0
+PutsProduct Puts (File made) answered file out = Puts made answered file out
+PutsProduct Puts (Nothing text) answered file out = Keeps file.old file.new × PutsBlocked (string_bytes text) answered out
+
+-- ITS FILE IS MADE, or else no file is made, and the text of the answer is written
+abbrev pub MakesProduct : {M : Type 0} → (Puts : M → Answered → (file out : Stream) → Type 0) → Product M → (force : Bool) → (name : List ℕ) → List Deed → Answered → Stream → Type 0
+MakesProduct Puts (File made) force name deeds answered out = MakesFile (Puts made) force name deeds answered out
+MakesProduct Puts (Nothing text) force name deeds answered out = (deeds ≡ []) × PutsBlocked (string_bytes text) answered out
+
+-- A product is read from a file with these bytes, if they are known, and written; or nothing is, after a fault.
+abbrev pub PutsOfFile : {M : Type 0} → (Reads : Option (List ℕ) → Result (Product M) Fault → Type 0) → (Puts : M → Answered → (file out : Stream) → Type 0)
+    → (known : Option (List ℕ)) → Answered → (file out : Stream) → Type 0
+PutsOfFile {M} Reads Puts known answered file out =
+    ((fault : Fault) × Reads known (Err fault) × (answered ≡ Err fault) × Keeps file.old file.new × Keeps out.old out.new)
+    ⊎ ((product : Product M) × Reads known (Ok product) × PutsProduct Puts product answered file out)

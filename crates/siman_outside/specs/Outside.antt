@@ -2,6 +2,7 @@
 use Rattle.std.specs.Prelude.{◌≡◌, ◌⊎◌, ⊤, ℕ, Bool, List, [], ◌++◌, length, Vec, Option, Some, None, IfSome, option_map, Result, Ok, Err}
 use Rattle.std.specs.declared.alloc.Global.{Global}
 use Rattle.std.specs.IoError.{error_kind}
+use Rattle.std.specs.List.{All}
 use Rattle.std.specs.declared.io.Error.{Error}
 use Rattle.std.specs.declared.io.ErrorKind.{ErrorKind}
 use Rattle.std.specs.declared.io.ErrorKind.TheVariants.{OutOfMemory}
@@ -14,10 +15,17 @@ use Rattle.siman_outside.specs.declared.fault.Fault.{Fault}
 abbrev pub Has : (known : Option (List ℕ)) → (bytes : List ℕ) → Type 0
 Has known bytes = IfSome known (λ all. bytes ≡ all)
 
+-- WHAT IS SAID OF THE BYTES OF A READER: it holds of these bytes, or of some if they are not known.
+abbrev pub Given : (known : Option (List ℕ)) → (Says : List ℕ → Type 0) → Type 0
+Given known Says = (bytes : List ℕ) × Has known bytes × Says bytes
+
 -- the bytes on a writer before and after a call, if they are known
 pub record Stream : Type 0 where
   pub old : Option (List ℕ)
   pub new : Option (List ℕ)
+
+abbrev pub stream : (old new : Option (List ℕ)) → Stream
+stream old new = record { old = old; new = new }
 
 -- the outcome of a command: its ending, the fault to explain, the recording that it began before that fault, and the writer of answers and the writer of faults before and after
 pub record Outcome : Type 0 where
@@ -106,3 +114,13 @@ WasHeld holds (Opens name found) = IsHeld (holds name) found
 WasHeld holds (Makes name force made) = IsFresh made
 WasHeld holds (Creates name made) = IsFresh made
 WasHeld holds other = ⊤
+
+-- WHAT WAS DONE OUTSIDE between two states: the calls of which this is said are appended to those before, and each file that they opened was the one held under its name
+abbrev pub Did : {O : Type 0} → (deeds_of : O → Option (List Deed)) → (holds_of : O → List ℕ → Option Found) → (old new : O) → (Says : List Deed → Type 0) → Type 0
+Did deeds_of holds_of old new Says =
+    (deeds : List Deed) × Adds (deeds_of old) (deeds_of new) deeds × All (WasHeld (holds_of old)) deeds × Says deeds
+
+-- the same of calls that open no file, whatever files are held
+abbrev pub DidMake : {O : Type 0} → (deeds_of : O → Option (List Deed)) → (old new : O) → (Says : List Deed → Type 0) → Type 0
+DidMake deeds_of old new Says =
+    (deeds : List Deed) × Adds (deeds_of old) (deeds_of new) deeds × ((holds : List ℕ → Option Found) → All (WasHeld holds) deeds) × Says deeds

@@ -6,6 +6,8 @@ use Rattle.exercise_model.specs.Recording.{PlainRecording}
 use Rattle.exercise_recording.specs.declared.format_fault.FormatFault.{FormatFault}
 use Rattle.exercise_recording.specs.declared.format_fault.RecordingFault.TheVariants as recordings
 use Rattle.siman_outside.specs.declared.fault.Fault.{Fault}
+use Rattle.siman_outside.specs.Making.{Answered}
+use Rattle.siman_outside.specs.Outside.{Stream}
 use Rattle.siman_outside.specs.declared.fault.Fault.TheVariants.{Recording, Output, Memory}
 
 -- All of a text was appended but what is buffered, which is its end.
@@ -41,3 +43,8 @@ Gives text recorded (Err other) old new = ⊥
 abbrev pub shown_status : Result (Unit {0}) Fault → Result ℕ Fault
 shown_status (Ok x) = Ok 0
 shown_status (Err fault) = Err fault
+
+-- A TEXT IS PRINTED whole, with status 0, or a prefix of it
+abbrev pub PrintsText : (text : List ℕ) → Answered → (out : Stream) → Type 0
+PrintsText text (Ok status) out = (status ≡ 0) × Appends out.old out.new text
+PrintsText text (Err fault) out = IsUnpassed fault × WritesPart out.old out.new text

@@ -4,14 +4,16 @@
 //! [`Fault`] with its first line.
 //!
 //! A caller reads the words ([`read_words`]); if they ask for no task, it prints [`usage_text`], as
-//! help if [`asks_help`], else as a fault. A command is a [`Product`], from which a file is made
-//! ([`make_of_file`]), or it says something of one file or two ([`OfFile`], [`OfFiles`]); it returns
-//! a status or a [`Fault`], which [`end`] turns into an exit status.
+//! help if [`asks_help`], else as a fault. A command about a recording is an
+//! [`OfRecording`], one about a certificate an [`OfCertificate`], and one that makes a file of another
+//! an [`OfFile`], which gives a [`Product`]; it runs on readers ([`say_of_recording`],
+//! [`say_of_certificate`]) or on the names of files ([`say_of_file`], [`say_of_files`],
+//! [`make_of_file`]), and returns a status or a [`Fault`], which [`end`] turns into an exit status.
 //!
-//! The crate runs no command and opens no file or socket itself, and it ends no process.
+//! The crate has no command of its own, opens no file or socket itself, and ends no process.
 //!
 //! The layer above may use the contract of [`CommandLine::task`], which gives the task of the words,
-//! and those on which files are opened and made, in which order (`SaysOfFile`, `WorksSparing`,
+//! and those on which files are opened and made, in which order (`SaysOfFile`, `MakesOfFile`,
 //! `MakesFile`), and on the line of each fault, to the byte (`fault_line`, `Ends`); what a command
 //! makes of its input is in the contracts of the command's crate.
 #![tactic(auto)]
@@ -38,6 +40,7 @@ mod passing;
 mod place;
 mod product;
 mod reason;
+mod recording_command;
 mod rows;
 mod saying;
 mod table;
@@ -56,14 +59,15 @@ pub use input::{InputFault, Unread, read_text};
 pub use join_limit::JoinLimit;
 pub use known::{Known, SystemCall, SystemFault};
 pub use limits::{LARGEST_CERTIFICATE, LARGEST_RECORDING};
-pub use making::{Making, flush_and_print, make_file, put_blocked_answer};
+pub use making::{Making, make_file, put_settled};
 pub use move_place::MovePlace;
 pub use notes::{Notes, Warning};
-pub use opening::{open_fault, open_input, open_input_if_free, open_inputs_if_free, spare};
+pub use opening::{if_free, open_fault, open_input, open_inputs};
 pub use outside::Outside;
 pub use passing::{HELD, pass_on, status_of};
-pub use product::{Product, make_of_file};
+pub use product::{OfFile, Product, make_of_file, put_of_file};
 pub use reason::OpenFault;
-pub use saying::{OfFile, OfFiles, say_of_file, say_of_files};
+pub use recording_command::{OfCertificate, OfRecording, say_of_certificate, say_of_recording};
+pub use saying::{say_of_file, say_of_files};
 pub use trial_fault::TrialFault;
 pub use usage::{terminal_text, usage_text};

@@ -1,11 +1,9 @@
-//! Making a file: writing it, reporting on it, and saving it.
+//! Making a file: writing it, printing the answer, and saving it.
 
-ghost use Rattle.std.specs.Prelude.{◌≡◌, ◌∷◌, [], ℕ, List, Option, Result};
+ghost use Rattle.std.specs.Prelude.{◌≡◌, ◌∷◌, [], List};
 ghost use Rattle.std.specs.IoError.{error_kind};
-ghost use Rattle.std.specs.List.{All};
-ghost use Rattle.siman_outside.specs.declared.fault.Fault.{Fault};
-ghost use Rattle.siman_outside.specs.Outside.{Deed, Found, Adds, WasHeld, Stream};
-ghost use Rattle.siman_outside.specs.Making.{SaysSettled, PutsBlocked, saving_fault, IsSaved, MakesFile};
+ghost use Rattle.siman_outside.specs.Outside.{Deed, Adds, DidMake, stream};
+ghost use Rattle.siman_outside.specs.Making.{PutsSettled, PutsBlocked, saving_fault, IsSaved, MakesFile};
 
 use crate::fault::{Fault, of_error};
 use crate::outside::Outside;
@@ -16,47 +14,47 @@ use std::io::{ErrorKind, Write};
 
 /// A value from which a command makes a file.
 pub trait Making {
+    ghost use Rattle.std.specs.Prelude.{ℕ, Result};
+    ghost use Rattle.siman_outside.specs.declared.fault.Fault.{Fault};
+    ghost use Rattle.siman_outside.specs.Outside.{Stream, stream};
+
     /// The relation of the value to the status or fault, the made file and the output.
     ghost puts: { Self → Result ℕ Fault → (file out : Stream) → Type 0 };
 
     /// Writes the whole file, flushes it so that it survives a power loss, and then writes the
-    /// command's report. Returns the status.
+    /// answer. Returns the status.
     fn put<F: Write, W: Write>(
         &self,
         alloc: Global,
         file: &mut F,
         out: &mut W,
     ) -> Result<u8, Fault<'static>>
-        ensures { let file : Stream = record { old = F.contents file.old; new = F.contents file.new } in
-            let out : Stream = record { old = W.contents out.old; new = W.contents out.new } in
-            puts self.now result file out };
+        ensures { puts self.now result (stream (F.contents file.old) (F.contents file.new)) (stream (W.contents out.old) (W.contents out.new)) };
 }
 
-/// Flushes a file, so that it survives a power loss, and then writes a line.
-pub fn flush_and_print<F: Write, W: Write>(
+/// Flushes a written file, so that it survives a power loss, writes the line of the answer, and
+/// returns status 0.
+pub fn put_settled<F: Write, W: Write>(
     file: &mut F,
     line: &str,
     out: &mut W,
-) -> Result<(), Fault<'static>>
-    ensures { let file : Stream = record { old = F.contents file.old; new = F.contents file.new } in
-        let out : Stream = record { old = W.contents out.old; new = W.contents out.new } in
-        SaysSettled line.now result file out }
+) -> Result<u8, Fault<'static>>
+    ensures { PutsSettled line.now result (stream (F.contents file.old) (F.contents file.new)) (stream (W.contents out.old) (W.contents out.new)) }
 {
     if file.flush().is_err() {
         return Err(Fault::Output);
     }
     match put(out, line.as_bytes()) {
-        Ok(()) => Ok(()),
+        Ok(()) => Ok(0),
         Err(_) => Err(Fault::Output),
     }
 }
 
-/// Writes the answer where there is nothing to make, a blocked list, and returns status 1.
-pub fn put_blocked_answer<W: Write>(list: &str, out: &mut W) -> Result<u8, Fault<'static>>
-    ensures { let out : Stream = record { old = W.contents out.old; new = W.contents out.new } in
-        PutsBlocked list.now result out }
+/// Writes the answer where there is nothing to make, and returns status 1.
+pub(crate) fn put_blocked_answer<W: Write>(text: &str, out: &mut W) -> Result<u8, Fault<'static>>
+    ensures { PutsBlocked text.now result (stream (W.contents out.old) (W.contents out.new)) }
 {
-    match put(out, list.as_bytes()) {
+    match put(out, text.as_bytes()) {
         Ok(()) => Ok(1),
         Err(_) => Err(Fault::Output),
     }
@@ -94,7 +92,7 @@ fn save_or_discard<O: Outside>(
 }
 
 /// Makes the file of a name, which replaces an existing one (`force`) or not, writes it whole, and
-/// then writes the command's report. After that the file is saved, or discarded after a fault.
+/// then writes the answer. After that the file is saved, or discarded after a fault.
 pub fn make_file<M: Making, O: Outside, W: Write>(
     alloc: Global,
     made: &M,
@@ -103,8 +101,7 @@ pub fn make_file<M: Making, O: Outside, W: Write>(
     outside: &mut O,
     out: &mut W,
 ) -> Result<u8, Fault<'static>>
-    ensures { let out : Stream = record { old = W.contents out.old; new = W.contents out.new } in
-        (deeds : List Deed) × Adds (O.deeds outside.old) (O.deeds outside.new) deeds × ((holds : List ℕ → Option Found) → All (WasHeld holds) deeds) × MakesFile (M.puts made.now) force name.now deeds result out }
+    ensures { DidMake O.deeds outside.old outside.new (λ deeds. MakesFile (M.puts made.now) force name.now deeds result (stream (W.contents out.old) (W.contents out.new))) }
 {
     match outside.make(name, force) {
         Ok(file) => {

@@ -1,10 +1,9 @@
 //! Opening files to read them, while another file is to be made.
 
-ghost use Rattle.std.specs.Prelude.{◌≡◌, ℕ, List, Option};
+ghost use Rattle.std.specs.Prelude.{◌≡◌};
 ghost use Rattle.std.specs.IoError.{error_kind};
-ghost use Rattle.std.specs.List.{All};
-ghost use Rattle.siman_outside.specs.Outside.{Deed, Found, Adds, WasHeld};
-ghost use Rattle.siman_outside.specs.Opening.{IsOpenFault, OpensInput, OpensInputs, Spares, OpensInputIfFree, OpensInputsIfFree, bytes_by, both_by};
+ghost use Rattle.siman_outside.specs.Outside.{Did, DidMake};
+ghost use Rattle.siman_outside.specs.Opening.{IsOpenFault, OpensInput, OpensInputs, Spares, IfFree, seen_as, both};
 
 use crate::fault::Fault;
 use crate::outside::Outside;
@@ -28,7 +27,8 @@ pub fn open_input<'a, O: Outside>(
     names: (&'a str, &'a str),
     outside: &mut O,
 ) -> Result<O::Opened, Fault<'a>>
-    ensures { (deeds : List Deed) × Adds (O.deeds outside.old) (O.deeds outside.new) deeds × All (WasHeld (O.holds outside.old)) deeds × OpensInput names.entry.0.now names.entry.1.now deeds (bytes_by O.bytes result) × (O.holds outside.new ≡ O.holds outside.old) }
+    ensures did { Did O.deeds O.holds outside.old outside.new (λ deeds. OpensInput names.entry.0.now names.entry.1.now deeds (seen_as O.bytes result)) }
+    ensures stays { O.holds outside.new ≡ O.holds outside.old }
 {
     let (name, made) = names;
     match outside.open(name) {
@@ -43,12 +43,12 @@ pub fn open_input<'a, O: Outside>(
 }
 
 /// Opens two files in the order of their names. `SameAs` if either is the file to be made.
-fn open_inputs<'a, O: Outside>(
+pub fn open_inputs<'a, O: Outside>(
     names: (&'a str, &'a str),
     made: &'a str,
     outside: &mut O,
 ) -> Result<(O::Opened, O::Opened), Fault<'a>>
-    ensures { (deeds : List Deed) × Adds (O.deeds outside.old) (O.deeds outside.new) deeds × All (WasHeld (O.holds outside.old)) deeds × OpensInputs names.entry.0.now names.entry.1.now made.now deeds (both_by O.bytes result) }
+    ensures { Did O.deeds O.holds outside.old outside.new (λ deeds. OpensInputs names.entry.0.now names.entry.1.now made.now deeds (seen_as (both O.bytes) result)) }
 {
     let (name, other) = names;
     let first = open_input((name, made), outside)?;
@@ -58,8 +58,8 @@ fn open_inputs<'a, O: Outside>(
 
 /// Reports `Exists` if the name of the file to be made has a file to replace, unless `force` is
 /// set.
-pub fn spare<O: Outside>(name: &str, force: bool, outside: &mut O) -> Result<(), Fault<'static>>
-    ensures { (deeds : List Deed) × Adds (O.deeds outside.old) (O.deeds outside.new) deeds × ((holds : List ℕ → Option Found) → All (WasHeld holds) deeds) × Spares force name.now deeds result }
+fn spare<O: Outside>(name: &str, force: bool, outside: &mut O) -> Result<(), Fault<'static>>
+    ensures { DidMake O.deeds outside.old outside.new (λ deeds. Spares force name.now deeds result) }
 {
     if force {
         return Ok(());
@@ -70,31 +70,21 @@ pub fn spare<O: Outside>(name: &str, force: bool, outside: &mut O) -> Result<(),
     Ok(())
 }
 
-/// Opens the file of the first name. `SameAs` if it is the file to be made under the second name;
-/// `Exists` if that name has a file to replace, unless `force` is set.
-pub fn open_input_if_free<'a, O: Outside>(
-    names: (&'a str, &'a str),
+/// What was opened; `Exists` if the name of the file to be made has a file to replace, unless
+/// `force` is set.
+pub fn if_free<'a, B: Drop, O: Outside>(
+    opened: Result<B, Fault<'a>>,
+    made: &str,
     force: bool,
     outside: &mut O,
-) -> Result<O::Opened, Fault<'a>>
-    ensures { (deeds : List Deed) × Adds (O.deeds outside.old) (O.deeds outside.new) deeds × All (WasHeld (O.holds outside.old)) deeds × OpensInputIfFree force names.entry.0.now names.entry.1.now deeds (bytes_by O.bytes result) }
+) -> Result<B, Fault<'a>>
+    ensures { DidMake O.deeds outside.old outside.new (λ deeds. IfFree force made.now opened.entry deeds result) }
 {
-    let file = open_input(names, outside)?;
-    spare(names.1, force, outside)?;
-    Ok(file)
-}
-
-/// Opens two files in the order of their names. `SameAs` if either is the file to be made; `Exists`
-/// if the name of that has a file to replace, unless `force` is set.
-pub fn open_inputs_if_free<'a, O: Outside>(
-    names: (&'a str, &'a str),
-    made: &'a str,
-    force: bool,
-    outside: &mut O,
-) -> Result<(O::Opened, O::Opened), Fault<'a>>
-    ensures { (deeds : List Deed) × Adds (O.deeds outside.old) (O.deeds outside.new) deeds × All (WasHeld (O.holds outside.old)) deeds × OpensInputsIfFree force names.entry.0.now names.entry.1.now made.now deeds (both_by O.bytes result) }
-{
-    let files = open_inputs(names, made, outside)?;
-    spare(made, force, outside)?;
-    Ok(files)
+    match opened {
+        Ok(opened) => match spare(made, force, outside) {
+            Ok(()) => Ok(opened),
+            Err(fault) => Err(fault),
+        },
+        Err(fault) => Err(fault),
+    }
 }

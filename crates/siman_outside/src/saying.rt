@@ -1,85 +1,48 @@
-//! Commands that say something of files: which files they open, in which order, and what they say.
+//! Commands that say something of files: which files they open, in which order.
 
-ghost use Rattle.std.specs.Prelude.{◌≡◌, ℕ, List, Option, Result};
-ghost use Rattle.std.specs.List.{All};
-ghost use Rattle.siman_outside.specs.declared.fault.Fault.{Fault};
-ghost use Rattle.siman_outside.specs.Outside.{Deed, Adds, WasHeld, Stream};
+ghost use Rattle.siman_outside.specs.Outside.{Did, stream};
+ghost use Rattle.siman_outside.specs.Recorded.{SaysOfBytes, SaysOfBoth};
 ghost use Rattle.siman_outside.specs.Saying.{SaysOfFile, SaysOfFiles};
 
 use crate::fault::Fault;
 use crate::notes::Notes;
 use crate::opening::open_fault;
 use crate::outside::Outside;
+use crate::recording_command::{OfCertificate, OfRecording, say_of_certificate, say_of_recording};
 use std::alloc::Global;
-use std::io::{Read, Write};
+use std::io::Write;
 
-/// A command that says something of one file.
-pub trait OfFile {
-    /// The relation of a file's bytes, if they are known, to the status or fault and the output.
-    ghost says: { Self → (known : Option (List ℕ)) → Result ℕ Fault → (out : Stream) → Type 0 };
-
-    /// Reads the file, writes the answer, notes warnings, and returns the status.
-    fn say<R: Read + Drop, W: Write>(
-        &self,
-        alloc: Global,
-        file: R,
-        out: &mut W,
-        notes: &mut Notes,
-    ) -> Result<u8, Fault<'static>>
-        ensures { let out : Stream = record { old = W.contents out.old; new = W.contents out.new } in
-            says self.now (R.remaining file) result out };
-}
-
-/// A command that says something of two files.
-pub trait OfFiles {
-    /// The relation of both files' bytes, if they are known, to the status or fault and the output.
-    ghost says: { Self → (first second : Option (List ℕ)) → Result ℕ Fault → (out : Stream) → Type 0 };
-
-    /// Reads both files, writes the answer, notes warnings, and returns the status.
-    fn say<R: Read + Drop, S: Read + Drop, W: Write>(
-        &self,
-        alloc: Global,
-        first: R,
-        second: S,
-        out: &mut W,
-        notes: &mut Notes,
-    ) -> Result<u8, Fault<'static>>
-        ensures { let out : Stream = record { old = W.contents out.old; new = W.contents out.new } in
-            says self.now (R.remaining first) (S.remaining second) result out };
-}
-
-/// Opens a file, and runs a command on it.
-pub fn say_of_file<'a, C: OfFile, O: Outside, W: Write>(
+/// Opens the file of a recording, and runs a command on it.
+pub fn say_of_file<'a, C: OfRecording<'a> + Drop, O: Outside, W: Write>(
     alloc: Global,
-    command: &C,
+    command: C,
     name: &'a str,
     outside: &mut O,
     out: &mut W,
     notes: &mut Notes,
-) -> Result<u8, Fault<'a>>
-    ensures { let out : Stream = record { old = W.contents out.old; new = W.contents out.new } in
-        (deeds : List Deed) × Adds (O.deeds outside.old) (O.deeds outside.new) deeds × All (WasHeld (O.holds outside.old)) deeds × SaysOfFile (C.says command.now) name.now deeds result out }
+) -> Result<C::Answer, Fault<'a>>
+    ensures { Did O.deeds O.holds outside.old outside.new (λ deeds. SaysOfFile (SaysOfBytes (C.says command)) name.now deeds result (stream (W.contents out.old) (W.contents out.new))) }
 {
     match outside.open(name) {
         Ok(opened) => {
             let file = outside.read(opened);
-            command.say(alloc, file, out, notes)
+            say_of_recording(alloc, command, file, out, notes)
         }
         Err(error) => Err(open_fault(name, &error)),
     }
 }
 
-/// Opens two files in the order of their names, before either is read, and runs a command on them.
-pub fn say_of_files<'a, C: OfFiles, O: Outside, W: Write>(
+/// Opens the files of a recording and of a certificate, in the order of their names, before either
+/// is read, and runs a command on them.
+pub fn say_of_files<'a, C: OfCertificate<'a> + Drop, O: Outside, W: Write>(
     alloc: Global,
-    command: &C,
+    command: C,
     names: (&'a str, &'a str),
     outside: &mut O,
     out: &mut W,
     notes: &mut Notes,
-) -> Result<u8, Fault<'a>>
-    ensures { let out : Stream = record { old = W.contents out.old; new = W.contents out.new } in
-        (deeds : List Deed) × Adds (O.deeds outside.old) (O.deeds outside.new) deeds × All (WasHeld (O.holds outside.old)) deeds × SaysOfFiles (C.says command.now) names.entry.0.now names.entry.1.now deeds result out }
+) -> Result<C::Answer, Fault<'a>>
+    ensures { Did O.deeds O.holds outside.old outside.new (λ deeds. SaysOfFiles (SaysOfBoth (C.says command)) names.entry.0.now names.entry.1.now deeds result (stream (W.contents out.old) (W.contents out.new))) }
 {
     let (name, other) = names;
     let first = match outside.open(name) {
@@ -90,7 +53,7 @@ pub fn say_of_files<'a, C: OfFiles, O: Outside, W: Write>(
         Ok(second) => {
             let first = outside.read(first);
             let second = outside.read(second);
-            command.say(alloc, first, second, out, notes)
+            say_of_certificate(alloc, command, first, second, out, notes)
         }
         Err(error) => Err(open_fault(other, &error)),
     }

@@ -3,7 +3,7 @@
 ghost use Rattle.std.specs.Prelude.{◌≡◌, IfOk, string_bytes};
 ghost use Rattle.exercise_model.specs.Setting.{IsSetting};
 ghost use Rattle.siman_lines.specs.AtLines.{Telling, AtLines, AreFresh};
-ghost use Rattle.siman_outside.specs.Outside.{Stream};
+ghost use Rattle.siman_outside.specs.Outside.{Stream, stream};
 ghost use Rattle.siman_exercise_commands.specs.Live.Lived.{live_text, PutsLiveRow, Records, IsRecorded, Performs};
 
 use crate::live::moves::make_moves;
@@ -47,8 +47,7 @@ pub(crate) fn put_live_row<W: Write>(
     left: LeftOut,
     out: &mut W,
 ) -> Result<u8, Fault<'static>>
-    ensures { let out : Stream = record { old = W.contents out.old; new = W.contents out.new } in
-        PutsLiveRow entries.entry left result out }
+    ensures { PutsLiveRow entries.entry left result (stream (W.contents out.old) (W.contents out.new)) }
 {
     let entries = match entries {
         Ok(entries) => entries,

@@ -1,7 +1,7 @@
 //! The calls that say why a recording or a certificate is refused.
 
 use crate::refusals::reviews::Streams;
-use siman_console::{Spelling, why_command, why_not_command};
+use siman_console::{Notes, Spelling, WhyCommand, end, say_of_certificate, say_of_recording};
 use siman_refusals::{LibraryCall, Said, refused, usual};
 use std::alloc::Global;
 
@@ -32,6 +32,10 @@ fault recording
 entry 0 2:3 told entity=2:3:7 state=running
 ";
 
+const WHY: WhyCommand = WhyCommand {
+    spelling: Spelling::Text,
+};
+
 /// The outcome of a call that must write this text, with status 1.
 fn said(status: u8, streams: &Streams, text: &str) -> Said {
     match status {
@@ -48,8 +52,8 @@ impl LibraryCall<Streams> for Asking {
     fn make(alloc: Global, lent: &mut Streams) -> Said {
         lent.errors.clear();
         let (out, errors) = (&mut lent.out, &mut lent.errors);
-        let status = why_command(alloc, WRONG.as_slice(), Spelling::Text, out, errors);
-        said(status, lent, BLOCKED)
+        let answered = say_of_recording(alloc, WHY, WRONG.as_slice(), out, &mut Notes::nothing());
+        said(end(answered, errors).status, lent, BLOCKED)
     }
 }
 
@@ -60,8 +64,9 @@ impl LibraryCall<Streams> for AskingOfSteps {
     fn make(alloc: Global, lent: &mut Streams) -> Said {
         lent.errors.clear();
         let (out, errors) = (&mut lent.out, &mut lent.errors);
-        let files = (WRONG.as_slice(), STEP.as_slice());
-        let status = why_not_command(alloc, files.0, files.1, Spelling::Text, out, errors);
-        said(status, lent, NO)
+        let (recording, certificate) = (WRONG.as_slice(), STEP.as_slice());
+        let notes = &mut Notes::nothing();
+        let answered = say_of_certificate(alloc, WHY, recording, certificate, out, notes);
+        said(end(answered, errors).status, lent, NO)
     }
 }

@@ -1,6 +1,6 @@
 //! The call that reviews files.
 
-use siman_console::{Spelling, review_command};
+use siman_console::{Notes, Spelling, View, ViewWord, end, say_of_recording};
 use siman_refusals::{LibraryCall, RECORDING, Said, refused, room, usual};
 use std::alloc::Global;
 use std::io;
@@ -34,7 +34,12 @@ impl LibraryCall<Streams> for WritingReview {
         let (recording, words) = (RECORDING.as_slice(), ["fate=done"]);
         lent.errors.clear();
         let (out, errors) = (&mut lent.out, &mut lent.errors);
-        match review_command(alloc, recording, &words, Spelling::Text, out, errors) {
+        let notes = &mut Notes::nothing();
+        let reviewed = match View::of(alloc, ViewWord::Review, &words, Spelling::Text) {
+            Ok(view) => say_of_recording(alloc, view, recording, out, notes),
+            Err(fault) => Err(fault),
+        };
+        match end(reviewed, errors).status {
             0 => usual(lent.out.as_slice() == DONE.as_bytes() && lent.errors.is_empty()),
             3 => refused(lent.out.is_empty() && lent.errors.as_slice() == b"memory\n".as_slice()),
             _ => Said::Otherwise,

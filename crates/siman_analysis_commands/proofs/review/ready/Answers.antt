@@ -23,8 +23,6 @@ returns g c =
     let same : c.in_ok-is_explained.field-0.findings ≡ r = c.in_ok-is_explained.ensures.findings ∙ c.in_ok-of.ensures.findings in
     let law = c.fates_hold.ensures in
     record {
-      recording = r;
-      read = refl;
       explained = explained;
       explains = subst (λ (x : PlainRecording). IsExplained x explained) c.in_ok-of.ensures.findings c.in_ok-is_explained.ensures.explained;
       within = subst (λ (x : PlainRecording). line_count x ≤ MOST_LINES) same c.in_ok-reviewed.ensures.within;

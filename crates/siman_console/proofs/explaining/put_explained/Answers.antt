@@ -1,5 +1,4 @@
 -- The second line, and then how the recording is mended.
-use Rattle.std.proofs.Common.{Some}
 use Rattle.byte_files.proofs.Offered.{at_error, writes_part, writes_then}
 use Rattle.siman_console.specs.Reasons.{reason_words, second_line, mend_line}
 use Rattle.std.specs.Prelude.{option_map}

@@ -12,7 +12,7 @@ use Rattle.siman_console.proofs.program.end_task.Goals as goal
 
 pub returns-in-Trial : goal.returns-in-Trial
 returns-in-Trial g c =
-    rw c.in-Trial.is ([], adds_none _, All-nil (WasHeld (g.O.Outside.holds c.args.outside.now)), (refl, (c.say.result, c.say.ensures, (c.conclude.ensures.ends, c.conclude.ensures.fault, c.conclude.ensures.begun))))
+    rw c.in-Trial.is ([], adds_none _, All-nil (WasHeld (g.O.Outside.holds c.args.outside.now)), (refl, (c.try_input.result, c.try_input.ensures, (c.conclude.ensures.ends, c.conclude.ensures.fault, c.conclude.ensures.begun))))
 
 pub returns-in-One : goal.returns-in-One
 returns-in-One g c =

@@ -13,16 +13,18 @@ returns-in-Ok g c = (
   adds_then _ _ _ _ _ c.in-Ok.ensures.done c.close.ensures.done,
   (λ holds. all_two (WasHeld holds) _ _ c.in-Ok.ensures.fresh tt),
   (
+    (
+      refl,
+      record {
+        after = c.record_moves-recorded.new.stations.items;
+        entries = c.record_moves-recorded.result.entries;
+        records = c.record_moves-recorded.ensures.records;
+        recorded = c.record_moves-recorded.ensures.recorded;
+        tells =
+            subst (λ (left : LeftOut). PutsLiveRow c.record_moves-recorded.result.entries left c.put_live_row-answered.result (record { old = g.W.Write.contents c.args.out.now; new = g.W.Write.contents c.put_live_row-answered.new.out }))
+            (c.left_out.ensures ∙ ap (left_out_by g.O.Line.Line.strangers) c.deref.ensures.value) c.put_live_row-answered.ensures;
+      },
+    ),
     refl,
-    record {
-      after = c.record_moves-recorded.new.stations.items;
-      entries = c.record_moves-recorded.result.entries;
-      records = c.record_moves-recorded.ensures.records;
-      recorded = c.record_moves-recorded.ensures.recorded;
-      tells =
-          subst (λ (left : LeftOut). PutsLiveRow c.record_moves-recorded.result.entries left c.put_live_row-answered.result (record { old = g.W.Write.contents c.args.out.now; new = g.W.Write.contents c.put_live_row-answered.new.out }))
-          (c.left_out.ensures ∙ ap (left_out_by g.O.Line.Line.strangers) c.deref.ensures.value) c.put_live_row-answered.ensures;
-    },
   ),
-  refl,
 )

@@ -21,6 +21,5 @@ returns-in-Ok-attach_stations g c =
       had ∷ rest.0,
       adds_then _ _ _ (had ∷ []) rest.0 c.in-Ok.ensures.done rest.1,
       (λ holds. All-cons (WasHeld holds) had rest.0 tt (rest.2 holds)),
-      (c.len.ensures ∙ c.args.begun.nodes.ok.0, (c.in-Ok.lines.items, refl, inr (inr (c.in-Ok-attach_stations.ensures.lines, rest.3)))),
-      rest.4,
+      ((c.len.ensures ∙ c.args.begun.nodes.ok.0, (c.in-Ok.lines.items, refl, inr (inr (c.in-Ok-attach_stations.ensures.lines, rest.3.0)))), rest.3.1),
     )

@@ -12,6 +12,5 @@ returns g c =
       looked ∷ rest.0,
       adds_then _ _ _ (looked ∷ []) rest.0 c.if-is_taken.ensures.done rest.1,
       (λ holds. All-cons (WasHeld holds) looked rest.0 tt (rest.2 holds)),
-      (refl, rest.3),
-      rest.4,
+      ((refl, rest.3.0), rest.3.1),
     )

@@ -1,5 +1,5 @@
 -- The script was opened and read, and its station played.
-use Rattle.std.proofs.Common.{[], ◌∷◌, ◌++◌, refl, inl, inr}
+use Rattle.std.proofs.Common.{[], ◌∷◌, refl, inl, inr}
 use Rattle.std.specs.Prelude.{Ok, Err}
 use Rattle.std.specs.IoError.{error_kind}
 use Rattle.std.proofs.KnownBytes.{Keeps-refl}

@@ -1,6 +1,6 @@
 -- Both files are read, one after the other.
-use Rattle.std.proofs.Common.{[], ◌∷◌}
-use Rattle.siman_outside.specs.Outside.{Reads}
+use Rattle.std.proofs.Common.{[], ◌∷◌, Some}
+use Rattle.siman_outside.specs.Outside.{Reads, stream}
 use Rattle.siman_outside.proofs.Offered.{adds_then}
 use Rattle.siman_file_commands.proofs.chart.chart_opened.Goals as goal
 
@@ -11,4 +11,4 @@ returns-clause-done g c =
     adds_then _ _ _ (one ∷ []) (two ∷ []) c.read-recording.ensures.done c.read-certificate.ensures.done
 
 pub returns-clause-comes : goal.returns-clause-comes
-returns-clause-comes g c = rw (c.read-recording.ensures.same, c.read-certificate.ensures.same) at c.chart.ensures
+returns-clause-comes g c = (stream (Some c.new-nothing.result.items) (Some c.say_of_certificate.new.out.items), rw (c.read-recording.ensures.same, c.read-certificate.ensures.same) at c.say_of_certificate.ensures)

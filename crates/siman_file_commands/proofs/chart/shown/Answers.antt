@@ -1,5 +1,5 @@
 -- What is shown passes a limit, or a picture was drawn.
-use Rattle.std.proofs.Common.{Ok, Err, refl, map}
+use Rattle.std.proofs.Common.{Err, map}
 use Rattle.siman_file_commands.specs.Chart.{IsCertified}
 use Rattle.siman_file_commands.proofs.Pictured.{uncharted}
 use Rattle.siman_file_commands.proofs.chart.shown.Goals as goal
@@ -8,8 +8,8 @@ pub returns-in-Err : goal.returns-in-Err
 returns-in-Err g c =
     let r = g.L.ExerciseLog.recording c.args.log.now in
     let steps = c.args.steps.now in
-    let good : IsCertified (Ok r) (Ok steps) r steps = record { read = refl; certificate = refl; good = c.requires.good; holds = c.requires.holds } in
-    uncharted (map (λ word. word.now) c.args.asked.0.now) c.args.asked.1 r steps c.rows_in-rows.result c.in-Err.fault good c.requires.within c.rows_in-rows.ensures.shown
+    let good : IsCertified r steps = record { good = c.requires.good; holds = c.requires.holds } in
+    uncharted (map (λ word. word.now) c.args.command.words.now) c.args.command.window r steps c.rows_in-rows.result c.in-Err.fault good c.requires.within c.rows_in-rows.ensures.shown
     c.in-Err.ensures.picture (Err c.of_chart.result) c.of_chart.ensures
 
 pub returns-in-Ok : goal.returns-in-Ok
@@ -19,11 +19,9 @@ returns-in-Ok g c =
     let rows = c.rows_in-rows.result in
     let law = c.pictures_are_runs.ensures in
     let limits = c.in-Ok.ensures.limits in
-    let good : IsCertified (Ok r) (Ok steps) r steps = record { read = refl; certificate = refl; good = c.requires.good; holds = c.requires.holds } in
+    let good : IsCertified r steps = record { good = c.requires.good; holds = c.requires.holds } in
     record {
-      recording = r;
-      steps = steps;
-      certified_is = good;
+      certified = good;
       within = c.requires.within;
       rows = rows;
       shown = c.rows_in-rows.ensures.shown;

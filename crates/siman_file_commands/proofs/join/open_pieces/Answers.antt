@@ -3,8 +3,9 @@ use Rattle.std.proofs.Common.{◌≡◌, ◌+◌, [], ◌∷◌, ◌++◌, map, 
 use Rattle.std.specs.List.{flat_map}
 use Rattle.std.proofs.lemmas.List.{map-append}
 use Rattle.std.proofs.lemmas.List.Elements.{All-append}
+use Rattle.siman_outside.specs.Opening.{seen_as}
 use Rattle.siman_outside.specs.Outside.{WasHeld}
-use Rattle.siman_file_commands.specs.Join.{Seen, seen_by, opened_by, opening_deeds, OpensPieces}
+use Rattle.siman_file_commands.specs.Join.{Seen, seen_by, all_seen, opening_deeds, OpensPieces}
 use Rattle.siman_outside.proofs.Offered.{at_fault, adds_then}
 use Rattle.siman_file_commands.proofs.JoinedPieces.{next_name, next_taken, one_named, one_opened, split_names}
 use Rattle.siman_file_commands.proofs.join.open_pieces.Goals as goal
@@ -19,12 +20,12 @@ returns-in_err-file g c =
     let pieces = map (seen_by g.O.Outside.bytes) c.loop-name.pieces.items in
     let i = c.loop-name.name-index in
     let done = c.loop-name.invariant.done in
-    let refused = rw c.loop-name.invariant.stays at c.in_err-file.ensures in
+    let refused = rw c.loop-name.invariant.stays at c.in_err-file.ensures.did in
     let next = next_name g.S.AsStr.text c.args.names.now i c.name-item.result c.as_str-name.result.now c.loop-name-test.true c.name-item.is c.as_str-name.ensures in (
       done.0 ++ refused.0,
       adds_then _ _ _ done.0 refused.0 done.1 refused.1,
       All-append Held done.0 refused.0 done.2 refused.2,
-      at_fault (λ r. OpensPieces names made (done.0 ++ refused.0) (opened_by g.O.Outside.bytes r)) c.in_err-file.field-0.0 c.from_residual.result c.from_residual.ensures.1 (
+      at_fault (λ r. OpensPieces names made (done.0 ++ refused.0) (seen_as (all_seen g.O.Outside.bytes) r)) c.in_err-file.field-0.0 c.from_residual.result c.from_residual.ensures.1 (
         pieces,
         drop i names,
         refused.0,
@@ -44,7 +45,7 @@ returns-in-Err g c =
     let name = c.as_str-name.result.now in
     let piece : Seen = record { name = name; bytes = g.O.Outside.bytes c.in_ok-file.file } in
     let done = c.loop-name.invariant.done in
-    let opened = rw c.loop-name.invariant.stays at c.in_ok-file.ensures in
+    let opened = rw c.loop-name.invariant.stays at c.in_ok-file.ensures.did in
     let more = next_taken g.S.AsStr.text c.args.names.now i x name c.loop-name-test.true c.name-item.is c.as_str-name.ensures in
     let named = one_named pieces piece names i name c.loop-name.invariant.names refl more in
     let deeds = one_opened c.args.new.now pieces piece done.0 opened.0 done.3 opened.3 in (
@@ -66,7 +67,7 @@ loop-name-preserved g c =
     let name = c.as_str-name.result.now in
     let piece : Seen = record { name = name; bytes = g.O.Outside.bytes c.in_ok-file.file } in
     let done = c.loop-name.invariant.done in
-    let opened = rw c.loop-name.invariant.stays at c.in_ok-file.ensures in
+    let opened = rw c.loop-name.invariant.stays at c.in_ok-file.ensures.did in
     let more = next_taken g.S.AsStr.text c.args.names.now i x name c.loop-name-test.true c.name-item.is c.as_str-name.ensures in
     let held : map see c.push.new.self.items ≡ pieces ++ piece ∷ [] = ap (map see) c.in-Ok.ensures.items ∙ map-append see items (_ ∷ []) in
     record {
@@ -77,7 +78,7 @@ loop-name-preserved g c =
         one_opened c.args.new.now pieces piece done.0 opened.0 done.3 opened.3 ∙ ap (flat_map (opening_deeds c.args.new.now)) (sym held),
       );
       names = ap (map (λ (p : Seen). p.name)) held ∙ one_named pieces piece names i name c.loop-name.invariant.names refl more;
-      stays = opened.4;
+      stays = c.in_ok-file.ensures.stays ∙ c.loop-name.invariant.stays;
     }
 
 pub loop-name-init : goal.loop-name-init

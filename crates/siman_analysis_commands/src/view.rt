@@ -1,0 +1,82 @@
+//! The views of a recording, and the words that select among their rows.
+
+ghost use Rattle.std.specs.Prelude.{map};
+ghost use Rattle.siman_analysis_commands.specs.View.{Asks, IsAsked};
+
+use crate::filter_words::filter_of;
+use crate::log::print_log;
+use crate::review::print_review;
+use exercise_model::ExerciseLog;
+use exercise_review::Filter;
+use siman_outside::{Fault, OfRecording, ViewWord};
+use siman_print::Spelling;
+use std::alloc::Global;
+use std::convert::AsStr;
+use std::io::Write;
+
+/// A view of a recording, with the filters of its rows, and their spelling.
+#[derive(Drop)]
+pub struct View {
+    pub view: ViewWord,
+    pub filters: Vec<Filter>,
+    pub spelling: Spelling,
+}
+
+impl View {
+    /// The view whose filters `words` are, or `Filter` with the first word that is none. `Memory`:
+    /// memory ran out.
+    pub fn of<'a, S: AsStr>(
+        alloc: Global,
+        view: ViewWord,
+        words: &'a [S],
+        spelling: Spelling,
+    ) -> Result<View, Fault<'a>>
+        ensures { IsAsked view (map S.text words.now) spelling result }
+    {
+        let filters = filters_of(alloc, view, words)?;
+        Ok(View {
+            view,
+            filters,
+            spelling,
+        })
+    }
+}
+
+/// The filters of a view that `words` are, or `Filter` with the first word that is none.
+fn filters_of<'a, S: AsStr>(
+    alloc: Global,
+    view: ViewWord,
+    words: &'a [S],
+) -> Result<Vec<Filter>, Fault<'a>>
+    ensures { Asks view (map S.text words.now) result }
+{
+    let mut filters = Vec::new(alloc);
+    for word in words {
+        let word = word.as_str();
+        match filter_of(view, word.as_bytes()) {
+            Some(filter) => filters.push(filter)?,
+            None => return Err(Fault::Filter(word)),
+        }
+    }
+    Ok(filters)
+}
+
+impl<'a> OfRecording<'a> for View {
+    ghost use Rattle.siman_analysis_commands.specs.View.{PrintsView};
+
+    type Answer = u8;
+
+    ghost says = { λ v. PrintsView v.view v.spelling v.filters.items };
+
+    fn say<L: ExerciseLog, W: Write>(
+        self,
+        alloc: Global,
+        log: &L,
+        out: &mut W,
+    ) -> Result<u8, Fault<'a>> {
+        match self.view {
+            ViewWord::Review => print_review(alloc, log, self.spelling, &self.filters, out),
+            ViewWord::Log => print_log(alloc, log, self.spelling, &self.filters, out),
+        }
+    }
+}

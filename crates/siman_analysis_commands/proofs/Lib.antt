@@ -1,4 +1,3 @@
-mod Searches
 mod Reviewed
 mod Logged
-mod Said
+mod Pictured

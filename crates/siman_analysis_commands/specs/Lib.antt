@@ -1,6 +1,5 @@
 pub mod FilterWords
-pub mod AnswerText
-pub mod Audit
 pub mod Review
 pub mod View
-pub mod Why
+pub mod ChartWords
+pub mod Chart

@@ -13,7 +13,7 @@ use Rattle.exercise_audit.specs.declared.blocks.Block.{Block}
 use Rattle.exercise_audit.proofs.Offered.{blocked_alike}
 use Rattle.exercise_check.specs.Report.{report_text}
 use Rattle.siman_file_commands.specs.Check.{IsDue}
-use Rattle.siman_analysis_commands.specs.Audit.{blocked_text, IsListOf}
+use Rattle.siman_file_commands.specs.Audit.{blocked_text, IsListOf}
 
 pub report_alike : (r : PlainRecording) → report_text (converted r) ≡ report_text r
 unfolding pair_of change_behind sender_of first_able entry_taken_up own_event others_of log_of

@@ -13,11 +13,11 @@ use Rattle.siman_lines.specs.AtLines.{Telling}
 use Rattle.siman_outside.specs.declared.fault.Ended.{Ended}
 use Rattle.siman_outside.specs.declared.fault.Fault.{Fault}
 use Rattle.siman_outside.specs.declared.notes.Warning.{Warning}
-use Rattle.siman_console.specs.Reasons.{Explains}
+use Rattle.siman_outside.specs.Reasons.{Explains}
 use Rattle.siman_outside.specs.declared.fault.Fault.TheVariants.{Words, Output, Memory}
 use Rattle.siman_file_commands.specs.Answer.{said_of_hex, IsSaid}
-use Rattle.siman_analysis_commands.specs.Audit.{SearchesFile, PutsSequence}
-use Rattle.siman_file_commands.specs.Chart.{ChartsNamed}
+use Rattle.siman_file_commands.specs.Audit.{SearchesFile, PutsSequence}
+use Rattle.siman_analysis_commands.specs.Chart.{ChartsNamed}
 use Rattle.siman_file_commands.specs.Check.{ChecksCertificate}
 use Rattle.siman_file_commands.specs.Convert.{CarriesFile, PutsConverted}
 use Rattle.siman_outside.specs.Ending.{Ends, fault_in, IsFaultOf}
@@ -34,7 +34,7 @@ use Rattle.siman_outside.specs.Saying.{SaysOfFile, SaysOfFiles}
 use Rattle.siman_file_commands.specs.Show.{ShowsRecording}
 use Rattle.siman_exercise_commands.specs.ScriptTrial.{TriesInput}
 use Rattle.siman_exercise_commands.specs.Station.{EndsStation}
-use Rattle.siman_analysis_commands.specs.Why.{WhyNamed}
+use Rattle.siman_file_commands.specs.Why.{WhyNamed}
 use Rattle.siman_exercise_commands.specs.World.{RunsFile, PutsWorld}
 
 -- WHAT A COMMAND DOES: the files that it opens and makes, in their order, its answer or fault, and its output

@@ -8,7 +8,7 @@ ghost use Rattle.exercise_check.specs.declared.certificate.Step.{Step};
 ghost use Rattle.exercise_audit.specs.declared.blocks.Block.{Block};
 ghost use Rattle.exercise_check.specs.Report.{report_text};
 ghost use Rattle.siman_file_commands.specs.Check.{IsDue};
-ghost use Rattle.siman_analysis_commands.specs.Audit.{blocked_text, IsListOf};
+ghost use Rattle.siman_file_commands.specs.Audit.{blocked_text, IsListOf};
 
 /// The law of conversion: a recording and its conversion have equal reports (`report`) and equal
 /// blocked lists (`blocked`); the answer of `check` about a recording of the first form and some

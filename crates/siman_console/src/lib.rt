@@ -7,8 +7,7 @@
 //! the report of its world; the [`View`]s of a recording and [`WhyCommand`] run by
 //! [`say_of_recording`] and [`say_of_certificate`]. The commands are in
 //! `siman_file_commands`, `siman_exercise_commands` and `siman_analysis_commands`, their common
-//! parts in `siman_outside`; this crate leads from words to commands and writes the reasons of
-//! faults.
+//! parts and the reasons of faults in `siman_outside`; this crate leads from words to commands.
 //!
 //! It opens no file itself and ends no process.
 //!
@@ -17,24 +16,18 @@
 //! gets bytes only with status 2 or 3.
 #![tactic(auto)]
 
-mod explaining;
-mod file_reason;
-mod filter_reason;
 mod laws;
-mod named;
-mod pieces;
 mod program;
-mod reason;
 mod usage;
-mod warning;
 
 pub use laws::conversion_keeps_answers;
 pub use program::run;
-pub use siman_analysis_commands::{AuditCommand, View, WhyCommand, audit_command, filter_of};
+pub use siman_analysis_commands::{View, filter_of};
 pub use siman_exercise_commands::{perform, trial, world_command};
 pub use siman_file_commands::{
-    CheckCommand, LARGEST_OLD_RECORDING, ShowCommand, answers_follow_the_grammar, check_command,
-    check_files, pdu_command, pdus_command, show_command,
+    AuditCommand, CheckCommand, LARGEST_OLD_RECORDING, ShowCommand, WhyCommand,
+    answers_follow_the_grammar, audit_command, check_command, check_files, pdu_command,
+    pdus_command, show_command,
 };
 pub use siman_outside::{
     CommandLine, Ended, Endpoint, FileKind, FilesFault, JoinForm, Known, LARGEST_CERTIFICATE,

@@ -8,18 +8,17 @@ ghost use Rattle.siman_console.specs.Program.{DoesOne, EndsTwo, EndsTask, EndsEx
 ghost use Rattle.siman_outside.specs.Words.{asked_by};
 ghost use Rattle.siman_lines.specs.AtLines.{Telling};
 
-use crate::explaining::explained;
-use crate::named::{named_by, nothing_named};
 use crate::usage::end_usage;
-use siman_analysis_commands::{AuditCommand, View, why_named};
+use siman_analysis_commands::{View, chart_named};
 use siman_exercise_commands::{WorldCommand, end_live, end_station, try_input};
 use siman_file_commands::{
-    CheckCommand, ConvertCommand, MendCommand, ShowCommand, chart_named, end_lines, join_pieces,
-    show_word, word_of,
+    AuditCommand, CheckCommand, ConvertCommand, MendCommand, ShowCommand, end_lines, join_pieces,
+    show_word, why_named, word_of,
 };
 use siman_outside::{
     Ended, Ending, Fault, NoWord, Notes, OneWord, Outside, Task, TwoWords, ViewWord, asks_help,
-    conclude, make_of_file, of_error, read_words, say_of_file, say_of_files, usage_text,
+    conclude, explained, make_of_file, named_by, nothing_named, of_error, read_words, say_of_file,
+    say_of_files, usage_text,
 };
 use siman_print::Spelling;
 use std::alloc::{AllocError, Global};

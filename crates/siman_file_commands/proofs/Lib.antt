@@ -4,4 +4,5 @@ mod Shown
 mod Verdicts
 mod Conversions
 mod JoinedPieces
-mod Pictured
+mod Searches
+mod Said

@@ -6,5 +6,5 @@ pub mod Check
 pub mod Convert
 pub mod Mend
 pub mod Join
-pub mod ChartWords
-pub mod Chart
+pub mod Audit
+pub mod Why

@@ -13,8 +13,6 @@ use Rattle.exercise_recording.specs.declared.conversion.ConvertFault.{ConvertFau
 use Rattle.exercise_recording.specs.declared.conversion.ConvertFault.TheVariants as converts
 use Rattle.exercise_recording.specs.declared.mending.MendFault.{MendFault}
 use Rattle.exercise_recording.specs.declared.mending.MendFault.TheVariants as mends
-use Rattle.exercise_review.specs.declared.fault.ReviewFault.{ReviewFault}
-use Rattle.exercise_review.specs.declared.fault.ReviewFault.TheVariants as reviews
 use Rattle.exercise_check.specs.declared.certificate_fault.CertificateFault.{CertificateFault}
 use Rattle.exercise_check.specs.declared.certificate_fault.CertificateFault.TheVariants as certificates
 use Rattle.exercise_check.specs.FaultText as certificate_texts
@@ -28,8 +26,8 @@ use Rattle.siman_stations.specs.declared.world_fault.WorldFault.TheVariants as w
 use Rattle.siman_outside.specs.declared.place.Place.{Place}
 use Rattle.siman_outside.specs.declared.place.Place.TheVariants as places
 use Rattle.siman_outside.specs.declared.place.Place.TheVariants.{Offset, Line, Move, PieceOffset, PieceStation, Unopened}
-use Rattle.siman_outside.specs.declared.reason.OpenFault.{OpenFault}
-use Rattle.siman_outside.specs.declared.reason.OpenFault.TheVariants.{Missing, Denied, Directory, Other}
+use Rattle.siman_outside.specs.declared.unopened.OpenFault.{OpenFault}
+use Rattle.siman_outside.specs.declared.unopened.OpenFault.TheVariants.{Missing, Denied, Directory, Other}
 use Rattle.siman_outside.specs.declared.join_limit.JoinLimit.{JoinLimit}
 use Rattle.siman_outside.specs.declared.join_limit.JoinLimit.TheVariants as limits
 use Rattle.siman_outside.specs.declared.fault.Fault.{Fault}
@@ -170,11 +168,6 @@ abbrev pub of_mend : MendFault → Fault
 of_mend (mends.Recording fault) = of_recording fault
 of_mend mends.Write = Output
 of_mend mends.Memory = Memory
-
--- the fault of a command for a failed review
-abbrev pub of_review : ReviewFault → Fault
-of_review reviews.OverLimit = OverLimit
-of_review reviews.Memory = Memory
 
 -- the fault of a command for the fault of a script
 abbrev pub of_script : ScriptFault → Fault

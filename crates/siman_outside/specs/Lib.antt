@@ -7,7 +7,9 @@ pub mod Making
 pub mod Opening
 pub mod Saying
 pub mod Passing
+pub mod AnswerText
 pub mod Recorded
 pub mod FileKinds
 pub mod Notes
 pub mod Words
+pub mod Reasons

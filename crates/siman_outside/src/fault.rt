@@ -4,19 +4,18 @@ ghost use Rattle.std.specs.Prelude.{◌≡◌, Some};
 ghost use Rattle.std.specs.IoError.{error_kind};
 ghost use Rattle.byte_files.specs.Writing.{Writes};
 ghost use Rattle.siman_outside.specs.declared.fault.Fault.TheVariants.{Memory};
-ghost use Rattle.siman_outside.specs.Ending.{reported_as, place_text, fault_text, fault_line, fault_status, IsFaultOf, of_recording, of_convert, of_mend, of_review, of_files, of_script, of_world, of_trial, of_unread_script, of_certificate, Ends};
+ghost use Rattle.siman_outside.specs.Ending.{reported_as, place_text, fault_text, fault_line, fault_status, IsFaultOf, of_recording, of_convert, of_mend, of_files, of_script, of_world, of_trial, of_unread_script, of_certificate, Ends};
 
 use crate::files_fault::FilesFault;
 use crate::input::{InputFault, Unread};
 use crate::join_limit::JoinLimit;
 use crate::move_place::{MovePlace, move_fault_name};
 use crate::place::{Place, put_place};
-use crate::reason::OpenFault;
 use crate::trial_fault::TrialFault;
+use crate::unopened::OpenFault;
 use byte_files::{WriteFailed, put, put_both};
 use exercise_check::CertificateFault;
 use exercise_recording::{ConvertFault, MendFault, RecordingFault};
-use exercise_review::ReviewFault;
 use siman_scripts::{LineReason, ScriptFault};
 use siman_stations::WorldFault;
 use std::alloc::{AllocError, AllocFailed};
@@ -252,17 +251,6 @@ impl From<MendFault> for Fault<'_> {
             MendFault::Recording(fault) => Fault::from(fault),
             MendFault::Write => Fault::Output,
             MendFault::Memory => Fault::Memory,
-        }
-    }
-}
-
-impl From<ReviewFault> for Fault<'_> {
-    ghost from_gives = { λ fault e. e ≡ of_review fault };
-
-    fn from(fault: ReviewFault) -> Self {
-        match fault {
-            ReviewFault::OverLimit => Fault::OverLimit,
-            ReviewFault::Memory => Fault::Memory,
         }
     }
 }

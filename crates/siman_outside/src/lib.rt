@@ -1,31 +1,36 @@
 //! What a program of siman gets from outside and leaves there. The words of its command line ask for
 //! a task, by the table of commands, or for help, or they are a fault of usage. The files that it
 //! opens, makes and saves are those of the trait [`Outside`], and a command that fails has a
-//! [`Fault`] with its first line.
+//! [`Fault`] with its first line, and a second one that explains it.
 //!
 //! A caller reads the words ([`read_words`]); if they ask for no task, it prints [`usage_text`], as
 //! help if [`asks_help`], else as a fault. A command about a recording is an
 //! [`OfRecording`], one about a certificate an [`OfCertificate`], and one that makes a file of another
 //! an [`OfFile`], which gives a [`Product`]; it runs on readers ([`say_of_recording`],
 //! [`say_of_certificate`]) or on the names of files ([`say_of_file`], [`say_of_files`],
-//! [`make_of_file`]), and returns a status or a [`Fault`], which [`end`] turns into an exit status.
+//! [`make_of_file`]), and returns a status or a [`Fault`], which [`end`] turns into an exit status
+//! and [`explained`] explains.
 //!
 //! The crate has no command of its own, opens no file or socket itself, and ends no process.
 //!
 //! The layer above may use the contract of [`CommandLine::task`], which gives the task of the words,
 //! and those on which files are opened and made, in which order (`SaysOfFile`, `MakesOfFile`,
-//! `MakesFile`), and on the line of each fault, to the byte (`fault_line`, `Ends`); what a command
+//! `MakesFile`), and on the lines of each fault (`fault_line`, `Ends`, `Explains`); what a command
 //! makes of its input is in the contracts of the command's crate.
 #![tactic(auto)]
 
+mod answer_text;
 mod asking;
 mod command_line;
 mod commands;
 mod ending;
 mod endpoint;
+mod explaining;
 mod fault;
 mod file_kind;
+mod file_reason;
 mod files_fault;
+mod filter_reason;
 mod helping;
 mod input;
 mod join_limit;
@@ -33,10 +38,12 @@ mod known;
 mod limits;
 mod making;
 mod move_place;
+mod named;
 mod notes;
 mod opening;
 mod outside;
 mod passing;
+mod pieces;
 mod place;
 mod product;
 mod reason;
@@ -45,12 +52,16 @@ mod rows;
 mod saying;
 mod table;
 mod trial_fault;
+mod unopened;
 mod usage;
+mod warning;
 
+pub use answer_text::AnswerText;
 pub use command_line::{CommandLine, read_words};
 pub use commands::{JoinForm, NoWord, OneWord, StationWords, Task, TwoWords, ViewWord};
 pub use ending::{Ending, conclude};
 pub use endpoint::{Endpoint, endpoint_of};
+pub use explaining::explained;
 pub use fault::{Ended, Fault, end, of_error, tell};
 pub use file_kind::{FileKind, file_kind_of};
 pub use files_fault::FilesFault;
@@ -61,13 +72,14 @@ pub use known::{Known, SystemCall, SystemFault};
 pub use limits::{LARGEST_CERTIFICATE, LARGEST_RECORDING};
 pub use making::{Making, make_file, put_settled};
 pub use move_place::MovePlace;
+pub use named::{Named, named_by, nothing_named};
 pub use notes::{Notes, Warning};
 pub use opening::{if_free, open_fault, open_input, open_inputs};
 pub use outside::Outside;
 pub use passing::{HELD, pass_on, status_of};
 pub use product::{OfFile, Product, make_of_file, put_of_file};
-pub use reason::OpenFault;
 pub use recording_command::{OfCertificate, OfRecording, say_of_certificate, say_of_recording};
 pub use saying::{say_of_file, say_of_files};
 pub use trial_fault::TrialFault;
+pub use unopened::OpenFault;
 pub use usage::{terminal_text, usage_text};

@@ -7,7 +7,7 @@ ghost use Rattle.siman_outside.specs.Opening.{IsOpenFault, OpensInput, OpensInpu
 
 use crate::fault::Fault;
 use crate::outside::Outside;
-use crate::reason::reason_of;
+use crate::unopened::reason_of;
 use std::io;
 use std::io::ErrorKind;
 

@@ -4,7 +4,7 @@ ghost use Rattle.std.specs.Prelude.{◌++◌, decimal, Some};
 ghost use Rattle.byte_files.specs.Writing.{Writes};
 ghost use Rattle.siman_outside.specs.Ending.{piece_words, station_words, place_words};
 
-use crate::reason::OpenFault;
+use crate::unopened::OpenFault;
 use byte_files::{WriteFailed, put_both};
 use itoa::Buffer;
 use std::fmt;

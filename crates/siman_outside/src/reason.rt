@@ -1,45 +1,304 @@
-//! Why a file could not be opened.
+//! The reason of a fault: the line behind its first line that explains it to a person.
 
-ghost use Rattle.std.specs.Prelude.{◌≡◌};
-ghost use Rattle.siman_outside.specs.Ending.{reason_of, reason_text};
+ghost use Rattle.std.specs.Prelude.{◌≡◌, ℕ, List, None, IfSome};
+ghost use Rattle.siman_outside.specs.Reasons.{IsForeign, line_text, known_text, sent_text, move_words, move_text, step_text, pieces_text, reason_words, IsReason};
 
-use std::io::ErrorKind;
+use crate::fault::Fault;
+use crate::file_kind::FileKind;
+use crate::file_reason::{
+    certificate_pieces, file_pieces, kind_words, output_pieces, piece_pieces, recording_pieces,
+};
+use crate::filter_reason::filter_pieces;
+use crate::join_limit::JoinLimit;
+use crate::known::{Known, SystemCall, SystemFault};
+use crate::limits::LARGEST_RECORDING;
+use crate::move_place::MovePlace;
+use crate::named::Named;
+use crate::pieces::{TextPiece, TextPieces, five, named, named_twice, two_named, words};
+use siman_lines::{LineTrouble, system_words};
+use siman_manager::OrderFault;
+use siman_scripts::LineReason;
+use siman_stations::{MoveFault, WorldFault};
 
-/// Why a file could not be opened.
+/// The reason of a fault.
 #[derive(Clone, Copy)]
-pub enum OpenFault {
-    /// No file has the name.
-    Missing,
-    /// The user may not read it.
-    Denied,
-    /// It is a directory.
-    Directory,
-    /// Something else.
-    Other,
+pub(crate) enum Reason<'a> {
+    /// Why a line of a script is refused.
+    Script(LineReason),
+    /// A failed call of a station's link, as the link reported it.
+    Line(LineTrouble),
+    /// A text in pieces.
+    Text(TextPieces<'a>),
 }
 
-impl OpenFault {
-    /// The text of the reason, as the line of the fault has it.
-    pub(crate) fn name(self) -> &'static str
-        ensures { result.now ≡ reason_text self }
-    {
-        match self {
-            OpenFault::Missing => "no such file",
-            OpenFault::Denied => "permission denied",
-            OpenFault::Directory => "is a directory",
-            OpenFault::Other => "cannot be opened",
-        }
+/// The number of a script's line, and words behind it.
+fn line_pieces(line: usize, told: &'static str) -> TextPieces<'static>
+    ensures { pieces_text result ≡ line_text line told.now }
+{
+    five(
+        TextPiece::Words("line "),
+        TextPiece::Number(line as u64),
+        TextPiece::Words(told),
+        TextPiece::Nothing,
+        TextPiece::Nothing,
+    )
+}
+
+/// The datagrams that a delivery may name, after `sends` datagrams were sent.
+fn known_pieces(line: usize, sends: usize) -> TextPieces<'static>
+    ensures { pieces_text result ≡ known_text line sends }
+{
+    if sends == 0 {
+        return line_pieces(line, ": no datagram was sent before it");
+    }
+    five(
+        TextPiece::Words("line "),
+        TextPiece::Number(line as u64),
+        TextPiece::Words(": only the datagrams 0 to "),
+        TextPiece::Number(sends as u64 - 1),
+        TextPiece::Words(" were sent before it"),
+    )
+}
+
+/// The datagrams that a delivery may name, if it is known how many were sent before it.
+fn sent_pieces(line: usize, sends: Option<usize>) -> TextPieces<'static>
+    ensures { pieces_text result ≡ sent_text line sends }
+{
+    match sends {
+        None => line_pieces(line, ": that datagram was not sent before it"),
+        Some(sends) => known_pieces(line, sends),
     }
 }
 
-/// The reason for a kind of error.
-pub(crate) fn reason_of(kind: ErrorKind) -> OpenFault
-    ensures { result ≡ reason_of kind }
+/// Why a move cannot be made.
+fn move_words(fault: MoveFault) -> &'static str
+    ensures { result.now ≡ move_words fault }
+{
+    match fault {
+        MoveFault::Records => ": a recording has at most 1048576 entries",
+        MoveFault::NoSuchStation => ": the script has no such station",
+        MoveFault::NoSuchSend => ": that datagram was not sent before it",
+        MoveFault::NoSuchEntity => ": the number of an entity is from 1 to 65533",
+        MoveFault::NotARequest => ": only requests are ordered",
+        MoveFault::Order(OrderFault::IdsSpent) => {
+            ": no request identifier is left: begin with a smaller first="
+        }
+        MoveFault::Order(OrderFault::TooLong) => {
+            ": its PDU would have more than 8192 bytes: ask for fewer data"
+        }
+        MoveFault::Order(OrderFault::Memory) => ": memory ran out",
+    }
+}
+
+/// The line of a move in its script, and why the move cannot be made, or which would do.
+fn move_pieces(place: MovePlace, fault: MoveFault) -> TextPieces<'static>
+    ensures { pieces_text result ≡ move_text place fault }
+{
+    if let MoveFault::NoSuchSend = fault {
+        return sent_pieces(place.line, place.sends);
+    }
+    line_pieces(place.line, move_words(fault))
+}
+
+/// The number of steps, and the last step.
+fn step_pieces(steps: usize) -> TextPieces<'static>
+    ensures { pieces_text result ≡ step_text steps }
+{
+    if steps == 0 {
+        return words("there are no steps");
+    }
+    five(
+        TextPiece::Words("the number of steps is "),
+        TextPiece::Number(steps as u64),
+        TextPiece::Words(": the last is "),
+        TextPiece::Number(steps as u64 - 1),
+        TextPiece::Nothing,
+    )
+}
+
+/// The limit that pieces pass together.
+fn limit_pieces(limit: JoinLimit) -> TextPieces<'static> {
+    match limit {
+        JoinLimit::Stations => words("a recording has at most 256 stations"),
+        JoinLimit::Records => words("a recording has at most 1048576 entries"),
+        JoinLimit::Size => five(
+            TextPiece::Words("a recording has at most "),
+            TextPiece::Number(LARGEST_RECORDING),
+            TextPiece::Words(" bytes"),
+            TextPiece::Nothing,
+            TextPiece::Nothing,
+        ),
+    }
+}
+
+/// The reason for a station that an earlier piece has too.
+fn twice_pieces(site: u16, application: u16) -> TextPieces<'static> {
+    five(
+        TextPiece::Words("an earlier piece has station "),
+        TextPiece::Address(site, application),
+        TextPiece::Words(" too: leave one of the two out"),
+        TextPiece::Nothing,
+        TextPiece::Nothing,
+    )
+}
+
+/// Name of the socket on which a call failed: as the command line has it, or one of the loopback.
+fn socket_name<'a>(names: Named<'a>, known: Known) -> &'a str {
+    match known.failed {
+        Some(
+            SystemFault {
+                call: SystemCall::Bind(_),
+                ..
+            },
+        ) => names.socket,
+        _ => "a socket of 127.0.0.1",
+    }
+}
+
+/// The system's error on a socket, in words.
+fn socket_words(known: Known) -> &'static str {
+    match known.failed {
+        Some(failed) => system_words(failed.kind),
+        None => "failed",
+    }
+}
+
+/// The reason for a socket that was not bound.
+fn socket_pieces<'a>(names: Named<'a>, known: Known) -> TextPieces<'a> {
+    five(
+        TextPiece::Words("binding "),
+        TextPiece::Name(socket_name(names, known)),
+        TextPiece::Words(": "),
+        TextPiece::Words(socket_words(known)),
+        TextPiece::Nothing,
+    )
+}
+
+/// The reason for an existing file under the name of the one to be made.
+fn standing_pieces(names: Named<'_>) -> TextPieces<'_> {
+    if names.may_force {
+        return named(
+            names.made,
+            " is there already: give another name, or --force to replace it",
+        );
+    }
+    named(names.made, " is there already: give another name")
+}
+
+/// The reason for a world that does not run.
+fn world_pieces(fault: WorldFault) -> TextPieces<'static> {
+    match fault {
+        WorldFault::Stations => words("a station opens with at most 4096 entities"),
+        WorldFault::Move(..) => words("the move cannot be made"),
+        WorldFault::Memory => words("memory ran out"),
+    }
+}
+
+/// The reason for a fault, a text that no contract specifies; it may depend on the system's errors.
+fn other_pieces<'a>(fault: Fault<'a>, names: Named<'a>, known: Known) -> TextPieces<'a> {
+    match fault {
+        Fault::NotBytePairs | Fault::HexLine(_) => {
+            words("pairs of hex digits are expected, of at most 65536 bytes")
+        }
+        Fault::Input => words("standard input could not be read to its end"),
+        Fault::File(name, reason) => file_pieces(name, reason, known),
+        Fault::Words => words("a word of the command line is not UTF-8"),
+        Fault::Recording(fault) => recording_pieces(fault, names, known),
+        Fault::Already => named(names.first, " is of the second format already"),
+        Fault::Piece(fault, name) => piece_pieces(fault, name),
+        Fault::OtherExercise(name) => {
+            two_named(name, " is of another exercise than ", names.first)
+        }
+        Fault::StationTwice(site, application, _) => twice_pieces(site, application),
+        Fault::Joined(limit) => limit_pieces(limit),
+        Fault::Certificate(fault) => certificate_pieces(fault, names, known),
+        Fault::Script(..) => words("the text is no script"),
+        Fault::ScriptRead(_) => named(names.first, " could not be read to its end"),
+        Fault::World(fault, _) => world_pieces(fault),
+        Fault::LineFailed => socket_pieces(names, known),
+        Fault::StationWord(word) => named(
+            word,
+            ": a station is S:A, each from 1 to 65534; a socket is IP:PORT, as 10.0.0.1:3000",
+        ),
+        Fault::NotInSetup => two_named(names.first, " has no line station ", names.second),
+        Fault::Filter(word) => filter_pieces(word, names.view),
+        Fault::Step(_, steps) => step_pieces(steps),
+        Fault::OverLimit => words("a view has at most 4194304 lines"),
+        Fault::ChartOverLimit => {
+            words("a picture has at most 2000 rows: choose some by from=STEP and to=STEP")
+        }
+        Fault::Output => output_pieces(names.made, known),
+        Fault::SameAs(name) => named(name, " is read: give the new file another name"),
+        Fault::Exists => standing_pieces(names),
+        Fault::Memory => words("there is not enough memory for it"),
+    }
+}
+
+/// The reason for a fault that the input does not determine.
+fn other_reason<'a>(
+    fault: Fault<'a>,
+    names: Named<'a>,
+    known: Known,
+    trouble: Option<LineTrouble>,
+) -> Reason<'a> {
+    match trouble {
+        Some(trouble) if matches!(fault, Fault::LineFailed) => Reason::Line(trouble),
+        _ => Reason::Text(other_pieces(fault, names, known)),
+    }
+}
+
+/// The reason for a fault, if the input determines it.
+fn read_reason(fault: Fault<'_>) -> Option<Reason<'static>>
+    ensures some { IfSome result (λ reason. IsReason fault.entry (reason_words reason)) }
+    ensures none { result ≡ None → (text : List ℕ) → IsReason fault.entry text }
+{
+    match fault {
+        Fault::Script(_, Some(why)) => Some(Reason::Script(why)),
+        Fault::World(WorldFault::Move(_, fault), Some(place)) => {
+            Some(Reason::Text(move_pieces(place, fault)))
+        }
+        Fault::Step(_, steps) => Some(Reason::Text(step_pieces(steps))),
+        _ => None,
+    }
+}
+
+/// The reason for a script that is a file of another kind, if it looks like such a file.
+fn foreign_script<'a>(name: &'a str, kind: FileKind) -> Option<Reason<'a>>
+    ensures { IfSome result (λ reason. IsForeign (reason_words reason)) }
 {
     match kind {
-        ErrorKind::NotFound => OpenFault::Missing,
-        ErrorKind::PermissionDenied => OpenFault::Denied,
-        ErrorKind::IsADirectory => OpenFault::Directory,
-        _ => OpenFault::Other,
+        FileKind::Recording | FileKind::Certificate | FileKind::Capture => {
+            let text = named_twice(name, " is no script: it looks like ", kind_words(kind));
+            Some(Reason::Text(text))
+        }
+        FileKind::Script | FileKind::Empty | FileKind::Unknown => None,
     }
+}
+
+/// The reason for a refused script that looks like a file of another kind.
+fn foreign_reason<'a>(fault: Fault<'a>, names: Named<'a>, known: Known) -> Option<Reason<'a>>
+    ensures { IfSome result (λ reason. IsReason fault.entry (reason_words reason)) }
+{
+    match fault {
+        Fault::Script(_, Some(_)) => foreign_script(names.first, known.first),
+        _ => None,
+    }
+}
+
+/// The reason of a fault.
+pub(crate) fn reason_of<'a>(
+    fault: Fault<'a>,
+    names: Named<'a>,
+    known: Known,
+    trouble: Option<LineTrouble>,
+) -> Reason<'a>
+    ensures { IsReason fault.entry (reason_words result) }
+{
+    if let Some(reason) = foreign_reason(fault, names, known) {
+        return reason;
+    }
+    if let Some(reason) = read_reason(fault) {
+        return reason;
+    }
+    other_reason(fault, names, known, trouble)
 }

@@ -1,6 +1,0 @@
--- Each piece has its text.
-use Rattle.std.proofs.Common.{refl}
-use Rattle.siman_console.proofs.warning.nobody_pieces.Goals as goal
-
-pub returns : goal.returns
-returns c = rw c.five.ensures refl

@@ -1,0 +1,12 @@
+use Rattle.std.proofs.Common.{◌++◌, codes}
+use Rattle.siman_print.specs.Records.{line_end}
+use Rattle.siman_outside.specs.Reasons.{reason_words}
+use Rattle.byte_files.proofs.Offered.{at_error, writes_part, writes_then}
+use Rattle.siman_outside.proofs.explaining.put_second.Goals as goal
+
+pub returns-in_err-put : goal.returns-in_err-put
+returns-in_err-put g c =
+    at_error c.from_residual.result _ _ _ c.from_residual.ensures.0 (writes_part _ _ (codes "  ") (reason_words c.args.reason ++ line_end) c.in_err-put.ensures)
+
+pub returns : goal.returns
+returns g c = writes_then c.put_ended.result _ _ _ (codes "  ") (reason_words c.args.reason ++ line_end) c.in_ok-put.ensures c.put_ended.ensures

@@ -1,0 +1,140 @@
+-- The second line of a fault, which explains it to a person (profile).
+use Rattle.std.specs.Prelude.{◌≡◌, ◌⊎◌, ⊤, ℕ, zero, suc, ◌-◌, ◌==◌, List, [], ◌++◌, codes, decimal, Option, Some, None, Result, Ok, Err, if◌then◌else◌}
+use Rattle.std.specs.Io.KnownBytes.{Keeps}
+use Rattle.byte_files.specs.Writing.{Writes}
+use Rattle.byte_files.specs.declared.output.WriteFailed.{WriteFailed}
+use Rattle.siman_scripts.specs.ReasonText.{reason_text}
+use Rattle.siman_manager.specs.declared.fault.OrderFault.TheVariants as orders
+use Rattle.siman_stations.specs.declared.world_fault.MoveFault.{MoveFault}
+use Rattle.siman_stations.specs.declared.world_fault.MoveFault.TheVariants as moves
+use Rattle.siman_stations.specs.declared.world_fault.WorldFault.TheVariants as worlds
+use Rattle.siman_lines.specs.Trouble.{line_trouble_text}
+use Rattle.siman_print.specs.Records.{line_end}
+use Rattle.siman_outside.specs.declared.fault.Fault.{Fault}
+use Rattle.siman_outside.specs.declared.fault.Fault.TheVariants.{Script, World, Step}
+use Rattle.siman_outside.specs.declared.move_place.MovePlace.{MovePlace}
+use Rattle.siman_outside.specs.declared.notes.Warning.{Warning}
+use Rattle.siman_outside.specs.declared.notes.Warning.TheVariants as warnings
+use Rattle.siman_outside.specs.declared.pieces.TextPiece.{TextPiece}
+use Rattle.siman_outside.specs.declared.pieces.TextPiece.TheVariants as kinds
+use Rattle.siman_outside.specs.declared.pieces.TextPieces.{TextPieces}
+use Rattle.siman_outside.specs.declared.reason.Reason.{Reason}
+use Rattle.siman_outside.specs.declared.reason.Reason.TheVariants as reasons
+
+-- Pieces of a text.
+
+abbrev pub piece_text : TextPiece → List ℕ
+piece_text (kinds.Name name) = name.now
+piece_text (kinds.Words words) = words.now
+piece_text (kinds.Number n) = decimal n
+piece_text (kinds.Address site application) = decimal site ++ (codes ":" ++ decimal application)
+piece_text kinds.Nothing = []
+
+abbrev pub five : List ℕ → List ℕ → List ℕ → List ℕ → List ℕ → List ℕ
+five a b c d e = a ++ (b ++ (c ++ (d ++ e)))
+
+abbrev pub pieces_text : TextPieces → List ℕ
+pieces_text p = five (piece_text p.first) (piece_text p.second) (piece_text p.third) (piece_text p.fourth) (piece_text p.fifth)
+
+abbrev pub pieces : TextPiece → TextPiece → TextPiece → TextPiece → TextPiece → TextPieces
+pieces a b c d e = record { first = a; second = b; third = c; fourth = d; fifth = e }
+
+-- Of a move that cannot be made.
+
+-- the number of a script's line, and words behind it
+abbrev pub line_text : (line : ℕ) → (told : List ℕ) → List ℕ
+line_text line told = five (codes "line ") (decimal line) told [] []
+
+-- the datagrams that a delivery may name, after this number of sends
+abbrev pub known_text : (line sends : ℕ) → List ℕ
+known_text line sends =
+    if sends == 0 then line_text line (codes ": no datagram was sent before it")
+    else five (codes "line ") (decimal line) (codes ": only the datagrams 0 to ") (decimal (sends - 1)) (codes " were sent before it")
+
+abbrev pub sent_text : (line : ℕ) → Option ℕ → List ℕ
+sent_text line None = line_text line (codes ": that datagram was not sent before it")
+sent_text line (Some sends) = known_text line sends
+
+-- why a move cannot be made
+abbrev pub move_words : MoveFault → List ℕ
+move_words moves.Records = codes ": a recording has at most 1048576 entries"
+move_words moves.NoSuchStation = codes ": the script has no such station"
+move_words moves.NoSuchSend = codes ": that datagram was not sent before it"
+move_words moves.NoSuchEntity = codes ": the number of an entity is from 1 to 65533"
+move_words moves.NotARequest = codes ": only requests are ordered"
+move_words (moves.Order orders.IdsSpent) = codes ": no request identifier is left: begin with a smaller first="
+move_words (moves.Order orders.TooLong) = codes ": its PDU would have more than 8192 bytes: ask for fewer data"
+move_words (moves.Order orders.Memory) = codes ": memory ran out"
+
+-- the line of a move in its script, and why it cannot be made, or which would do
+abbrev pub move_text : MovePlace → MoveFault → List ℕ
+move_text place moves.NoSuchSend = sent_text place.line place.sends
+move_text place fault = line_text place.line (move_words fault)
+
+-- Of a word that names a step past the last one.
+
+abbrev pub step_text : ℕ → List ℕ
+step_text zero = five (codes "there are no steps") [] [] [] []
+step_text (suc last) = five (codes "the number of steps is ") (decimal (suc last)) (codes ": the last is ") (decimal last) []
+
+-- Of a reason.
+
+abbrev pub reason_words : Reason → List ℕ
+reason_words (reasons.Script why) = reason_text why
+reason_words (reasons.Line trouble) = line_trouble_text trouble
+reason_words (reasons.Text pieces) = pieces_text pieces
+
+-- The text says that a file is no script and looks like one of another kind.
+abbrev pub IsForeign : (text : List ℕ) → Type 0
+IsForeign text = (name kind : List ℕ) × (text ≡ five name (codes " is no script: it looks like ") kind [] [])
+
+-- THE REASON OF A FAULT, if the input determines it: why a line of a script is refused or what kind of file it looks like, the place of a move and which would do, or the last step. The text for any other fault is in no contract.
+abbrev pub IsReason : Fault → (text : List ℕ) → Type 0
+IsReason (Script fault (Some why)) text = (text ≡ reason_text why) ⊎ IsForeign text
+IsReason (World (worlds.Move number fault) (Some place)) text = text ≡ move_text place fault
+IsReason (Step word steps) text = text ≡ step_text steps
+IsReason other text = ⊤
+
+-- THE SECOND LINE begins with two blanks
+abbrev pub second_line : (text : List ℕ) → List ℕ
+second_line text = codes "  " ++ (text ++ line_end)
+
+-- the line `mend REC NEW`, where REC is the name of the begun recording and NEW is the word itself
+abbrev pub mend_line : (begun : Option (List ℕ)) → List ℕ
+mend_line None = []
+mend_line (Some name) = (codes "mend " ++ name) ++ (codes " NEW" ++ line_end)
+
+-- whether all of it is written
+abbrev pub Wrote : Type 0
+Wrote = Result (Unit {0}) WriteFailed
+
+-- Of warnings.
+
+-- No datagram of a recording means anything in its exercise.
+abbrev pub meant_text : (datagrams exercise : ℕ) → List ℕ
+meant_text datagrams exercise =
+    five (codes "none of the ") (decimal datagrams) (codes " datagrams is a management PDU of exercise ") (decimal exercise) (codes ": see why= of siman log")
+
+-- An order is for a station that its script does not have.
+abbrev pub nobody_text : (line site application : ℕ) → List ℕ
+nobody_text line site application =
+    five (codes "line ") (decimal line) (codes ": the script has no station ") (decimal site ++ (codes ":" ++ decimal application)) (codes ", so nobody gets this order")
+
+abbrev pub warning_text : Warning → List ℕ
+warning_text (warnings.NothingMeant datagrams exercise) = meant_text datagrams exercise
+warning_text (warnings.NoSuchStation line site application) = nobody_text line site application
+
+-- the line `warning: TEXT`
+abbrev pub warning_line : Warning → List ℕ
+warning_line warning = codes "warning: " ++ (warning_text warning ++ line_end)
+
+abbrev pub Warns : Option Warning → (old new : Option (List ℕ)) → Type 0
+Warns None old new = Keeps old new
+Warns (Some warning) old new = (wrote : Wrote) × Writes wrote old new (warning_line warning)
+
+-- BEHIND THE FIRST LINE OF A FAULT its second line is written, and the line that mends the recording begun before it, or a prefix of both if the writer fails; nothing, if the first line was not written whole. Without a fault, the warning is written, if there is a warning.
+abbrev pub Explains : (first : Wrote) → Option Fault → (begun : Option (List ℕ)) → Option Warning → (old new : Option (List ℕ)) → Type 0
+Explains first None begun warning old new = Warns warning old new
+Explains (Err failed) (Some fault) begun warning old new = Keeps old new
+Explains (Ok x) (Some fault) begun warning old new =
+    (text : List ℕ) × (wrote : Wrote) × IsReason fault text × Writes wrote old new (second_line text ++ mend_line begun)

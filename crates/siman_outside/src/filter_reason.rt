@@ -1,0 +1,49 @@
+//! Reasons for words that are no filter of a view, or select no steps of a picture.
+
+use crate::commands::ViewWord;
+use crate::pieces::{TextPieces, words};
+
+/// The values of a key that both views have, if the word begins with one.
+fn shared_words(word: &str) -> Option<&'static str> {
+    let bytes = word.as_bytes();
+    if bytes.starts_with(b"station=") {
+        return Some("station=S:A is expected, each from 0 to 65535");
+    }
+    if bytes.starts_with(b"entity=") {
+        return Some("entity=S:A:E is expected, each from 0 to 65535");
+    }
+    if bytes.starts_with(b"request=") {
+        return Some("request=S:A/N is expected, S and A from 0 to 65535, N from 0 to 4294967295");
+    }
+    None
+}
+
+/// The filters of `review`, or the values of the key of this word.
+fn review_words(word: &str) -> &'static str {
+    if word.as_bytes().starts_with(b"fate=") {
+        return "fate= is done, answered, refused, pending, unheard, unanswered, lost, unknown or nobody";
+    }
+    "the filters of review are station=S:A, entity=S:A:E, request=S:A/N and fate=WORD"
+}
+
+/// The filters of `log`, or the values of the key of this word.
+fn log_words(word: &str) -> &'static str {
+    if word.as_bytes().starts_with(b"kind=") {
+        return "kind= is create-entity, remove-entity, start-resume, stop-freeze, acknowledge, \
+            action-request, action-response, data-query, set-data, data, event-report, comment, told \
+            or other";
+    }
+    "the filters of log are station=S:A, entity=S:A:E, request=S:A/N and kind=NAME"
+}
+
+/// The reason for a word that is no filter of a view, or selects no steps of a picture.
+pub(crate) fn filter_pieces(word: &str, view: Option<ViewWord>) -> TextPieces<'static> {
+    let own = match view {
+        Some(ViewWord::Review) => review_words(word),
+        Some(ViewWord::Log) => log_words(word),
+        None => return words(
+            "the words of chart are from=STEP and to=STEP, each at most once, the first not above the last",
+        ),
+    };
+    words(shared_words(word).unwrap_or(own))
+}

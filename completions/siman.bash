@@ -56,11 +56,11 @@ _siman() {
     current=${words[-1]%.}
     COMPREPLY=()
     if ((${#words[@]} == 2)); then
-        _siman_words 'pdu pdus show check audit world live station convert mend join review log why chart help --help --version'
+        _siman_words 'pdu pdus show check audit world live station convert mend join review log count why chart help --help --version'
         return
     fi
     case ${words[1]}:$((${#words[@]} - 3)) in
-        help:0) _siman_words 'pdu pdus show check audit world live station convert mend join review log why chart help' ;;
+        help:0) _siman_words 'pdu pdus show check audit world live station convert mend join review log count why chart help' ;;
         show:0) _siman_files dsrc ;;
         check:0) _siman_files dsrc ;;
         check:1) _siman_files dsct ;;
@@ -86,6 +86,8 @@ _siman() {
         review:*) _siman_words 'station= entity= request= fate=done fate=answered fate=refused fate=pending fate=unheard fate=unanswered fate=lost fate=unknown fate=nobody --json' ;;
         log:0) _siman_files dsrc ;;
         log:*) _siman_words 'station= entity= request= kind=create-entity kind=remove-entity kind=start-resume kind=stop-freeze kind=acknowledge kind=action-request kind=action-response kind=data-query kind=set-data kind=data kind=event-report kind=comment kind=told kind=other --json' ;;
+        count:0) _siman_files dsrc ;;
+        count:*) _siman_words 'station= entity= request= kind=create-entity kind=remove-entity kind=start-resume kind=stop-freeze kind=acknowledge kind=action-request kind=action-response kind=data-query kind=set-data kind=data kind=event-report kind=comment kind=told kind=other --json' ;;
         why:0) _siman_files dsrc ;;
         why:*) _siman_files dsct; _siman_words '--json' ;;
         chart:0) _siman_files dsrc ;;

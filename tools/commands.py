@@ -11,28 +11,20 @@ import sys
 from pathlib import Path
 
 TOP = Path(__file__).resolve().parent.parent
-# How usage has a word that may stand so often, and what may stand behind all words of a command.
-OFTEN = {"Once": "{}", "AtMostOnce": "[{}]", "OnceOrMore": "{} ..", "AnyTimes": "[{} ..]"}
-BEHIND = {
-    "Pieces": [r"[form=open\|form=closed]", "[--force]"], "View": ["[--json]"], "PerhapsTwo": ["[--json]"],
-    "Station": ["[from=any]"],
-    "Picture": ["[from=STEP]", "[to=STEP]", "[--force]"],  # in the place of the word STEP
-    **dict.fromkeys(("Audit", "World", "Convert", "Mend"), ["[--force]"]),
-}  # fmt: skip
 TABLE = TOP / "crates" / "siman_outside" / "src" / "table.rt"
 
 
+def in_readme(usage):
+    """A usage as the README has it: words stand bare, and ` ..` behind those of which there may be more."""
+    words = usage.removeprefix("siman ").replace("|", r"\|")
+    words = re.sub(r"\[([A-Z]+)\]\.\.\.", r"[\1 ..]", words)
+    return re.sub(r"<([A-Z]+)>", r"\1", words).replace("...", " ..")
+
+
 def rows_of_program():
-    """Each command of the program as usage has it: its name and its words."""
+    """Each command of the program as the README has its usage: its name and its words."""
     rows = TABLE.read_text(encoding="utf-8").partition("const ROWS")[2].partition("\n];")[0]
-    found = []
-    for row in re.split(r"^    CommandRow \{$", rows, flags=re.M)[1:]:
-        name = re.search(r'name: "([^"]+)"', row)[1]
-        takes, of_two = re.search(r"takes: Takes::(\w+)(?:\(TwoWords::(\w+)\))?", row).groups()
-        words = re.findall(r'name: "([A-Z]+)",\s*often: Often::(\w+)', row.partition("words:")[2])
-        told = [OFTEN[often].format(word) for word, often in words if word != "STEP"]
-        found.append(" ".join([name, *told, *BEHIND.get(of_two or takes, [])]))
-    return found
+    return [in_readme(usage) for usage in re.findall(r'^        usage: "([^"]+)",$', rows, flags=re.M)]
 
 
 def rows_of_readme():

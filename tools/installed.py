@@ -60,6 +60,8 @@ TYPED = {
     "siman review exercise.dsrc fate=lost sta": "siman review exercise.dsrc fate=lost station=",
     "siman log exercise.dsrc kind=ev": "siman log exercise.dsrc kind=event-report",
     "siman log exercise.dsrc --j": "siman log exercise.dsrc --json",
+    "siman coun": "siman count",
+    "siman count exercise.dsrc kind=told sta": "siman count exercise.dsrc kind=told station=",
     "siman why exercise.dsrc exer": "siman why exercise.dsrc exercise.dsct",
     "siman why exercise.dsrc --j": "siman why exercise.dsrc --json",
     "siman join exer": "siman join exercise.dsrc",

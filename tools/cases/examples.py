@@ -80,6 +80,27 @@ entry 27 1:1 received clock=152 acknowledge version=7 time=00:00.000000/relative
 entry 28 2:3 told entity=2:3:7 state=stopped
 entry 29 1:1 sent clock=160 remove-entity version=7 time=00:00.000000/relative status=0 from=1:1:0 to=2:4:8 request=7 receipts=0 order=29
 """
+# What count says of it.
+LOSSES_COUNT = b"""\
+count 1:1 sent create-entity entries=3
+count 1:1 sent remove-entity entries=1
+count 1:1 sent start-resume entries=1
+count 1:1 sent stop-freeze entries=2
+count 1:1 sent data-query entries=1
+count 1:1 received acknowledge entries=5
+count 1:1 received event-report entries=1
+count 2:3 sent acknowledge entries=4
+count 2:3 sent event-report entries=1
+count 2:3 received create-entity entries=1
+count 2:3 received start-resume entries=1
+count 2:3 received stop-freeze entries=2
+count 2:3 told entries=1
+count 2:4 sent acknowledge entries=2
+count 2:4 received create-entity entries=1
+count 2:4 received start-resume entries=1
+count 2:4 received data-query entries=1
+count 2:4 told entries=1
+"""
 # What why says of it without its entry 7, and with the answer of entry 14 unable; the latter with its certificate too.
 WHY_MISSING = b"""\
 blocked stations=3

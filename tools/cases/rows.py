@@ -45,6 +45,14 @@ REVIEW_IN_JSON = (
     b'{"line":"state","entity":"2:3:7","state":"stopped","from":2,"to":null,"since":"0","until":null,"by":"1:1",'
     b'"request":1}\n'
 )
+COUNTED = (
+    b"count 1:1 sent create-entity entries=1\ncount 1:1 received acknowledge entries=1\n"
+    b"count 2:3 sent acknowledge entries=1\ncount 2:3 received create-entity entries=1\n"
+)
+COUNTED_IN_JSON = (
+    b'{"line":"count","address":"2:3","did":"sent","kind":"acknowledge","entries":1}\n'
+    b'{"line":"count","address":"2:3","did":"received","kind":"create-entity","entries":1}\n'
+)
 
 
 def rows(trials):
@@ -71,6 +79,8 @@ def rows(trials):
         (["show", recording], b"", pages.answer_to_show(RECORDING)),
         (["log", recording, "--json"], b"", pages.answer_to_log(RECORDING, (), pages.log_json)),
         (["log", recording, "request=1:1/1"], b"", pages.answer_to_log(RECORDING, ["request=1:1/1"])),
+        (["count", recording], b"", Outcome(0, COUNTED, b"")),
+        (["count", recording, "station=2:3", "--json"], b"", Outcome(0, COUNTED_IN_JSON, b"")),
         (["why", crossed], b"", pages.answer_to_why(texts.recording_text(CROSSED))),
         (["why", recording, swapped], b"", pages.answer_to_why_not(RECORDING, SWAPPED)),
         (["chart", recording, certificate, "row.svg"], b"", answer_to_chart(RECORDING, CERTIFICATE)[0]),

@@ -27,6 +27,7 @@ def try_words(trials):
         ["audit", recording, "a", "--force", "--force"], ["live", "a", "b", "--force"], ["audit", recording, "a", "--json"],
         ["join", recording, "a"], ["join", recording, "a", "--force"], ["join", "-", "-", "a"], ["station", "-", "1:1", "a", "127.0.0.1:1", "127.0.0.1:2"],
         ["check", "-", "-"], ["chart", "-", "-", "a"], ["why", "-", "-"], ["pdus", "--force"], ["--json", "review", recording],
+        ["count"], ["count", "-a"], ["count", "--json"], ["count", recording, "--json", "--json"], ["count", "-", "-"],
         ["why"], ["why", "-a"], ["why", "--json"], ["why", recording, "-a"], ["why", recording, "--json", certificate, "--json"],
         ["why", recording, certificate, certificate],
         ["chart"], ["chart", recording], ["chart", recording, certificate], ["chart", recording, certificate, "-a"],
@@ -39,7 +40,10 @@ def try_words(trials):
     trials.expect(["show", "-"], shown, behind=f"<{recording}")
     trials.expect(["show", "-"], pages.fault("file: -: is a directory"), behind="<&-")
     trials.expect(["show", "./-"], pages.fault("file: ./-: no such file"), given=FORMATS_RECORDING)
-    for words in (["check", recording, certificate], ["review", recording], ["why", recording], ["why", recording, certificate]):
+    for words in (
+        ["check", recording, certificate], ["review", recording], ["count", recording], ["why", recording],
+        ["why", recording, certificate],
+    ):  # fmt: skip
         same = trials.run(Case(words, ()))
         trials.expect([words[0], "-", *words[2:]], same, given=FORMATS_RECORDING)
         if words[2:]:

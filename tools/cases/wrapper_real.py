@@ -35,6 +35,13 @@ LOGGED = (
     "flag=3(start-resume) response=1(able) request=3 receipts=0 answers=11\n"
     "change 13 entity=2:4:65535 to=running by=1:1 request=3\n"
 )
+COUNTED = (
+    "count 2:4 sent acknowledge entries=2\n"
+    "count 2:4 received create-entity entries=1\n"
+    "count 2:4 received start-resume entries=1\n"
+    "count 2:4 received data-query entries=1\n"
+    "count 2:4 told entries=1\n"
+)
 NO = "no step=3 cause=13 wrong-state\n"
 WHY = (
     NO + "rule 13 a station tells the state that its entity has\n"
@@ -51,6 +58,7 @@ REAL = (
     (["review", "examples/losses.dsrc", "fate=lost"], None, REVIEWED, "", 0),
     (["review", "examples/missing.dsrc", "--json"], None, "", "file: examples/missing.dsrc: no such file\n", 2),
     (["log", "examples/losses.dsrc", "request=1:1/3", "station=2:4"], None, LOGGED, "", 0),
+    (["count", "examples/losses.dsrc", "station=2:4"], None, COUNTED, "", 0),
     (["why", "examples/logs_joined_wrong_state.dsrc", "examples/logs_joined.dsct"], None, WHY, "", 1),
     (["why", "examples/missing.dsrc", "--json"], None, "", "file: examples/missing.dsrc: no such file\n", 2),
     (["show", "examples/missing.dsrc"], None, "", "file: examples/missing.dsrc: no such file\n", 2),

@@ -1,12 +1,14 @@
 """What the program answers by the pages of docs/, for the script outside.py.
 
 FORMATS.md says which datagrams spell a PDU, and which files are recordings and certificates; READING.md when a
-certificate explains a recording, what became of its orders, what each entry says and what goes with it, what
-contradicts what, and how each answer is written; SCRIPTS.md which texts are scripts, and why the others are none, and,
-with NETWORK.md, what their worlds record and what a station on a network does. Nothing here looks at the program.
+certificate explains a recording, what became of its orders, what each entry says and what goes with it, how many there
+are of each kind, what contradicts what, and how each answer is written; SCRIPTS.md which texts are scripts, and why the
+others are none, and, with NETWORK.md, what their worlds record and what a station on a network does. Nothing here looks
+at the program.
 """
 from .clashes import *
 from .conflicts import *
+from .counts import *
 from .datagrams import *
 from .files import *
 from .histories import *

@@ -213,8 +213,10 @@ def log_json(line):
     return json.dumps(values, separators=(",", ":"))
 
 
-def answer_to_log(text, words=(), spelled=log_text):
-    """What log answers to a recording by its bytes, and to the words behind it."""
+def answer_of_entries(text, words, lines_told, spelled):
+    """What a view of entries answers to a recording by its bytes, and to the words behind it: the lines that
+    `lines_told` tells of the entries that the words keep.
+    """
     for asked in words:
         if filter_of_log(asked) is None:
             return fault(f"filter: {asked}")
@@ -224,5 +226,14 @@ def answer_to_log(text, words=(), spelled=log_text):
         return fault(f"recording: {bad}")
     story, filters = Story(recording), [filter_of_log(asked) for asked in words]
     kept = [index for index in range(len(story.entries)) if keeps_entry(story, filters, index)]
-    lines = (line for index in kept for line in lines_of(story, index))
-    return Outcome(0, "".join(spelled(line) + "\n" for line in lines).encode(), b"")
+    return Outcome(0, "".join(spelled(line) + "\n" for line in lines_told(story, kept)).encode(), b"")
+
+
+def lines_of_all(story, kept):
+    for index in kept:
+        yield from lines_of(story, index)
+
+
+def answer_to_log(text, words=(), spelled=log_text):
+    """What log answers to a recording by its bytes, and to the words behind it."""
+    return answer_of_entries(text, words, lines_of_all, spelled)

@@ -8,6 +8,8 @@ import commands
 
 TOP = Path(__file__).resolve().parent.parent.parent
 STRING = r'"(?:[^"\\]|\\.)*"'
+# A word of a row, as the code has it.
+WORD = rf"CommandWord \{{\s*name: ({STRING}),\s*often: Often::(\w+),\s*about: ({STRING}),?\s*\}}"
 # The words of a key whose values have names, and where the code names them.
 NAMED = {
     "fate": ("crates/exercise_review/src/fate.rt", r'Fate::\w+ => "([a-z-]+)"', []),
@@ -84,19 +86,29 @@ def choices_of(usage, words):
     return keys + [choice for choice in behind if choice.split()[0] not in names]
 
 
+def word_of(name, often, about):
+    return Word(string(name), often != "Once", string(about), often in ("OnceOrMore", "AnyTimes"))
+
+
+def words_of(row, shared):
+    """The words of a row: each stands there, or is one of those that rows share, by its name."""
+    parts = re.findall(rf"{WORD}|\b([A-Z_]+)\b", row)
+    return [shared[name] if name else word_of(*parts) for *parts, name in parts]
+
+
 def program():
     """The program, as its table of commands says."""
     text = commands.TABLE.read_text(encoding="utf-8")
-    rows = re.split(r"^    CommandRow \{$", text.partition("const ROWS")[2].partition("\n];")[0], flags=re.M)[1:]
+    before, _, behind = text.partition("const ROWS")
+    shared = {name: word_of(*parts) for name, *parts in re.findall(rf"const (\w+): CommandWord = {WORD};", before)}
+    rows = re.split(r"^    CommandRow \{$", behind.partition("\n];")[0], flags=re.M)[1:]
     usages = [usage.replace(r"\|", "|") for usage in commands.rows_of_program()]
     answer, found = answers(), []
     for row, usage in zip(rows, usages, strict=True):
         head, _, tail = row.partition("words:")
         keys = ("name", "about", "example")
         name, about, example = (string(re.search(rf"{key}: ({STRING})", head)[1]) for key in keys)
-        parts = re.findall(rf"name: ({STRING}),\s*often: Often::(\w+),\s*about: ({STRING})", tail)
-        many = ("OnceOrMore", "AnyTimes")
-        words = [Word(string(word), often != "Once", string(what), often in many) for word, often, what in parts]
+        words = words_of(tail, shared)
         example = example.removeprefix("Example:").strip()
         found.append(Command(name, usage, about, answer[name], example, words, choices_of(usage, words)))
     texts = (commands.TABLE.parent / "usage.rt").read_text(encoding="utf-8")

@@ -16,7 +16,7 @@ use Rattle.exercise_review.specs.Fate.{fate_text}
 use Rattle.byte_files.specs.Text.{cut_at, number_to}
 use Rattle.siman_scripts.specs.Statement.{◌>>=◌, target_of}
 use Rattle.siman_outside.specs.declared.commands.ViewWord.{ViewWord}
-use Rattle.siman_outside.specs.declared.commands.ViewWord.TheVariants.{Review, Log}
+use Rattle.siman_outside.specs.declared.commands.ViewWord.TheVariants.{Review, Log, Count}
 
 -- `S:A`, a site and an application: each number in 0 to 65535
 abbrev pub outsider_of : List ℕ → Option SiteApplication
@@ -79,10 +79,15 @@ name_of word =
     else if bytes_eq word (codes "other") then Some names.Other
     else option_map names.Kind (kind_of word)
 
--- the filter for a key that one view has alone: `fate=WORD` of `review`, `kind=NAME` of `log`
+-- `kind=NAME`, a filter of entries
+abbrev pub kind_filter : (key word : List ℕ) → Option Filter
+kind_filter key word = if bytes_eq key (codes "kind") then option_map filters.Kind (name_of word) else None
+
+-- the filter for a key that not each view has: `fate=WORD` of `review`, `kind=NAME` of `log` and `count`
 abbrev pub own_filter : ViewWord → (key word : List ℕ) → Option Filter
 own_filter Review key word = if bytes_eq key (codes "fate") then option_map filters.Fate (fate_of word) else None
-own_filter Log key word = if bytes_eq key (codes "kind") then option_map filters.Kind (name_of word) else None
+own_filter Log key word = kind_filter key word
+own_filter Count key word = kind_filter key word
 
 -- the filter of a view for a key and its value
 abbrev pub filter_by : ViewWord → (key word : List ℕ) → Option Filter
@@ -92,7 +97,7 @@ filter_by view key word =
     else if bytes_eq key (codes "request") then request_of word
     else own_filter view key word
 
--- THE FILTER THAT A WORD IS for a view: `station=S:A`, `entity=S:A:E`, `request=S:A/N`, for `review` `fate=WORD` and for `log` `kind=NAME`; numbers are decimal and may have leading zeros
+-- THE FILTER THAT A WORD IS for a view: `station=S:A`, `entity=S:A:E`, `request=S:A/N`, for `review` `fate=WORD` and for `log` and `count` `kind=NAME`; numbers are decimal and may have leading zeros
 abbrev pub filter_of : ViewWord → List ℕ → Option Filter
 filter_of view word = do
   p ← cut_at 61 word

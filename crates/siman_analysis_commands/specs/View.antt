@@ -4,13 +4,15 @@ use Rattle.std.specs.declared.alloc.Global.{Global}
 use Rattle.std.specs.Io.KnownBytes.{Keeps}
 use Rattle.exercise_model.specs.Recording.{PlainRecording}
 use Rattle.exercise_review.specs.declared.filter.Filter.{Filter}
+use Rattle.exercise_log.specs.Count.{count_rows}
 use Rattle.exercise_log.specs.Log.{kept_at, log_text}
 use Rattle.siman_print.specs.declared.spelling.Spelling.{Spelling}
 use Rattle.siman_print.specs.Spelled.{lines_spelled}
 use Rattle.siman_outside.specs.declared.commands.ViewWord.{ViewWord}
-use Rattle.siman_outside.specs.declared.commands.ViewWord.TheVariants.{Review, Log}
+use Rattle.siman_outside.specs.declared.commands.ViewWord.TheVariants.{Review, Log, Count}
 use Rattle.siman_outside.specs.declared.fault.Fault.{Fault}
 use Rattle.siman_outside.specs.declared.fault.Fault.TheVariants.{Memory}
+use Rattle.siman_outside.specs.AnswerText.{Answers}
 use Rattle.siman_outside.specs.Ending.{fault_text}
 use Rattle.siman_outside.specs.Making.{Answered}
 use Rattle.siman_outside.specs.Outside.{Stream, Deed}
@@ -56,10 +58,15 @@ IsAsked view words spelling (Err fault) = IsBadFilter view words fault ⊎ (faul
 abbrev pub entry_said : Spelling → List Filter → PlainRecording → ℕ → List ℕ
 entry_said spelling filters r i = lines_spelled spelling (kept_at r filters i)
 
+-- the text of the counts, with status 0
+abbrev pub SaysCounts : Spelling → List Filter → PlainRecording → (text : List ℕ) → (status : ℕ) → Type 0
+SaysCounts spelling filters r text status = (text ≡ lines_spelled spelling (count_rows r filters)) × (status ≡ 0)
+
 -- THE ANSWER OF A VIEW for a recording, under filters
 abbrev pub PrintsView : ViewWord → Spelling → List Filter → PlainRecording → Answered → (out : Stream) → Type 0
 PrintsView Review spelling filters r = PrintsReview spelling filters r
 PrintsView Log spelling filters r = PrintsText (log_text spelling r filters)
+PrintsView Count spelling filters r = Answers (SaysCounts spelling filters r)
 
 -- THE FILTERS ARE JUDGED FIRST: the first word that is none is reported, with nothing opened; otherwise the recording of the file is viewed under the filters
 abbrev pub ViewsNamed : ViewWord → Spelling → (name : List ℕ) → (words : List (List ℕ)) → List Deed → Answered → (out : Stream) → Type 0

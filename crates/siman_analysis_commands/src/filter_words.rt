@@ -135,13 +135,15 @@ fn name_of(word: &[u8]) -> Option<EntryName>
     Some(EntryName::Kind(kind_of(word)?))
 }
 
-/// The filter for a key that only this view has, and its value.
+/// The filter for a key that not each view has, and its value.
 fn own_filter(view: ViewWord, key: &[u8], word: &[u8]) -> Option<Filter>
     ensures { result ≡ own_filter view key.now word.now }
 {
     match view {
         ViewWord::Review if key == b"fate".as_slice() => Some(Filter::Fate(fate_of(word)?)),
-        ViewWord::Log if key == b"kind".as_slice() => Some(Filter::Kind(name_of(word)?)),
+        ViewWord::Log | ViewWord::Count if key == b"kind".as_slice() => {
+            Some(Filter::Kind(name_of(word)?))
+        }
         _ => None,
     }
 }
@@ -163,8 +165,8 @@ fn filter_by(view: ViewWord, key: &[u8], word: &[u8]) -> Option<Filter>
 }
 
 /// The filter that a word is for a view: `station=S:A`, `entity=S:A:E` or `request=S:A/N`, for
-/// `review` also `fate=WORD`, and for `log` `kind=NAME`. Numbers are decimal, each in the range of
-/// its field, and may have leading zeros.
+/// `review` also `fate=WORD`, and for `log` and `count` `kind=NAME`. Numbers are decimal, each in
+/// the range of its field, and may have leading zeros.
 pub fn filter_of(view: ViewWord, word: &[u8]) -> Option<Filter>
     ensures { result ≡ filter_of view word.now }
 {

@@ -1,5 +1,5 @@
-//! The commands that show the history of a recording: the [`View`]s `review` and `log`, and `chart`,
-//! which draws it in the sequence of a certificate. `siman_outside` runs a view on readers and on
+//! The commands that show the history of a recording: the [`View`]s `review`, `log` and `count`,
+//! and `chart`, which draws it in the sequence of a certificate. `siman_outside` runs a view on readers and on
 //! the names of files; [`chart_named`] takes the names of three. Their rows are those of
 //! `siman_reviews` and `exercise_log`, and the picture is that of `exercise_chart`; [`filter_of`]
 //! parses a filter.

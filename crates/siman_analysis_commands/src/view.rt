@@ -1,14 +1,17 @@
 //! The views of a recording, and the words that select among their rows.
 
 ghost use Rattle.std.specs.Prelude.{map};
-ghost use Rattle.siman_analysis_commands.specs.View.{Asks, IsAsked};
+ghost use Rattle.siman_outside.specs.AnswerText.{Answers};
+ghost use Rattle.siman_outside.specs.Outside.{stream};
+ghost use Rattle.siman_analysis_commands.specs.View.{Asks, IsAsked, SaysCounts};
 
 use crate::filter_words::filter_of;
 use crate::log::print_log;
 use crate::review::print_review;
+use exercise_log::put_counts;
 use exercise_model::ExerciseLog;
 use exercise_review::Filter;
-use siman_outside::{Fault, OfRecording, ViewWord};
+use siman_outside::{AnswerText, Fault, OfRecording, ViewWord};
 use siman_print::Spelling;
 use std::alloc::Global;
 use std::convert::AsStr;
@@ -61,6 +64,23 @@ fn filters_of<'a, S: AsStr>(
     Ok(filters)
 }
 
+/// Prints how many of the entries that pass the filters each station sent, received and told, by
+/// the kind of their PDU. Returns status 0, `Output` after a failed write, or `Memory`, before any
+/// of the text is written.
+fn print_counts<L: ExerciseLog, W: Write>(
+    alloc: Global,
+    log: &L,
+    spelling: Spelling,
+    filters: &[Filter],
+    out: &mut W,
+) -> Result<u8, Fault<'static>>
+    ensures { Answers (SaysCounts spelling filters.now (L.recording log.now)) result (stream (W.contents out.old) (W.contents out.new)) }
+{
+    let mut text = String::new(alloc);
+    put_counts(alloc, &mut text, spelling, log, filters)?;
+    AnswerText { text, status: 0 }.put(out)
+}
+
 impl<'a> OfRecording<'a> for View {
     ghost use Rattle.siman_analysis_commands.specs.View.{PrintsView};
 
@@ -77,6 +97,7 @@ impl<'a> OfRecording<'a> for View {
         match self.view {
             ViewWord::Review => print_review(alloc, log, self.spelling, &self.filters, out),
             ViewWord::Log => print_log(alloc, log, self.spelling, &self.filters, out),
+            ViewWord::Count => print_counts(alloc, log, self.spelling, &self.filters, out),
         }
     }
 }

@@ -11,7 +11,7 @@ use Rattle.siman_outside.specs.declared.commands.OneWord.TheVariants.{Pdu, Show}
 use Rattle.siman_outside.specs.declared.commands.TwoWords.{TwoWords}
 use Rattle.siman_outside.specs.declared.commands.TwoWords.TheVariants.{Check, Audit, World, Live, Convert, Mend}
 use Rattle.siman_outside.specs.declared.commands.ViewWord.{ViewWord}
-use Rattle.siman_outside.specs.declared.commands.ViewWord.TheVariants.{Review, Log}
+use Rattle.siman_outside.specs.declared.commands.ViewWord.TheVariants.{Review, Log, Count}
 use Rattle.siman_outside.specs.declared.commands.JoinForm.{JoinForm}
 use Rattle.siman_outside.specs.declared.commands.JoinForm.TheVariants.{Open, Closed}
 use Rattle.siman_outside.specs.declared.commands.StationWords.{StationWords}
@@ -110,7 +110,7 @@ unfoldable pub takes_named : List ℕ → Option Takes
 takes_named = takes_of (
     (codes "pdu", shapes.One Pdu) ∷ (codes "pdus", shapes.Nothing Pdus) ∷ (codes "show", shapes.One Show) ∷ (codes "check", shapes.Two Check)
     ∷ (codes "audit", shapes.Two Audit) ∷ (codes "world", shapes.Two World) ∷ (codes "live", shapes.Two Live) ∷ (codes "station", shapes.Station) ∷ (codes "convert", shapes.Two Convert) ∷ (codes "mend", shapes.Two Mend)
-    ∷ (codes "join", shapes.Pieces) ∷ (codes "review", shapes.View Review) ∷ (codes "log", shapes.View Log) ∷ (codes "why", shapes.PerhapsTwo)
+    ∷ (codes "join", shapes.Pieces) ∷ (codes "review", shapes.View Review) ∷ (codes "log", shapes.View Log) ∷ (codes "count", shapes.View Count) ∷ (codes "why", shapes.PerhapsTwo)
     ∷ (codes "chart", shapes.Picture) ∷ [])
 
 -- a task of a command: exactly the words that it takes, none of them an option

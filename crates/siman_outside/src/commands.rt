@@ -48,6 +48,8 @@ pub enum ViewWord {
     Review,
     /// Each entry, with every datum and the entries that it belongs to.
     Log,
+    /// How many entries each station sent, received and told, by kind.
+    Count,
 }
 
 /// The form that words ask for, for a joined recording.

@@ -3,7 +3,7 @@
 use crate::commands::ViewWord;
 use crate::pieces::{TextPieces, words};
 
-/// The values of a key that both views have, if the word begins with one.
+/// The values of a key that all views have, if the word begins with one.
 fn shared_words(word: &str) -> Option<&'static str> {
     let bytes = word.as_bytes();
     if bytes.starts_with(b"station=") {
@@ -26,21 +26,28 @@ fn review_words(word: &str) -> &'static str {
     "the filters of review are station=S:A, entity=S:A:E, request=S:A/N and fate=WORD"
 }
 
-/// The filters of `log`, or the values of the key of this word.
-fn log_words(word: &str) -> &'static str {
+/// The filters of a view of entries, or the values of the key of this word.
+fn entry_words(word: &str, filters: &'static str) -> &'static str {
     if word.as_bytes().starts_with(b"kind=") {
         return "kind= is create-entity, remove-entity, start-resume, stop-freeze, acknowledge, \
             action-request, action-response, data-query, set-data, data, event-report, comment, told \
             or other";
     }
-    "the filters of log are station=S:A, entity=S:A:E, request=S:A/N and kind=NAME"
+    filters
 }
 
 /// The reason for a word that is no filter of a view, or selects no steps of a picture.
 pub(crate) fn filter_pieces(word: &str, view: Option<ViewWord>) -> TextPieces<'static> {
     let own = match view {
         Some(ViewWord::Review) => review_words(word),
-        Some(ViewWord::Log) => log_words(word),
+        Some(ViewWord::Log) => entry_words(
+            word,
+            "the filters of log are station=S:A, entity=S:A:E, request=S:A/N and kind=NAME",
+        ),
+        Some(ViewWord::Count) => entry_words(
+            word,
+            "the filters of count are station=S:A, entity=S:A:E, request=S:A/N and kind=NAME",
+        ),
         None => return words(
             "the words of chart are from=STEP and to=STEP, each at most once, the first not above the last",
         ),

@@ -25,6 +25,8 @@ pub(crate) struct CommandWord {
 pub(crate) struct CommandRow {
     pub name: &'static str,
     pub takes: Takes,
+    /// Its words as usage has them, with the program's name.
+    pub usage: &'static str,
     /// Its description.
     pub about: &'static str,
     pub example: &'static str,

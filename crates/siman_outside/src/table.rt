@@ -6,11 +6,40 @@ ghost use Rattle.siman_outside.specs.Words.{takes_of, takes_named};
 use crate::commands::{NoWord, OneWord, Takes, TwoWords, ViewWord};
 use crate::rows::{CommandRow, CommandWord, Often};
 
+/// The file of a recording.
+const REC: CommandWord = CommandWord {
+    name: "REC",
+    often: Often::Once,
+    about: "The file of the recording",
+};
+
+/// The file of a recording that is begun.
+const NEW_REC: CommandWord = CommandWord {
+    name: "REC",
+    often: Often::Once,
+    about: "The file of the recording, which must not be there yet",
+};
+
+/// The file of a certificate.
+const CERT: CommandWord = CommandWord {
+    name: "CERT",
+    often: Often::Once,
+    about: "The file of the certificate",
+};
+
+/// The file of a script.
+const SCRIPT: CommandWord = CommandWord {
+    name: "SCRIPT",
+    often: Often::Once,
+    about: "The file of the script",
+};
+
 /// The table of the commands, in the order of the help.
-pub(crate) const ROWS: [CommandRow; 15] = [
+pub(crate) const ROWS: [CommandRow; 16] = [
     CommandRow {
         name: "pdu",
         takes: Takes::One(OneWord::Pdu),
+        usage: "siman pdu <HEX>",
         about: "Shows the PDU of a datagram",
         example: "Example:\n  siman pdu 07010B0500000000001C000000010001000000020003000700000001",
         words: &[CommandWord {
@@ -22,6 +51,7 @@ pub(crate) const ROWS: [CommandRow; 15] = [
     CommandRow {
         name: "pdus",
         takes: Takes::Nothing(NoWord::Pdus),
+        usage: "siman pdus",
         about: "Shows the PDUs of many datagrams, whose hex texts are read from standard input, one a line",
         example: "Example:\n  siman pdus < datagrams.hex",
         words: &[],
@@ -29,43 +59,27 @@ pub(crate) const ROWS: [CommandRow; 15] = [
     CommandRow {
         name: "show",
         takes: Takes::One(OneWord::Show),
+        usage: "siman show <REC>",
         about: "Shows a recording, a line for each entry",
         example: "Example:\n  siman show exercise.dsrc",
-        words: &[CommandWord {
-            name: "REC",
-            often: Often::Once,
-            about: "The file of the recording",
-        }],
+        words: &[REC],
     },
     CommandRow {
         name: "check",
         takes: Takes::Two(TwoWords::Check),
+        usage: "siman check <REC> <CERT>",
         about: "Checks whether a certificate explains a recording, and reports what it says",
         example: "Example:\n  siman check exercise.dsrc exercise.dsct",
-        words: &[
-            CommandWord {
-                name: "REC",
-                often: Often::Once,
-                about: "The file of the recording",
-            },
-            CommandWord {
-                name: "CERT",
-                often: Often::Once,
-                about: "The file of the certificate",
-            },
-        ],
+        words: &[REC, CERT],
     },
     CommandRow {
         name: "audit",
         takes: Takes::Two(TwoWords::Audit),
+        usage: "siman audit <REC> <CERT> [--force]",
         about: "Searches a recording for a sequence that explains it, and writes its certificate",
         example: "Example:\n  siman audit exercise.dsrc exercise.dsct",
         words: &[
-            CommandWord {
-                name: "REC",
-                often: Often::Once,
-                about: "The file of the recording",
-            },
+            REC,
             CommandWord {
                 name: "CERT",
                 often: Often::Once,
@@ -76,14 +90,11 @@ pub(crate) const ROWS: [CommandRow; 15] = [
     CommandRow {
         name: "world",
         takes: Takes::Two(TwoWords::World),
+        usage: "siman world <SCRIPT> <REC> [--force]",
         about: "Runs the exercise that a script describes, and writes its recording",
         example: "Example:\n  siman world exercise.script exercise.dsrc",
         words: &[
-            CommandWord {
-                name: "SCRIPT",
-                often: Often::Once,
-                about: "The file of the script",
-            },
+            SCRIPT,
             CommandWord {
                 name: "REC",
                 often: Often::Once,
@@ -94,24 +105,15 @@ pub(crate) const ROWS: [CommandRow; 15] = [
     CommandRow {
         name: "live",
         takes: Takes::Two(TwoWords::Live),
+        usage: "siman live <SCRIPT> <REC>",
         about: "Makes the moves of a script over UDP sockets of the loopback, one a station, and writes their recording",
         example: "Example:\n  siman live exercise.script exercise.dsrc",
-        words: &[
-            CommandWord {
-                name: "SCRIPT",
-                often: Often::Once,
-                about: "The file of the script",
-            },
-            CommandWord {
-                name: "REC",
-                often: Often::Once,
-                about: "The file of the recording, which must not be there yet",
-            },
-        ],
+        words: &[SCRIPT, NEW_REC],
     },
     CommandRow {
         name: "station",
         takes: Takes::Station,
+        usage: "siman station <SETUP> <ADDRESS> <REC> <BIND> <PEER>... [from=any]",
         about: "Plays a station of a script over UDP, by the lines of standard input, and writes what it sends, receives and tells",
         example: "Example:\n  siman station exercise.script 1:1 manager.dsrc 10.0.0.1:3000 10.0.0.2:3000 < orders",
         words: &[
@@ -125,11 +127,7 @@ pub(crate) const ROWS: [CommandRow; 15] = [
                 often: Often::Once,
                 about: "The address of the station, S:A",
             },
-            CommandWord {
-                name: "REC",
-                often: Often::Once,
-                about: "The file of the recording, which must not be there yet",
-            },
+            NEW_REC,
             CommandWord {
                 name: "BIND",
                 often: Often::Once,
@@ -145,6 +143,7 @@ pub(crate) const ROWS: [CommandRow; 15] = [
     CommandRow {
         name: "convert",
         takes: Takes::Two(TwoWords::Convert),
+        usage: "siman convert <OLD> <NEW> [--force]",
         about: "Carries a recording of the first format over to the second, closed",
         example: "Example:\n  siman convert old.dsrc new.dsrc",
         words: &[
@@ -163,6 +162,7 @@ pub(crate) const ROWS: [CommandRow; 15] = [
     CommandRow {
         name: "mend",
         takes: Takes::Two(TwoWords::Mend),
+        usage: "siman mend <OLD> <NEW> [--force]",
         about: "Keeps the entries of a torn recording that stand whole, and writes them with an end",
         example: "Example:\n  siman mend torn.dsrc mended.dsrc",
         words: &[
@@ -181,6 +181,7 @@ pub(crate) const ROWS: [CommandRow; 15] = [
     CommandRow {
         name: "join",
         takes: Takes::Pieces,
+        usage: "siman join <PIECE>... <NEW> [form=open|form=closed] [--force]",
         about: "Joins the recordings of one exercise that several recorders made",
         example: "Example:\n  siman join manager.dsrc simulator.dsrc exercise.dsrc",
         words: &[
@@ -199,14 +200,11 @@ pub(crate) const ROWS: [CommandRow; 15] = [
     CommandRow {
         name: "review",
         takes: Takes::View(ViewWord::Review),
+        usage: "siman review <REC> [FILTER]... [--json]",
         about: "Prints what became of each order of a recording, and how each entity lived",
         example: "Example:\n  siman review exercise.dsrc fate=lost",
         words: &[
-            CommandWord {
-                name: "REC",
-                often: Often::Once,
-                about: "The file of the recording",
-            },
+            REC,
             CommandWord {
                 name: "FILTER",
                 often: Often::AnyTimes,
@@ -217,14 +215,11 @@ pub(crate) const ROWS: [CommandRow; 15] = [
     CommandRow {
         name: "log",
         takes: Takes::View(ViewWord::Log),
+        usage: "siman log <REC> [FILTER]... [--json]",
         about: "Prints each entry of a recording in names, with every datum and what goes with it",
         example: "Example:\n  siman log exercise.dsrc request=1:1/104 station=2:4",
         words: &[
-            CommandWord {
-                name: "REC",
-                often: Often::Once,
-                about: "The file of the recording",
-            },
+            REC,
             CommandWord {
                 name: "FILTER",
                 often: Often::AnyTimes,
@@ -233,16 +228,28 @@ pub(crate) const ROWS: [CommandRow; 15] = [
         ],
     },
     CommandRow {
+        name: "count",
+        takes: Takes::View(ViewWord::Count),
+        usage: "siman count <REC> [FILTER]... [--json]",
+        about: "Prints how many entries each station of a recording sent, received and told, by kind",
+        example: "Example:\n  siman count exercise.dsrc station=2:4",
+        words: &[
+            REC,
+            CommandWord {
+                name: "FILTER",
+                often: Often::AnyTimes,
+                about: "Which entries are counted: station=S:A, entity=S:A:E, request=S:A/N or kind=NAME; words of one key add to each other",
+            },
+        ],
+    },
+    CommandRow {
         name: "why",
         takes: Takes::PerhapsTwo,
+        usage: "siman why <REC> [CERT] [--json]",
         about: "Prints what contradicts what: in a certificate that is not good, or in a recording that no sequence explains",
         example: "Example:\n  siman why exercise.dsrc",
         words: &[
-            CommandWord {
-                name: "REC",
-                often: Often::Once,
-                about: "The file of the recording",
-            },
+            REC,
             CommandWord {
                 name: "CERT",
                 often: Often::AtMostOnce,
@@ -253,19 +260,12 @@ pub(crate) const ROWS: [CommandRow; 15] = [
     CommandRow {
         name: "chart",
         takes: Takes::Picture,
+        usage: "siman chart <REC> <CERT> <SVG> [from=STEP] [to=STEP] [--force]",
         about: "Draws an exercise in the sequence of its certificate, and writes the picture",
         example: "Example:\n  siman chart exercise.dsrc exercise.dsct exercise.svg",
         words: &[
-            CommandWord {
-                name: "REC",
-                often: Often::Once,
-                about: "The file of the recording",
-            },
-            CommandWord {
-                name: "CERT",
-                often: Often::Once,
-                about: "The file of the certificate",
-            },
+            REC,
+            CERT,
             CommandWord {
                 name: "SVG",
                 often: Often::Once,

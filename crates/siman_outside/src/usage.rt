@@ -1,6 +1,5 @@
 //! The usage of the program and its help, as `clap` formats them.
 
-use crate::commands::{Takes, TwoWords, ViewWord};
 use crate::rows::{CommandRow, CommandWord, Often};
 use crate::table::rows;
 use clap::error::ErrorKind;
@@ -65,37 +64,15 @@ fn arguments<'a>(alloc: Global, row: &'static CommandRow) -> Result<Vec<Arg<'a>>
     Ok(arguments)
 }
 
-/// The usage of a command, unless `clap` derives it correctly from its words.
-fn usage_override(takes: Takes) -> Option<&'static str> {
-    match takes {
-        Takes::Two(TwoWords::Audit) => Some("siman audit <REC> <CERT> [--force]"),
-        Takes::Two(TwoWords::World) => Some("siman world <SCRIPT> <REC> [--force]"),
-        Takes::Two(TwoWords::Convert) => Some("siman convert <OLD> <NEW> [--force]"),
-        Takes::Two(TwoWords::Mend) => Some("siman mend <OLD> <NEW> [--force]"),
-        Takes::Pieces => Some("siman join <PIECE>... <NEW> [form=open|form=closed] [--force]"),
-        Takes::Station => {
-            Some("siman station <SETUP> <ADDRESS> <REC> <BIND> <PEER>... [from=any]")
-        }
-        Takes::View(ViewWord::Review) => Some("siman review <REC> [FILTER]... [--json]"),
-        Takes::View(ViewWord::Log) => Some("siman log <REC> [FILTER]... [--json]"),
-        Takes::PerhapsTwo => Some("siman why <REC> [CERT] [--json]"),
-        Takes::Picture => { Some("siman chart <REC> <CERT> <SVG> [from=STEP] [to=STEP] [--force]") }
-        Takes::Two(TwoWords::Check | TwoWords::Live) | Takes::Nothing(_) | Takes::One(_) => None,
-    }
-}
-
 /// A command of the table. Its arguments are made first, so that nothing half built is alive where
 /// memory may run out.
 fn command<'a>(alloc: Global, row: &'static CommandRow) -> Result<Command<'a>, AllocError> {
     let arguments = arguments(alloc, row)?;
-    let command = Command::new(alloc, row.name)
+    Command::new(alloc, row.name)
         .about(row.about)
-        .after_help(row.example);
-    let command = match usage_override(row.takes) {
-        Some(usage) => command.override_usage(usage),
-        None => command,
-    };
-    command.args(arguments)
+        .override_usage(row.usage)
+        .after_help(row.example)
+        .args(arguments)
 }
 
 fn commands<'a>(alloc: Global) -> Result<Vec<Command<'a>>, AllocError> {

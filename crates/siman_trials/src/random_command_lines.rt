@@ -4,7 +4,7 @@
 use crate::input::RandomInput;
 
 /// Words that may replace others.
-const WORDS: [&str; 80] = [
+const WORDS: [&str; 81] = [
     "pdu",
     "pdus",
     "show",
@@ -18,6 +18,7 @@ const WORDS: [&str; 80] = [
     "join",
     "review",
     "log",
+    "count",
     "why",
     "chart",
     "help",
@@ -91,7 +92,7 @@ const WORDS: [&str; 80] = [
 const MOST: usize = 10;
 
 /// Correct command lines, of every command.
-const LINES: [&[&str]; 24] = [
+const LINES: [&[&str]; 25] = [
     &[],
     &[
         "pdu",
@@ -114,6 +115,7 @@ const LINES: [&[&str]; 24] = [
     &["join", "rec", "done", "new"],
     &["review", "done", "fate=done", "--json"],
     &["log", "--json", "done", "request=1:1/1", "entity=2:3:7"],
+    &["count", "done", "station=2:3", "--json"],
     &["why", "done", "order", "--json"],
     &["chart", "done", "order", "new", "from=1", "to=2"],
     &["chart", "done", "order", "picture", "--force"],
@@ -153,7 +155,7 @@ impl RandomCommandLine {
 
 /// A random word.
 fn word(input: &mut RandomInput) -> &'static str {
-    WORDS[input.random.below(80) % 80]
+    WORDS[input.random.below(81) % 81]
 }
 
 /// Inserts a word at a place among the first `count` words, and moves those behind it up.
@@ -170,7 +172,7 @@ fn insert(words: &mut [&'static str; MOST], count: usize, place: usize, word: &'
 /// at a random number.
 pub fn random_command_line(input: &mut RandomInput) -> RandomCommandLine {
     let mut words = [""; MOST];
-    let line = LINES[input.random.below(24) % 24];
+    let line = LINES[input.random.below(25) % 25];
     let mut count = line.len().min(MOST);
     words[..count].copy_from_slice(&line[..count]);
     if input.random.one_in(2) {

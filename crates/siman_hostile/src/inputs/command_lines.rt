@@ -55,7 +55,7 @@ fn is_named(ended: &Ran, command: &str) -> bool {
     match command {
         "pdus" if ended.status <= 2 => (ended.status == 2) == !ended.errors.is_empty(),
         "station" if ended.is_played() => true,
-        "log" if ended.is_answer() => true,
+        "log" | "count" if ended.is_answer() => true,
         "live" if ended.is_lived() => true,
         _ => ended.is_fault() || ended.is_answer() && !ended.out.is_empty(),
     }

@@ -56,20 +56,26 @@ fn put_datum(told: &mut String, value: Option<u32>) -> Result<(), AllocError> {
     }
 }
 
-/// Issues the order of the next move, and writes the answer.
-fn issue_next<W: Write>(
+/// A station in the hands of a case: its number, its link, its two halves, and the moves that supply
+/// the orders that it issues.
+#[derive(Drop)]
+pub struct CalledStation<'a> {
+    pub station: u16,
+    pub line: &'a mut MemoryLine,
+    pub node: &'a mut Node,
+    pub moves: &'a mut IntoIter<Move, Global>,
+}
+
+/// Issues the order of a move, and writes the answer.
+fn issue_act<W: Write>(
     alloc: Global,
-    station: u16,
-    line: &mut MemoryLine,
-    node: &mut Node,
+    called: &mut CalledStation<'_>,
     recorder: &mut RecordingWriter<'_, W>,
-    moves: &mut IntoIter<Move, Global>,
+    act: Act,
     now: u64,
     told: &mut String,
 ) -> Result<(), AllocError> {
-    let Some(Move { act, .. }) = moves.next() else {
-        return told.push_str("issue: no move is left\n");
-    };
+    let (station, line, node) = (called.station, &mut *called.line, &mut *called.node);
     match act {
         Act::Command(order) if order.body.is_request() => tell(
             told,
@@ -80,15 +86,12 @@ fn issue_next<W: Write>(
     }
 }
 
-/// Makes a call, and writes its answer as one line. `moves` supplies the orders that are issued.
+/// Makes a call, and writes its answer as one line.
 pub fn make_call<W: Write>(
     alloc: Global,
     call: Call,
-    station: u16,
-    line: &mut MemoryLine,
-    node: &mut Node,
+    called: &mut CalledStation<'_>,
     recorder: &mut RecordingWriter<'_, W>,
-    moves: &mut IntoIter<Move, Global>,
     told: &mut String,
 ) -> Result<(), AllocError> {
     let Call {
@@ -97,28 +100,33 @@ pub fn make_call<W: Write>(
         turns,
     } = call;
     let (id, entity) = (now.min(0xFFFF_FFFF) as u32, now.min(0xFFFF) as u16);
+    let turns = turns.min(0xFFFF_FFFF) as u32;
+    let station = called.station;
     match asked {
         Asked::Serve => put_served(
             told,
             serve(
                 alloc,
-                line,
-                node,
+                called.line,
+                called.node,
                 recorder,
                 station,
                 now,
-                turns.min(0xFFFF_FFFF) as u32,
+                turns,
             ),
         ),
-        Asked::Issue => issue_next(alloc, station, line, node, recorder, moves, now, told),
+        Asked::Issue => match called.moves.next() {
+            Some(Move { act, .. }) => issue_act(alloc, called, recorder, act, now, told),
+            None => told.push_str("issue: no move is left\n"),
+        },
         Asked::Nudge => tell(
             told,
             "nudge",
-            nudge(alloc, line, node, recorder, station, now),
+            nudge(alloc, called.line, called.node, recorder, station, now),
         ),
-        Asked::Order => put_order_status(told, node.manager.status(id)),
-        Asked::Entity => writeln!(told, "entity: {}", node.application.state(entity)),
-        Asked::Datum => put_datum(told, node.application.datum(id)),
-        Asked::GivenUp => writeln!(told, "given up: {}", node.manager.given_up()),
+        Asked::Order => put_order_status(told, called.node.manager.status(id)),
+        Asked::Entity => writeln!(told, "entity: {}", called.node.application.state(entity)),
+        Asked::Datum => put_datum(told, called.node.application.datum(id)),
+        Asked::GivenUp => writeln!(told, "given up: {}", called.node.manager.given_up()),
     }
 }

@@ -1,6 +1,6 @@
 //! Runs the calls of a station at its link, and compares the results with the case.
 
-use crate::station_call::make_call;
+use crate::station_call::{CalledStation, make_call};
 use crate::{Calls, Case, Stream, TextEntries, WELL, Written, entries_of, found, write_to};
 use exercise_recording::RecordingWriter;
 use siman_lines::MemoryLine;
@@ -44,15 +44,12 @@ fn line_with(alloc: Global, datagrams: &[Stream], fails_at: Option<u64>) -> io::
 fn make_calls<W: Write>(
     alloc: Global,
     case: &Case,
-    station: u16,
-    line: &mut MemoryLine,
-    node: &mut Node,
+    called: &mut CalledStation<'_>,
     recorder: &mut RecordingWriter<'_, W>,
-    moves: &mut IntoIter<Move, Global>,
     told: &mut String,
 ) -> io::Result<()> {
     for call in &case.calls {
-        make_call(alloc, *call, station, line, node, recorder, moves, told)?;
+        make_call(alloc, *call, called, recorder, told)?;
     }
     Ok(())
 }
@@ -73,7 +70,13 @@ fn record_calls(
     let Left { line, file, told } = left;
     match RecordingWriter::start(file, setting.exercise(), setting.stations()) {
         Ok(mut recorder) => {
-            make_calls(alloc, case, station, line, node, &mut recorder, moves, told)
+            let mut called = CalledStation {
+                station,
+                line,
+                node,
+                moves,
+            };
+            make_calls(alloc, case, &mut called, &mut recorder, told)
         }
         Err(fault) => Ok(writeln!(told, "start: {fault}")?),
     }

@@ -8,7 +8,7 @@ use Rattle.siman_scripts.specs.Stations.{WorldStationData}
 use Rattle.siman_stations.specs.declared.turn.Node.{Node}
 use Rattle.siman_lines.specs.Calls.{IsFresh}
 use Rattle.siman_operator.specs.Noting.{datagrams_sent}
-use Rattle.siman_operator.specs.Posts.{IsBegun}
+use Rattle.siman_operator.specs.Posts.{IsAtLink}
 use Rattle.siman_operator.specs.declared.recorded.ReadyStation.{ReadyStation}
 use Rattle.siman_operator.specs.declared.scripted.SetUp.{SetUp}
 use Rattle.siman_operator.specs.declared.scripted.SetUpFault.{SetUpFault}
@@ -19,18 +19,17 @@ use Rattle.siman_exercise_commands.specs.Explained.{TextRead, GivesWhy}
 use Rattle.siman_exercise_commands.specs.Station.{of_set_up, SetsUpNone, SetsUpFile, IsOfScript}
 
 -- it is as it was begun
-pub stood_ready : {L : Type 0} (set_up : SetUp) (address : SiteApplication) (ready : ReadyStation L) → IsOfScript set_up → ready.head ≡ set_up.head
-    → IsBegun set_up.head.setting.exercise address set_up.node ready.post → IsReady ready
-stood_ready set_up address ready (x, addresses, s, is) head begun =
+pub stood_ready : {L : Type 0} (set_up : SetUp) (ready : ReadyStation L) → IsOfScript set_up → ready.head ≡ set_up.head → IsAtLink set_up.node ready.station
+    → IsReady ready
+stood_ready set_up ready (x, addresses, s, is) head begun =
     let same = head ∙ is.head in
     let new = is.node in
     record {
       one = ap (λ (r : PlainRecording). length r.setting.stations) same;
       index = begun.index;
-      fault = begun.fault;
       fresh =
-          subst (λ (n : Node). IsFresh 0 n (open_setting ready.head) (Some (datagrams_sent ready.post.station.line))) (sym begun.node_is)
-          (subst (λ (r : PlainRecording). IsFresh 0 set_up.node (open_setting r) (Some (datagrams_sent ready.post.station.line))) (sym same)
+          subst (λ (n : Node). IsFresh 0 n (open_setting ready.head) (Some (datagrams_sent ready.station.line))) (sym begun.node_is)
+          (subst (λ (r : PlainRecording). IsFresh 0 set_up.node (open_setting r) (Some (datagrams_sent ready.station.line))) (sym same)
           (record {
             station = record {
               within = omega arith;

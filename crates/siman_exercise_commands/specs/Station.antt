@@ -8,7 +8,7 @@ use Rattle.siman_scripts.specs.Script.{ScriptData}
 use Rattle.siman_scripts.specs.Statement.{address_of}
 use Rattle.siman_scripts.specs.Stations.{WorldStationData}
 use Rattle.siman_stations.specs.declared.world_fault.WorldFault.TheVariants as worlds
-use Rattle.siman_operator.specs.Posts.{IsBegun}
+use Rattle.siman_operator.specs.Posts.{IsAtLink}
 use Rattle.siman_operator.specs.declared.reading.TheConstants.{LONGEST_LINE}
 use Rattle.siman_operator.specs.declared.recorded.ReadyStation.{ReadyStation}
 use Rattle.siman_operator.specs.declared.scripted.SetUp.{SetUp}
@@ -130,7 +130,7 @@ CreatesPlayed strangers ready name input (Creates made (Err kind) ∷ []) played
 CreatesPlayed strangers ready name input (Creates made (Ok fresh) ∷ Leaves left ∷ []) played s =
     (made ≡ name)
     × ((told : SessionReport) × (played ≡ Ok told) × Records strangers input ready fresh left s.out.old s.out.new s.errors.old s.errors.new told
-    × IsLeft (open_setting ready.head) ready.post.station.node.application.outfit told.status fresh left)
+    × IsLeft (open_setting ready.head) ready.station.node.application.outfit told.status fresh left)
 CreatesPlayed strangers ready name input deeds played s = ⊥
 
 -- THE STATION IS ATTACHED TO ITS LINK as it was set up, among the stations of its script; it is not if memory runs
@@ -138,7 +138,7 @@ CreatesPlayed strangers ready name input deeds played s = ⊥
 abbrev pub IsAttached : {L : Type 0} → (strangers : L → ℕ) → SetUp → (address : SiteApplication) → (name : List ℕ) → (input : Option (List ℕ)) → List Deed → Played → Streams → Type 0
 IsAttached {L} strangers set_up address name input deeds played s =
     PlaysNone Memory deeds played s
-    ⊎ ((ready : ReadyStation L) × (ready.head ≡ set_up.head) × IsBegun set_up.head.setting.exercise address set_up.node ready.post
+    ⊎ ((ready : ReadyStation L) × (ready.head ≡ set_up.head) × IsAtLink set_up.node ready.station × (ready.address ≡ address)
     × (ready.stations ≡ set_up.stations) × CreatesPlayed strangers ready name input deeds played s)
 
 -- ITS LINK is requested, with the endpoints that the words name; if there is none, the fault is `live: line`, or

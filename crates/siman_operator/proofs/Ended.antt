@@ -5,7 +5,7 @@ use Rattle.exercise_recording.specs.declared.fault.WriterFault.{WriterFault}
 use Rattle.exercise_recording.specs.declared.fault.WriterFault.TheVariants as faults
 use Rattle.exercise_recording.specs.Text.{end_text}
 use Rattle.exercise_recording.specs.Writer.{WriterState, Tears, finish_refusal, unless_write}
-use Rattle.siman_operator.specs.declared.post.Post.{Post}
+use Rattle.siman_operator.specs.Deeds.{PostData}
 use Rattle.siman_operator.specs.declared.printing.PrintFault.{PrintFault}
 use Rattle.siman_operator.specs.declared.playing.Stop.{Stop}
 use Rattle.siman_operator.specs.declared.playing.Stop.TheVariants as stops
@@ -31,12 +31,12 @@ pub unended : (old new : WriterState) (r : Result (Unit {0}) WriterFault) (fault
 unended old new r fault was refused unchanged torn = unended_by old new fault refused unchanged (λ is. torn (was ∙ ap Err is))
 
 -- a failed read was told before
-pub ends_unread : {L : Type 0} (strangers : L → ℕ) (post : Post L) (stop : Stop) (w v : WriterState) (o p : Option (List ℕ)) (before after : SessionReport) (e f : Option (List ℕ))
-    (told : SessionReport) (mid : Option (List ℕ)) → stop ≡ stops.Unread → ReportsUnread before told e mid → ClosesAt strangers post w v o p told after mid f
-    → EndsSession strangers post stop w v o p before after e f
-ends_unread strangers post stops.End w v o p before after e f told mid is tells closes = absurd cc
-ends_unread strangers post stops.Unread w v o p before after e f told mid is tells closes = (told, mid, tells, closes)
-ends_unread strangers post stops.Unrecorded w v o p before after e f told mid is tells closes = absurd cc
+pub ends_unread : {L : Type 0} (strangers : L → ℕ) (stop : Stop) (p q : PostData L) (o u : Option (List ℕ)) (before after : SessionReport) (e f : Option (List ℕ))
+    (told : SessionReport) (mid : Option (List ℕ)) → stop ≡ stops.Unread → ReportsUnread before told e mid → ClosesAt strangers p q o u told after mid f
+    → EndsSession strangers stop p q o u before after e f
+ends_unread strangers stops.End p q o u before after e f told mid is tells closes = absurd cc
+ends_unread strangers stops.Unread p q o u before after e f told mid is tells closes = (told, mid, tells, closes)
+ends_unread strangers stops.Unrecorded p q o u before after e f told mid is tells closes = absurd cc
 
 -- the counts are printed, where each entry was
 pub prints_end : (fault : Option PrintFault) (text : List ℕ) (o p : Option (List ℕ)) (closed : Result (Unit {0}) PrintFault) → is_some fault ≡ false

@@ -8,6 +8,7 @@ use Rattle.byte_files.specs.Writing.{Writes, WritesPart}
 use Rattle.byte_files.proofs.Offered.{writes_part, writes_then}
 use Rattle.siman_lines.specs.AtLines.{Telling}
 use Rattle.siman_operator.specs.declared.tracing_line.TracingLine.{TracingLine}
+use Rattle.siman_operator.specs.Deeds.{PostData}
 use Rattle.siman_operator.specs.Posts.{TakesLine, is_over}
 use Rattle.siman_scripts.specs.declared.command.Command.{Command}
 use Rattle.siman_operator.specs.declared.reading.TheConstants.{LONGEST_LINE}
@@ -19,7 +20,7 @@ use Rattle.byte_files.specs.Lines.{ReadsLines, HoldsLine}
 use Rattle.siman_operator.specs.Reading.{said_by}
 use Rattle.siman_operator.specs.Reason.{Reasons}
 use Rattle.siman_operator.specs.Receiver.{WarnsOf}
-use Rattle.siman_operator.specs.Sessions.{print_stop_at, RecordedPost, Taken, TakesOne, TakesAll, lines_in, told_from, worst_of, MayGoOn, PlaysLines}
+use Rattle.siman_operator.specs.Sessions.{print_stop_at, Taken, TakesOne, TakesAll, lines_in, told_from, worst_of, MayGoOn, PlaysLines}
 use Rattle.siman_operator.specs.Told.{Wrote, WritesMore}
 use Rattle.siman_operator.proofs.Reasons.{reasons_held}
 use Rattle.siman_operator.proofs.SessionLines.{reads-none, reads-more, all_lines, first_lines, said_by-held}
@@ -49,7 +50,7 @@ lines_in-push : (ts : List Taken) (t : Taken) → lines_in (ts ++ t ∷ []) ≡ 
 lines_in-push [] t = refl
 lines_in-push (u ∷ us) t = ap (λ (ls : List (List ℕ)). u.line ∷ ls) (lines_in-push us t)
 
-takes-push : {L : Type 0} (stations : List SiteApplication) (told : Telling (TracingLine L)) (ts : List Taken) (t : Taken) (a b c : RecordedPost L) → TakesAll stations told ts a b → TakesOne stations told t b c
+takes-push : {L : Type 0} (stations : List SiteApplication) (told : Telling (TracingLine L)) (ts : List Taken) (t : Taken) (a b c : PostData L) → TakesAll stations told ts a b → TakesOne stations told t b c
     → TakesAll stations told (ts ++ t ∷ []) a c
 takes-push stations told [] t a b c before one = (c, subst (λ x. TakesOne stations told t x c) before one, refl)
 takes-push stations told (u ∷ us) t a b c before one = (before.0, before.1, takes-push stations told us t before.0 b c before.2 one)
@@ -61,7 +62,7 @@ goes-push (u ∷ us) t all one = (all.0, goes-push us t all.1 one)
 -- ---- the lines so far
 
 -- These lines were read and taken, and told with their worst status.
-pub record SoFar {L : Type 0} (stations : List SiteApplication) (told : Telling (TracingLine L)) (a b : Option (List ℕ)) (old now : RecordedPost L) (e f : Option (List ℕ)) (number : ℕ) (so : SessionReport) : Type 0 where
+pub record SoFar {L : Type 0} (stations : List SiteApplication) (told : Telling (TracingLine L)) (a b : Option (List ℕ)) (old now : PostData L) (e f : Option (List ℕ)) (number : ℕ) (so : SessionReport) : Type 0 where
   pub taken : List Taken
   pub count : number ≡ 1 + length taken
   pub takes : TakesAll stations told taken old now
@@ -73,10 +74,10 @@ nothing_told : (so : SessionReport) (e : Option (List ℕ)) → so ≡ record { 
 nothing_told so e none = subst (λ (s : SessionReport). Writes s.written e e []) (sym none) (Appends-nil e)
 
 -- and a further line may be taken after each of them
-abbrev pub OnSoFar : {L : Type 0} → (stations : List SiteApplication) → Telling (TracingLine L) → (a b : Option (List ℕ)) → (old now : RecordedPost L) → (e f : Option (List ℕ)) → (number : ℕ) → SessionReport → Type 0
+abbrev pub OnSoFar : {L : Type 0} → (stations : List SiteApplication) → Telling (TracingLine L) → (a b : Option (List ℕ)) → (old now : PostData L) → (e f : Option (List ℕ)) → (number : ℕ) → SessionReport → Type 0
 OnSoFar stations told a b old now e f number so = (before : SoFar stations told a b old now e f number so) × MayGoOn before.taken
 
-pub none_played : {L : Type 0} (stations : List SiteApplication) (told : Telling (TracingLine L)) (a : Option (List ℕ)) (old : RecordedPost L) (e : Option (List ℕ)) (so : SessionReport)
+pub none_played : {L : Type 0} (stations : List SiteApplication) (told : Telling (TracingLine L)) (a : Option (List ℕ)) (old : PostData L) (e : Option (List ℕ)) (so : SessionReport)
     → so ≡ record { status = 0; written = Ok tt } → OnSoFar stations told a a old old e e 1 so
 none_played stations told a old e so none = (
   record {
@@ -90,7 +91,7 @@ none_played stations told a old e so none = (
   tt,
 )
 
-line_more : {L : Type 0} {stations : List SiteApplication} {told : Telling (TracingLine L)} {a b c : Option (List ℕ)} {old now new : RecordedPost L} {e f g : Option (List ℕ)} {number held : ℕ} {so after : SessionReport}
+line_more : {L : Type 0} {stations : List SiteApplication} {told : Telling (TracingLine L)} {a b c : Option (List ℕ)} {old now new : PostData L} {e f g : Option (List ℕ)} {number held : ℕ} {so after : SessionReport}
     {buffer : List ℕ} {came : Came} → SoFar stations told a b old now e f number so → (holds : HoldsLine b c buffer held)
     → TakesOne stations told (record { line = holds.line; came = came }) now new → after.status ≡ max so.status (status_of came)
     → WritesMore so.written after.written f g (result_of number came) → SoFar stations told a c old new e g (number + 1) after
@@ -109,7 +110,7 @@ line_more {L} {stations} {told} {a} {b} {c} {old} {now} {new} {e} {f} {g} {numbe
     }
 
 -- one line more was taken, after which a further one may be
-pub line_played : {L : Type 0} {stations : List SiteApplication} {told : Telling (TracingLine L)} {a b c : Option (List ℕ)} {old now new : RecordedPost L} {e f g : Option (List ℕ)} {number held : ℕ} {so after : SessionReport}
+pub line_played : {L : Type 0} {stations : List SiteApplication} {told : Telling (TracingLine L)} {a b c : Option (List ℕ)} {old now new : PostData L} {e f g : Option (List ℕ)} {number held : ℕ} {so after : SessionReport}
     {buffer : List ℕ} {came : Came} → OnSoFar stations told a b old now e f number so → (holds : HoldsLine b c buffer held)
     → TakesOne stations told (record { line = holds.line; came = came }) now new → after.status ≡ max so.status (status_of came)
     → WritesMore so.written after.written f g (result_of number came) → is_over came.line ≡ false → OnSoFar stations told a c old new e g (number + 1) after
@@ -120,7 +121,7 @@ line_played {came = came} before holds takes status tells on =
 -- ---- where it stops
 
 -- there is no further line
-pub all_played : {L : Type 0} {stations : List SiteApplication} {told : Telling (TracingLine L)} {a b : Option (List ℕ)} {old now : RecordedPost L} {e f : Option (List ℕ)} {number : ℕ} {so : SessionReport}
+pub all_played : {L : Type 0} {stations : List SiteApplication} {told : Telling (TracingLine L)} {a b : Option (List ℕ)} {old now : PostData L} {e f : Option (List ℕ)} {number : ℕ} {so : SessionReport}
     → OnSoFar stations told a b old now e f number so → IsAtEnd b → PlaysLines stations told a old now e f (record { told = so; stop = stops.End })
 all_played {a = a} {b = b} before end = record {
   taken = before.0.taken;
@@ -131,7 +132,7 @@ all_played {a = a} {b = b} before end = record {
 }
 
 -- a read failed
-pub unread_played : {L : Type 0} {stations : List SiteApplication} {told : Telling (TracingLine L)} {a b : Option (List ℕ)} {old now : RecordedPost L} {e f : Option (List ℕ)} {number : ℕ} {so : SessionReport}
+pub unread_played : {L : Type 0} {stations : List SiteApplication} {told : Telling (TracingLine L)} {a b : Option (List ℕ)} {old now : PostData L} {e f : Option (List ℕ)} {number : ℕ} {so : SessionReport}
     → OnSoFar stations told a b old now e f number so → PlaysLines stations told a old now e f (record { told = so; stop = stops.Unread })
 unread_played {a = a} {b = b} before = record {
   taken = before.0.taken;
@@ -142,7 +143,7 @@ unread_played {a = a} {b = b} before = record {
 }
 
 -- at the last line an entry was not recorded
-pub over_played : {L : Type 0} {stations : List SiteApplication} {told : Telling (TracingLine L)} {a b c : Option (List ℕ)} {old now new : RecordedPost L} {e f g : Option (List ℕ)} {number held : ℕ} {so after : SessionReport}
+pub over_played : {L : Type 0} {stations : List SiteApplication} {told : Telling (TracingLine L)} {a b c : Option (List ℕ)} {old now new : PostData L} {e f g : Option (List ℕ)} {number held : ℕ} {so after : SessionReport}
     {buffer : List ℕ} {came : Came} → OnSoFar stations told a b old now e f number so → (holds : HoldsLine b c buffer held)
     → TakesOne stations told (record { line = holds.line; came = came }) now new → after.status ≡ max so.status (status_of came)
     → WritesMore so.written after.written f g (result_of number came) → is_over came.line ≡ true
@@ -159,14 +160,14 @@ over_played {a = a} {c = c} {came = came} before holds takes status tells over =
     }
 
 -- what was taken is the line, of which as much was held as may be
-pub takes_held : {L : Type 0} {stations : List SiteApplication} {told : Telling (TracingLine L)} {b c : Option (List ℕ)} {old new : RecordedPost L} {buffer : List ℕ} {held : ℕ} {came : Came}
+pub takes_held : {L : Type 0} {stations : List SiteApplication} {told : Telling (TracingLine L)} {b c : Option (List ℕ)} {old new : PostData L} {buffer : List ℕ} {held : ℕ} {came : Came}
     → length buffer ≡ LONGEST_LINE + 1 → (holds : HoldsLine b c buffer held)
-    → TakesLine told (said_by (take held buffer)) old.post old.recorder new.post new.recorder came.line
-    → came.print_stop ≡ print_stop_at old.post.printer.fault new.post.printer.fault → came.site ≡ old.post.address.site → came.application ≡ old.post.address.application
+    → TakesLine told (said_by (take held buffer)) old new came.line
+    → came.print_stop ≡ print_stop_at old.fault new.fault → came.site ≡ old.address.site → came.application ≡ old.address.application
     → Reasons (take held buffer) came.line.done came.reason → WarnsOf stations (said_by (take held buffer)) came.line.done came.nobody
     → TakesOne stations told (record { line = holds.line; came = came }) old new
 takes_held {stations = stations} {told = told} {old = old} {new = new} {came = came} size holds takes print_stop site application reason nobody = record {
-  takes = subst (λ (said : Option Command). TakesLine told said old.post old.recorder new.post new.recorder came.line) (said_by-held size holds) takes;
+  takes = subst (λ (said : Option Command). TakesLine told said old new came.line) (said_by-held size holds) takes;
   print_stop = print_stop;
   site = site;
   application = application;

@@ -6,7 +6,7 @@ use Rattle.exercise_recording.specs.Text.{end_text}
 use Rattle.exercise_recording.specs.Writer.{WriterState, Finishes, Tears, finish_refusal}
 use Rattle.siman_print.specs.Line.{Number, Keyed, Line, named_line}
 use Rattle.siman_print.specs.Spelled.{line_text}
-use Rattle.siman_operator.specs.declared.post.Post.{Post}
+use Rattle.siman_operator.specs.Deeds.{PostData}
 use Rattle.siman_operator.specs.declared.printing.PrintFault.{PrintFault}
 use Rattle.siman_operator.specs.declared.printing.PrintFault.TheVariants as prints
 
@@ -36,8 +36,8 @@ abbrev pub IsUnended : (old new : WriterState) → Type 0
 IsUnended old new = ((old.spent ≡ true) × (new ≡ old)) ⊎ ((finish_refusal old ≡ None) × Tears old new (end_text old.entries))
 
 -- THE RECORDING IS ENDED and its counts are printed; or the end failed, and nothing is printed
-abbrev pub Closes : {L : Type 0} → (strangers : L → ℕ) → Post L → (w v : WriterState) → (old new : Option (List ℕ)) → Result (Unit {0}) PrintFault → Type 0
-Closes strangers post w v old new closed =
-    (IsUnended w v × (closed ≡ Err prints.Write) × (new ≡ old))
-    ⊎ ((finish_refusal w ≡ None) × Finishes w v
-    × PrintsEnd post.printer.fault (session_text v.entries post.station.dropped (strangers post.station.line.line)) old new closed)
+abbrev pub Closes : {L : Type 0} → (strangers : L → ℕ) → (old new : PostData L) → (out out_after : Option (List ℕ)) → Result (Unit {0}) PrintFault → Type 0
+Closes strangers old new out out_after closed =
+    (IsUnended old.recorder new.recorder × (closed ≡ Err prints.Write) × (out_after ≡ out))
+    ⊎ ((finish_refusal old.recorder ≡ None) × Finishes old.recorder new.recorder
+    × PrintsEnd old.fault (session_text new.recorder.entries old.station.dropped (strangers old.station.line.line)) out out_after closed)

@@ -2,6 +2,7 @@
 -- recorded (profile).
 use Rattle.std.specs.Prelude.{◌≡◌, ℕ, ◌+◌, ◌-◌, ◌^◌, min, ◌==◌, List, length, Option, Some, Result, Ok, Err, ◌++◌}
 use Rattle.std.specs.Bool.{MatchBool}
+use Rattle.dis_records.specs.declared.address.SiteApplication.{SiteApplication}
 use Rattle.exercise_model.specs.Entry.{Entry, Sent, Received}
 use Rattle.exercise_recording.specs.Writer.{WriterState}
 use Rattle.siman_stations.specs.declared.turn.Node.{Node}
@@ -12,6 +13,8 @@ use Rattle.siman_lines.specs.AtLines.{Telling, state_at}
 use Rattle.siman_lines.specs.KeptAtLine.{IsWritten, IsKept}
 use Rattle.siman_lines.specs.LineDatagrams.{Datagrams}
 use Rattle.siman_lines.specs.Serving.{ServeEnds}
+use Rattle.siman_operator.specs.declared.post.Post.{Post}
+use Rattle.siman_operator.specs.declared.printing.PrintFault.{PrintFault}
 use Rattle.siman_operator.specs.declared.tracing_line.TracingLine.{TracingLine}
 use Rattle.siman_operator.specs.Noted.{last_of}
 use Rattle.siman_operator.specs.Noting.{datagrams_sent, datagrams_received}
@@ -51,12 +54,34 @@ pub record ServesOnce {L : Type 0} (told : Telling L) (now : ℕ) (p : StationAt
   pub dropped : q.dropped ≡ dropped_after p.dropped result
   pub busy : q.busy ≡ p.busy
 
+-- A POST: its station, its recorder, its exercise, why printing stopped, if it has, its address and the time of its
+-- clock
+pub record PostData (L : Type 0) : Type 0 where
+  pub station : StationAtLine (TracingLine L)
+  pub recorder : WriterState
+  pub exercise : ℕ
+  pub fault : Option PrintFault
+  pub address : SiteApplication
+  pub clock : ℕ
+
+-- what contracts see of a post
+abbrev pub data_of : {L W : Type 0} → Post L W → PostData L
+data_of p = record { station = p.station; recorder = p.recorder; exercise = p.printer.exercise; fault = p.printer.fault; address = p.address; clock = p.clock }
+
+-- neither the address nor the clock of a post changes
+abbrev pub IsAtSameTime : {L : Type 0} → (old new : PostData L) → Type 0
+IsAtSameTime old new = (new.address ≡ old.address) × (new.clock ≡ old.clock)
+
 -- the station of a post, with its recorder, its exercise and its printing
 pub record PostState (L : Type 0) : Type 0 where
   pub station : StationAtLine (TracingLine L)
   pub recorder : WriterState
   pub exercise : ℕ
   pub printing : Printing
+
+-- the state of a post, with this output
+abbrev pub printed : {L : Type 0} → PostData L → (out : Option (List ℕ)) → PostState L
+printed p out = record { station = p.station; recorder = p.recorder; exercise = p.exercise; printing = record { out = out; fault = p.fault } }
 
 -- if some entries are written whole and the invariant of a station holds, more entries are, and it holds of them
 abbrev pub KeepsAll : ℕ → (n : Node) → (w : WriterState) → (handed : Datagrams) → (m : Node) → (v : WriterState) → (handed_after : Datagrams) → Type 0

@@ -10,25 +10,25 @@ use Rattle.siman_scripts.specs.declared.command.Command.{Command}
 use Rattle.siman_operator.specs.declared.tracing_line.TracingLine.{TracingLine}
 use Rattle.siman_operator.specs.declared.obeying.Rejection.{Rejection}
 use Rattle.siman_operator.specs.declared.obeying.Rejection.TheVariants as undone
-use Rattle.siman_operator.specs.declared.post.LineResult.{LineResult}
-use Rattle.siman_operator.specs.declared.post.Post.{Post}
+use Rattle.siman_operator.specs.declared.obeying.LineResult.{LineResult}
 use Rattle.siman_operator.specs.declared.turns.Trouble.{Trouble}
+use Rattle.siman_operator.specs.Deeds.{PostData}
 use Rattle.siman_operator.specs.Noting.{datagrams_sent, datagrams_received}
 use Rattle.siman_operator.specs.Obeying.{Obeys}
 use Rattle.siman_operator.specs.Turns.{TakesTurns}
 
--- A POST IN ITS INITIAL STATE: station 0 with this node, whose link was passed nothing and returned nothing, and
--- whose clock shows 0; printing has not failed
-pub record IsBegun {L : Type 0} (exercise : ℕ) (address : SiteApplication) (node : Node) (post : Post L) : Type 0 where
-  pub index : post.station.index ≡ 0
-  pub node_is : post.station.node ≡ node
-  pub sent : datagrams_sent post.station.line ≡ []
-  pub received : datagrams_received post.station.line ≡ []
-  pub dropped : post.station.dropped ≡ 0
-  pub exercise_is : post.printer.exercise ≡ exercise
-  pub fault : post.printer.fault ≡ None
-  pub address_is : post.address ≡ address
-  pub clock : post.clock ≡ 0
+-- A STATION AT ITS LINK IN ITS INITIAL STATE: station 0 with this node, whose link was passed nothing and returned
+-- nothing
+pub record IsAtLink {L : Type 0} (node : Node) (station : StationAtLine (TracingLine L)) : Type 0 where
+  pub index : station.index ≡ 0
+  pub node_is : station.node ≡ node
+  pub sent : datagrams_sent station.line ≡ []
+  pub received : datagrams_received station.line ≡ []
+  pub dropped : station.dropped ≡ 0
+
+-- A POST IN ITS INITIAL STATE: printing has not failed, and its clock shows 0
+abbrev pub begun_post : {L : Type 0} → (exercise : ℕ) → SiteApplication → StationAtLine (TracingLine L) → WriterState → PostData L
+begun_post exercise address station w = record { station = station; recorder = w; exercise = exercise; fault = None; address = address; clock = 0 }
 
 -- Results of lines.
 
@@ -60,10 +60,9 @@ no_trouble = record { line = false; memory = false; recorder = false }
 
 -- THE EFFECT OF A LINE at a post: it does what the line asks for, and is then served, unless an entry was not
 -- recorded
-pub record TakesLine {L : Type 0} (told : Telling (TracingLine L)) (said : Option Command) (old : Post L) (w : WriterState) (new : Post L) (v : WriterState)
-    (came : LineResult) : Type 0 where
+pub record TakesLine {L : Type 0} (told : Telling (TracingLine L)) (said : Option Command) (old new : PostData L) (came : LineResult) : Type 0 where
   pub mid : StationAtLine (TracingLine L)
   pub recorder : WriterState
-  pub obeys : Obeys told old.address said old.clock new.clock old.station w mid recorder came.done
+  pub obeys : Obeys told old.address said old.clock new.clock old.station old.recorder mid recorder came.done
   pub address : new.address ≡ old.address
-  pub serves : MatchBool (is_unrecorded came.done) ((came.trouble ≡ no_trouble) × (new.station ≡ mid) × (v ≡ recorder)) (TakesTurns told new.clock mid recorder new.station v came.trouble)
+  pub serves : MatchBool (is_unrecorded came.done) ((came.trouble ≡ no_trouble) × (new.station ≡ mid) × (new.recorder ≡ recorder)) (TakesTurns told new.clock mid recorder new.station new.recorder came.trouble)

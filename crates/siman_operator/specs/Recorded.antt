@@ -14,13 +14,14 @@ use Rattle.exercise_recording.specs.Writer.{WriterState, Starts}
 use Rattle.siman_application.specs.AppProfile.{AppProfile}
 use Rattle.siman_application.specs.OwnLog.{AreOneOrder}
 use Rattle.siman_lines.specs.Calls.{IsFresh}
-use Rattle.siman_operator.specs.declared.post.Post.{Post}
 use Rattle.siman_operator.specs.declared.printing.PrintFault.TheVariants as prints
+use Rattle.siman_operator.specs.Deeds.{PostData}
+use Rattle.siman_operator.specs.Posts.{begun_post}
 use Rattle.siman_operator.specs.Explained.{HearsOwnSent}
 use Rattle.siman_operator.specs.Noting.{datagrams_sent}
 use Rattle.siman_operator.specs.declared.recorded.ReadyStation.{ReadyStation}
 use Rattle.siman_operator.specs.declared.session_report.SessionReport.{SessionReport}
-use Rattle.siman_operator.specs.Sessions.{PrintedPost, Plays}
+use Rattle.siman_operator.specs.Sessions.{Plays}
 use Rattle.siman_operator.specs.Told.{WritesMore, closed_text}
 
 -- the setting of the recording that a session writes: its station alone, in the second format, open
@@ -28,19 +29,17 @@ abbrev pub open_setting : PlainRecording → SettingData
 open_setting head = record { form = Open; exercise = head.setting.exercise; stations = head.setting.stations }
 
 -- A STATION IN ITS INITIAL STATE: it is the only one of its recording, it has received nothing and made no order,
--- its link has sent nothing, and printing has not failed
+-- and its link has sent nothing
 pub record IsReady {L : Type 0} (ready : ReadyStation L) : Type 0 where
   pub one : length ready.head.setting.stations ≡ 1
-  pub index : ready.post.station.index ≡ 0
-  pub fault : ready.post.printer.fault ≡ None
-  pub fresh : IsFresh 0 ready.post.station.node (open_setting ready.head) (Some (datagrams_sent ready.post.station.line))
+  pub index : ready.station.index ≡ 0
+  pub fresh : IsFresh 0 ready.station.node (open_setting ready.head) (Some (datagrams_sent ready.station.line))
 
--- a post is played with a recorder; its file has what the recorder wrote
-abbrev pub RecordsBegun : {L : Type 0} → (stations : List SiteApplication) → (strangers : L → ℕ) → (known : Option (List ℕ)) → Post L → WriterState → (out out_after errors errors_after : Option (List ℕ))
+-- a post is played; its file has what the recorder wrote
+abbrev pub RecordsBegun : {L : Type 0} → (stations : List SiteApplication) → (strangers : L → ℕ) → (known : Option (List ℕ)) → PostData L → (out out_after errors errors_after : Option (List ℕ))
     → (file : Option (List ℕ)) → SessionReport → Type 0
-RecordsBegun {L} stations strangers known post w out out_after errors errors_after file told =
-    (after : PrintedPost L) × (after.out ≡ out_after) × (file ≡ after.recorder.contents)
-    × (let before : PrintedPost L = record { post = post; recorder = w; out = out } in Plays stations strangers known before after errors errors_after told)
+RecordsBegun {L} stations strangers known post out out_after errors errors_after file told =
+    (after : PostData L) × (file ≡ after.recorder.contents) × Plays stations strangers known post after out out_after errors errors_after told
 
 -- the head was not written whole: this is reported, and no line is read
 pub record RecordsNone (w : SettingData) (file file_after out out_after errors errors_after : Option (List ℕ)) (told : SessionReport) : Type 0 where
@@ -54,7 +53,7 @@ abbrev pub Records : {L : Type 0} → (strangers : L → ℕ) → (known : Optio
     → SessionReport → Type 0
 Records strangers known ready file file_after out out_after errors errors_after told =
     RecordsNone (open_setting ready.head) file file_after out out_after errors errors_after told
-    ⊎ ((w : WriterState) × Starts file (open_setting ready.head) w × RecordsBegun ready.stations.items strangers known ready.post w out out_after errors errors_after file_after told)
+    ⊎ ((w : WriterState) × Starts file (open_setting ready.head) w × RecordsBegun ready.stations.items strangers known (begun_post ready.head.setting.exercise ready.address ready.station w) out out_after errors errors_after file_after told)
 
 -- WHAT THE FILE HAS: the text of a recording of some entries and at most one more, or a prefix of it; with status 0
 -- the whole text with these entries. What the station recorded is explained: each prefix of the entries is a run in

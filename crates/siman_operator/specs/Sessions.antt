@@ -3,12 +3,10 @@ use Rattle.std.specs.Prelude.{◌≡◌, ℕ, ◌+◌, max, true, false, List, [
 use Rattle.std.specs.List.{AllByRecursion}
 use Rattle.byte_files.specs.Writing.{Writes}
 use Rattle.dis_records.specs.declared.address.SiteApplication.{SiteApplication}
-use Rattle.exercise_recording.specs.Writer.{WriterState}
 use Rattle.siman_lines.specs.AtLines.{Telling}
 use Rattle.siman_operator.specs.declared.tracing_line.TracingLine.{TracingLine}
-use Rattle.siman_operator.specs.declared.post.Post.{Post}
 use Rattle.siman_operator.specs.declared.printing.PrintFault.{PrintFault}
-use Rattle.siman_operator.specs.Deeds.{PostState, GoesOn}
+use Rattle.siman_operator.specs.Deeds.{PostData, printed, GoesOn}
 use Rattle.siman_operator.specs.Noting.{telling}
 use Rattle.siman_operator.specs.Posts.{TakesLine, is_over}
 use Rattle.siman_operator.specs.declared.came.Came.{Came}
@@ -32,11 +30,6 @@ abbrev pub print_stop_at : (before after : Option PrintFault) → Option PrintFa
 print_stop_at None after = after
 print_stop_at (Some fault) after = None
 
--- a post with its recorder
-pub record RecordedPost (L : Type 0) : Type 0 where
-  pub post : Post L
-  pub recorder : WriterState
-
 -- a line and its result
 pub record Taken : Type 0 where
   pub line : List ℕ
@@ -44,18 +37,18 @@ pub record Taken : Type 0 where
 
 -- A LINE IS TAKEN as the command that it says; a bad line has its reason in the result, and an order that no
 -- station of the script receives has its receiver there
-pub record TakesOne {L : Type 0} (stations : List SiteApplication) (told : Telling (TracingLine L)) (t : Taken) (old new : RecordedPost L) : Type 0 where
-  pub takes : TakesLine told (said_by t.line) old.post old.recorder new.post new.recorder t.came.line
-  pub print_stop : t.came.print_stop ≡ print_stop_at old.post.printer.fault new.post.printer.fault
-  pub site : t.came.site ≡ old.post.address.site
-  pub application : t.came.application ≡ old.post.address.application
+pub record TakesOne {L : Type 0} (stations : List SiteApplication) (told : Telling (TracingLine L)) (t : Taken) (old new : PostData L) : Type 0 where
+  pub takes : TakesLine told (said_by t.line) old new t.came.line
+  pub print_stop : t.came.print_stop ≡ print_stop_at old.fault new.fault
+  pub site : t.came.site ≡ old.address.site
+  pub application : t.came.application ≡ old.address.application
   pub reason : Reasons t.line t.came.line.done t.came.reason
   pub nobody : WarnsOf stations (said_by t.line) t.came.line.done t.came.nobody
 
 -- LINES ARE TAKEN, one after the other
-abbrev pub TakesAll : {L : Type 0} → (stations : List SiteApplication) → Telling (TracingLine L) → List Taken → (old new : RecordedPost L) → Type 0
+abbrev pub TakesAll : {L : Type 0} → (stations : List SiteApplication) → Telling (TracingLine L) → List Taken → (old new : PostData L) → Type 0
 TakesAll stations told [] old new = new ≡ old
-TakesAll {L} stations told (t ∷ ts) old new = (mid : RecordedPost L) × TakesOne stations told t old mid × TakesAll stations told ts mid new
+TakesAll {L} stations told (t ∷ ts) old new = (mid : PostData L) × TakesOne stations told t old mid × TakesAll stations told ts mid new
 
 abbrev pub lines_in : List Taken → List (List ℕ)
 lines_in ts = map (λ t. t.line) ts
@@ -88,7 +81,7 @@ Stops known stops.Unread ts = MayGoOn ts × AreFirstLines known (lines_in ts)
 Stops known stops.Unrecorded ts = IsOver ts × AreFirstLines known (lines_in ts)
 
 -- THE LINES OF A TEXT ARE PLAYED: taken up to the stop, and reported, with their worst status
-pub record PlaysLines {L : Type 0} (stations : List SiteApplication) (told : Telling (TracingLine L)) (known : Option (List ℕ)) (old new : RecordedPost L)
+pub record PlaysLines {L : Type 0} (stations : List SiteApplication) (told : Telling (TracingLine L)) (known : Option (List ℕ)) (old new : PostData L)
     (errors errors_after : Option (List ℕ)) (played : Played) : Type 0 where
   pub taken : List Taken
   pub takes : TakesAll stations told taken old new
@@ -98,26 +91,10 @@ pub record PlaysLines {L : Type 0} (stations : List SiteApplication) (told : Tel
 
 -- The whole session.
 
--- a post with its recorder, and the output of its entries
-pub record PrintedPost (L : Type 0) : Type 0 where
-  pub post : Post L
-  pub recorder : WriterState
-  pub out : Option (List ℕ)
-
--- the state of the post in it
-abbrev pub going : {L : Type 0} → PrintedPost L → PostState L
-going a = record {
-  station = a.post.station;
-  recorder = a.recorder;
-  exercise = a.post.printer.exercise;
-  printing = record { out = a.out; fault = a.post.printer.fault };
-}
-
 -- the recording is ended and its counts are printed, and a failure of either is reported
-pub record ClosesAt {L : Type 0} (strangers : L → ℕ) (post : Post L) (w v : WriterState) (out out_after : Option (List ℕ)) (before after : SessionReport)
-    (errors errors_after : Option (List ℕ)) : Type 0 where
+pub record ClosesAt {L : Type 0} (strangers : L → ℕ) (old new : PostData L) (out out_after : Option (List ℕ)) (before after : SessionReport) (errors errors_after : Option (List ℕ)) : Type 0 where
   pub closed : Result (Unit {0}) PrintFault
-  pub closes : Closes strangers post w v out out_after closed
+  pub closes : Closes strangers old new out out_after closed
   pub status : after.status ≡ max before.status (closed_status closed)
   pub tells : WritesMore before.written after.written errors errors_after (closed_text closed)
 
@@ -128,25 +105,22 @@ pub record ReportsUnread (before after : SessionReport) (errors errors_after : O
 
 -- THE END OF A SESSION, by why its lines stopped: at the end of the text, or after a failed read, the recording is
 -- ended; if an entry was not recorded, nothing more is done
-abbrev pub EndsSession : {L : Type 0} → (strangers : L → ℕ) → Post L → Stop → (w v : WriterState) → (out out_after : Option (List ℕ)) → (before after : SessionReport)
+abbrev pub EndsSession : {L : Type 0} → (strangers : L → ℕ) → Stop → (old new : PostData L) → (out out_after : Option (List ℕ)) → (before after : SessionReport)
     → (errors errors_after : Option (List ℕ)) → Type 0
-EndsSession strangers post stops.End w v out out_after before after errors errors_after =
-    ClosesAt strangers post w v out out_after before after errors errors_after
-EndsSession strangers post stops.Unread w v out out_after before after errors errors_after =
-    (told : SessionReport) × (mid : Option (List ℕ)) × ReportsUnread before told errors mid × ClosesAt strangers post w v out out_after told after mid errors_after
-EndsSession strangers post stops.Unrecorded w v out out_after before after errors errors_after =
-    (v ≡ w) × (out_after ≡ out) × (after ≡ before) × (errors_after ≡ errors)
+EndsSession strangers stops.End old new out out_after before after errors errors_after =
+    ClosesAt strangers old new out out_after before after errors errors_after
+EndsSession strangers stops.Unread old new out out_after before after errors errors_after =
+    (told : SessionReport) × (mid : Option (List ℕ)) × ReportsUnread before told errors mid × ClosesAt strangers old new out out_after told after mid errors_after
+EndsSession strangers stops.Unrecorded old new out out_after before after errors errors_after =
+    (new ≡ old) × (out_after ≡ out) × (after ≡ before) × (errors_after ≡ errors)
 
 -- A POST IS PLAYED by the lines of a text, to the end, with these stations in its script
-pub record Plays {L : Type 0} (stations : List SiteApplication) (strangers : L → ℕ) (known : Option (List ℕ)) (old new : PrintedPost L) (errors errors_after : Option (List ℕ)) (told : SessionReport) : Type 0 where
-  -- the post after the lines is the post at the end; intermediate values are its recorder, the output and the
-  -- reports
-  pub recorder : WriterState
-  pub out : Option (List ℕ)
+pub record Plays {L : Type 0} (stations : List SiteApplication) (strangers : L → ℕ) (known : Option (List ℕ)) (old new : PostData L) (out out_after errors errors_after : Option (List ℕ)) (told : SessionReport) : Type 0 where
+  -- the post after the lines, the output and the reports so far
+  pub mid : PostData L
+  pub out_so_far : Option (List ℕ)
   pub errors_so_far : Option (List ℕ)
   pub played : Played
-  pub lines : let before : RecordedPost L = record { post = old.post; recorder = old.recorder } in
-      let after : RecordedPost L = record { post = new.post; recorder = recorder } in
-      PlaysLines stations (telling strangers) known before after errors errors_so_far played
-  pub goes : let after : PrintedPost L = record { post = new.post; recorder = recorder; out = out } in GoesOn (going old) (going after)
-  pub ends : EndsSession strangers new.post played.stop recorder new.recorder out new.out played.told told errors_so_far errors_after
+  pub lines : PlaysLines stations (telling strangers) known old mid errors errors_so_far played
+  pub goes : GoesOn (printed old out) (printed mid out_so_far)
+  pub ends : EndsSession strangers played.stop mid new out_so_far out_after played.told told errors_so_far errors_after

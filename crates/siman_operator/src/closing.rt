@@ -1,14 +1,12 @@
-//! End of a session: ends the recording and prints its counts.
+//! The row of counts at the end of a session.
 
 ghost use Rattle.std.specs.Prelude.{◌≡◌, ◌++◌, IfErr, IfOk, OnOk, string_bytes};
 ghost use Rattle.std.specs.Io.KnownBytes.{Keeps};
 ghost use Rattle.siman_print.specs.Spelled.{line_text};
-ghost use Rattle.siman_operator.specs.Closing.{session_line, session_text, PrintsCounts, PrintsEnd, Closes};
+ghost use Rattle.siman_operator.specs.Closing.{session_line, session_text, PrintsCounts};
 
-use crate::{Post, PrintFault};
+use crate::PrintFault;
 use byte_files::put;
-use exercise_recording::RecordingWriter;
-use siman_lines::Line;
 use siman_print::{Field, PrintedRow as Said, Spelling, Value, put_line};
 use std::alloc::{AllocError, Global};
 use std::io::Write;
@@ -46,7 +44,7 @@ fn session_line(
 }
 
 /// Prints the row of counts.
-fn print_counts<O: Write>(
+pub(crate) fn print_counts<O: Write>(
     alloc: Global,
     records: u32,
     dropped: u64,
@@ -71,36 +69,6 @@ fn flush<O: Write>(out: &mut O) -> Result<(), PrintFault>
 {
     match out.flush() {
         Ok(()) => Ok(()),
-        Err(_) => Err(PrintFault::Write),
-    }
-}
-
-/// Prints the counts of a post whose recording has `records` entries, if every entry was printed.
-fn print_end<L: Line + Drop, O: Write>(
-    alloc: Global,
-    post: &Post<L>,
-    records: u32,
-    out: &mut O,
-) -> Result<(), PrintFault>
-    ensures { PrintsEnd post.now.printer.fault (session_text records post.now.station.dropped (L.strangers post.now.station.line.line)) (O.contents out.old) (O.contents out.new) result }
-{
-    if post.print_fault().is_some() {
-        return Ok(());
-    }
-    print_counts(alloc, records, post.dropped(), post.strangers(), out)
-}
-
-/// Ends the recording of a post, and prints its counts if every entry was printed.
-pub(crate) fn close<L: Line + Drop, W: Write, O: Write>(
-    alloc: Global,
-    post: &Post<L>,
-    recorder: &mut RecordingWriter<'_, W>,
-    out: &mut O,
-) -> Result<(), PrintFault>
-    ensures { Closes L.strangers post.now recorder.old recorder.new (O.contents out.old) (O.contents out.new) result }
-{
-    match recorder.finish() {
-        Ok(()) => print_end(alloc, post, recorder.entry_count(), out),
         Err(_) => Err(PrintFault::Write),
     }
 }

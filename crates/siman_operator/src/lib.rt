@@ -1,13 +1,14 @@
 //! One station, commanded by lines of text, from the start of its recording to the end: a [`Post`]
 //! is the station at its link, and [`play`] is its session.
 //!
-//! A post takes one line of text after the other ([`Post::take_line`]), in the forms of the moves
-//! of a script: the station does what the line asks for, and is then served until no datagram is
-//! waiting. Each entry is recorded before its datagram is sent, and its row is printed, as `show`
-//! has it. [`play`] reads a text line by line, passes each line to a post, reports every line that
-//! failed with its number, and at the end of the text ends the recording and prints the counts. The
-//! crate opens no file and no socket and reads no clock: the caller passes in the link, the
-//! recorder, the text and both writers.
+//! A post has the station, its recorder and its clock. It takes one line of text after the other
+//! ([`Post::take_line`]), in the forms of the moves of a script: the station does what the line asks
+//! for, and is then served until no datagram is waiting. Each entry is recorded before its datagram
+//! is sent, and its row is printed, as `show` has it. [`play`] reads a text line by line, passes each
+//! line to a post, reports every line that failed with its number, and at the end of the text ends
+//! the recording and prints the counts. [`record_session`] is all of it, from the start of the
+//! recording. The crate opens no file and no socket and reads no clock: the caller passes in the
+//! link, the file, the text and both writers.
 //!
 //! The contract for the layer above: the effect of a line is `TakesLine` (`specs/Posts.antt`,
 //! `Obeying.antt`, `Turns.antt`), of a text `Plays` (`specs/Sessions.antt`, `Came.antt`,
@@ -18,7 +19,6 @@
 
 mod came;
 mod closing;
-mod deeds;
 mod explanation;
 mod laws;
 mod obeying;
@@ -33,13 +33,14 @@ mod scripted;
 mod session;
 mod session_report;
 mod tracing_line;
+mod turn_printing;
 mod turns;
 
 pub use came::Came;
 pub use laws::{own_recordings_are_explained, posts_keep_their_recordings};
-pub use obeying::Rejection;
+pub use obeying::{LineResult, Rejection};
 pub use playing::Stop;
-pub use post::{LineResult, Post};
+pub use post::Post;
 pub use printing::PrintFault;
 pub use reading::LONGEST_LINE;
 pub use reason::BadReason;

@@ -3,15 +3,14 @@
 ghost use Rattle.std.specs.Prelude.{◌≡◌};
 ghost use Rattle.siman_scripts.specs.Command.{command_of};
 ghost use Rattle.siman_operator.specs.Noting.{telling};
-ghost use Rattle.siman_operator.specs.Deeds.{PostState, GoesOn};
+ghost use Rattle.siman_operator.specs.Deeds.{data_of, printed, IsAtSameTime, GoesOn};
 ghost use Rattle.siman_operator.specs.Obeying.{rejection_of, reported_as, DoesTask, DoesAsked, Obeys};
+ghost use Rattle.siman_operator.specs.Posts.{is_unrecorded, is_over, worst, TakesLine};
 
-use crate::deeds::{order_at_post, repeat_at_post, tell_at_post};
-use crate::printing::EntryPrinter;
-use crate::tracing_line::TracingLine;
+use crate::post::Post;
+use crate::turns::Trouble;
 use dis_records::Address;
-use exercise_recording::RecordingWriter;
-use siman_lines::{AtLineFault, Line, StationAtLine};
+use siman_lines::{AtLineFault, Line};
 use siman_scripts::{Command, StationTask, read_command};
 use siman_stations::StationFault;
 use std::alloc::Global;
@@ -32,6 +31,43 @@ pub enum Rejection {
     Record,
     /// Memory ran out.
     Memory,
+}
+
+/// Result of a line of text.
+#[derive(Clone, Copy)]
+pub struct LineResult {
+    /// Whether the line was done, or why not.
+    pub done: Result<(), Rejection>,
+    /// What failed in the turns after it. There are no turns if an entry was not recorded before.
+    pub trouble: Trouble,
+}
+
+impl LineResult {
+    /// Whether an entry was not recorded, so that no further line is to be taken.
+    pub fn is_over(self) -> bool
+        ensures { result ≡ is_over self }
+    {
+        self.done == Err(Rejection::Record) || self.trouble.recorder
+    }
+
+    /// Exit status of the line: 3 if memory ran out, else 2 if anything failed or was not done,
+    /// else 0.
+    pub fn status(self) -> u8
+        ensures { result ≡ worst self }
+    {
+        if self.done == Err(Rejection::Memory) || self.trouble.memory {
+            return 3;
+        }
+        let trouble = self.trouble.line || self.trouble.recorder;
+        if self.done.is_err() || trouble { 2 } else { 0 }
+    }
+}
+
+/// Whether an entry was not recorded.
+fn is_unrecorded(done: Result<(), Rejection>) -> bool
+    ensures { result ≡ is_unrecorded done }
+{
+    matches!(done, Err(Rejection::Record))
 }
 
 /// Reason of a fault at a station.
@@ -56,86 +92,83 @@ fn reported_as(done: Result<(), AtLineFault>) -> Result<(), Rejection>
     }
 }
 
-/// Makes the station do a task, and prints the row of what it recorded.
-fn do_task<L: Line + Drop, W: Write, O: Write>(
-    alloc: Global,
-    station: &mut StationAtLine<TracingLine<L>>,
-    printer: &mut EntryPrinter,
-    recorder: &mut RecordingWriter<'_, W>,
-    out: &mut O,
-    now: u64,
-    task: StationTask,
-) -> Result<(), AtLineFault>
-    ensures ends { DoesTask (telling L.strangers) now task station.old recorder.old station.new recorder.new result }
-    ensures goes { let old : PostState L = record { station = station.old; recorder = recorder.old; exercise = printer.old.exercise; printing = record { out = O.contents out.old; fault = printer.old.fault } } in
-        let new : PostState L = record { station = station.new; recorder = recorder.new; exercise = printer.new.exercise; printing = record { out = O.contents out.new; fault = printer.new.fault } } in
-        GoesOn old new }
-{
-    match task {
-        StationTask::Order(order) => order_at_post(
-            alloc, station, printer, recorder, out, now, order,
-        ),
-        StationTask::Repeat => repeat_at_post(alloc, station, printer, recorder, out, now),
-        StationTask::Tell(entity) => tell_at_post(station, printer, recorder, out, entity),
-    }
-}
-
-/// Makes the station do a task, if the line names its address.
-fn do_asked<L: Line + Drop, W: Write, O: Write>(
-    alloc: Global,
-    station: &mut StationAtLine<TracingLine<L>>,
-    printer: &mut EntryPrinter,
-    recorder: &mut RecordingWriter<'_, W>,
-    out: &mut O,
-    own: Address,
-    now: u64,
-    named: Address,
-    task: StationTask,
-) -> Result<(), Rejection>
-    ensures ends { DoesAsked (telling L.strangers) own now named task station.old recorder.old station.new recorder.new result }
-    ensures goes { let old : PostState L = record { station = station.old; recorder = recorder.old; exercise = printer.old.exercise; printing = record { out = O.contents out.old; fault = printer.old.fault } } in
-        let new : PostState L = record { station = station.new; recorder = recorder.new; exercise = printer.new.exercise; printing = record { out = O.contents out.new; fault = printer.new.fault } } in
-        GoesOn old new }
-{
-    if named != own {
-        return Err(Rejection::UnknownStation);
-    }
-    reported_as(do_task(alloc, station, printer, recorder, out, now, task))
-}
-
-/// Does what a line asks for, given without its line feed: a task of the station at this address, a
-/// new time of its clock, or nothing.
-pub(crate) fn obey<L: Line + Drop, W: Write, O: Write>(
-    alloc: Global,
-    station: &mut StationAtLine<TracingLine<L>>,
-    printer: &mut EntryPrinter,
-    recorder: &mut RecordingWriter<'_, W>,
-    out: &mut O,
-    own: Address,
-    clock: &mut u64,
-    line: &[u8],
-) -> Result<(), Rejection>
-    ensures ends { Obeys (telling L.strangers) own (command_of line.now) clock.old clock.new station.old recorder.old station.new recorder.new result }
-    ensures goes { let old : PostState L = record { station = station.old; recorder = recorder.old; exercise = printer.old.exercise; printing = record { out = O.contents out.old; fault = printer.old.fault } } in
-        let new : PostState L = record { station = station.new; recorder = recorder.new; exercise = printer.new.exercise; printing = record { out = O.contents out.new; fault = printer.new.fault } } in
-        GoesOn old new }
-{
-    let command = match read_command(alloc, line) {
-        Ok(Some(command)) => command,
-        Ok(None) => return Err(Rejection::BadLine),
-        Err(_) => return Err(Rejection::Memory),
-    };
-    match command {
-        Command::Nothing => Ok(()),
-        Command::At(now) => {
-            *clock = now;
-            Ok(())
+impl<'s, L: Line + Drop, W: Write> Post<'s, L, W> {
+    /// Makes the station do a task, and prints the row of what it recorded.
+    fn do_task<O: Write>(
+        &mut self,
+        alloc: Global,
+        out: &mut O,
+        task: StationTask,
+    ) -> Result<(), AtLineFault>
+        ensures ends { DoesTask (telling L.strangers) self.old.clock task self.old.station self.old.recorder self.new.station self.new.recorder result }
+        ensures time { IsAtSameTime (data_of self.old) (data_of self.new) }
+        ensures goes { GoesOn (printed (data_of self.old) (O.contents out.old)) (printed (data_of self.new) (O.contents out.new)) }
+    {
+        match task {
+            StationTask::Order(order) => self.order(alloc, out, order),
+            StationTask::Repeat => self.repeat(alloc, out),
+            StationTask::Tell(entity) => self.tell(out, entity),
         }
-        Command::Asks { address, task } => {
-            let now = *clock;
-            do_asked(
-                alloc, station, printer, recorder, out, own, now, address, task,
-            )
+    }
+
+    /// Makes the station do a task, if the line names its address.
+    fn do_asked<O: Write>(
+        &mut self,
+        alloc: Global,
+        out: &mut O,
+        named: Address,
+        task: StationTask,
+    ) -> Result<(), Rejection>
+        ensures ends { DoesAsked (telling L.strangers) self.old.address self.old.clock named task self.old.station self.old.recorder self.new.station self.new.recorder result }
+        ensures time { IsAtSameTime (data_of self.old) (data_of self.new) }
+        ensures goes { GoesOn (printed (data_of self.old) (O.contents out.old)) (printed (data_of self.new) (O.contents out.new)) }
+    {
+        if named != self.address() {
+            return Err(Rejection::UnknownStation);
         }
+        reported_as(self.do_task(alloc, out, task))
+    }
+
+    /// Does what a line asks for, given without its line feed: a task of the station, a new time of
+    /// its clock, or nothing.
+    fn obey<O: Write>(&mut self, alloc: Global, out: &mut O, line: &[u8]) -> Result<(), Rejection>
+        ensures ends { Obeys (telling L.strangers) self.old.address (command_of line.now) self.old.clock self.new.clock self.old.station self.old.recorder self.new.station self.new.recorder result }
+        ensures address { self.new.address ≡ self.old.address }
+        ensures goes { GoesOn (printed (data_of self.old) (O.contents out.old)) (printed (data_of self.new) (O.contents out.new)) }
+    {
+        let command = match read_command(alloc, line) {
+            Ok(Some(command)) => command,
+            Ok(None) => return Err(Rejection::BadLine),
+            Err(_) => return Err(Rejection::Memory),
+        };
+        match command {
+            Command::Nothing => Ok(()),
+            Command::At(now) => {
+                self.clock = now;
+                Ok(())
+            }
+            Command::Asks { address, task } => self.do_asked(alloc, out, address, task),
+        }
+    }
+
+    /// Takes a line of text, without its line feed: does what it asks for, and then serves the
+    /// station until a receive finds nothing or fails, with at most 65,536 receives. A line does
+    /// nothing, sets the clock (`at`), or asks this station for an order, a repeat or a state, in
+    /// the forms of the moves of a script; the station is served after a bad line too. Each entry
+    /// is recorded before its datagram is sent, and its row is printed after that. If an entry is
+    /// not recorded, nothing more is done, and no further line is to be taken.
+    pub fn take_line<O: Write>(&mut self, alloc: Global, out: &mut O, line: &[u8]) -> LineResult
+        ensures ends { TakesLine (telling L.strangers) (command_of line.now) (data_of self.old) (data_of self.new) result }
+        ensures goes { GoesOn (printed (data_of self.old) (O.contents out.old)) (printed (data_of self.new) (O.contents out.new)) }
+    {
+        let done = self.obey(alloc, out, line);
+        if is_unrecorded(done) {
+            return LineResult {
+                done,
+                trouble: Trouble::none(),
+            };
+        }
+        let trouble = self.take_turns(alloc, out);
+        LineResult { done, trouble }
     }
 }

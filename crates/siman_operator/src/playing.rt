@@ -1,14 +1,14 @@
 //! The lines of a text, taken by a post one after the other.
 
 ghost use Rattle.std.specs.Prelude.{◌≡◌, ◌+◌, length};
-ghost use Rattle.siman_operator.specs.Deeds.{PostState, GoesOn};
+ghost use Rattle.siman_operator.specs.Deeds.{data_of, printed, GoesOn};
 ghost use Rattle.siman_operator.specs.Noting.{telling};
 ghost use Rattle.siman_operator.specs.Posts.{TakesLine};
 ghost use Rattle.siman_operator.specs.declared.reading.TheConstants.{LONGEST_LINE};
 ghost use Rattle.siman_operator.specs.Reading.{said_by};
 ghost use Rattle.siman_operator.specs.Reason.{Reasons};
 ghost use Rattle.siman_operator.specs.Receiver.{WarnsOf};
-ghost use Rattle.siman_operator.specs.Sessions.{print_stop_at, RecordedPost, PlaysLines};
+ghost use Rattle.siman_operator.specs.Sessions.{print_stop_at, PlaysLines};
 
 use crate::came::Came;
 use crate::reading::{LONGEST_LINE, line_or_placeholder};
@@ -18,7 +18,6 @@ use crate::session_report::SessionReport;
 use crate::{Post, PrintFault};
 use byte_files::read_line;
 use dis_records::Address;
-use exercise_recording::RecordingWriter;
 use siman_lines::Line;
 use std::alloc::Global;
 use std::io::{Read, Write};
@@ -53,24 +52,21 @@ fn print_stop_at(before: Option<PrintFault>, after: Option<PrintFault>) -> Optio
 fn take_buffered_line<L: Line + Drop, W: Write, O: Write>(
     alloc: Global,
     stations: &[Address],
-    post: &mut Post<L>,
-    recorder: &mut RecordingWriter<'_, W>,
+    post: &mut Post<'_, L, W>,
     out: &mut O,
     held: &[u8],
 ) -> Came
-    ensures takes { TakesLine (telling L.strangers) (said_by held.now) post.old recorder.old post.new recorder.new result.line }
+    ensures takes { TakesLine (telling L.strangers) (said_by held.now) (data_of post.old) (data_of post.new) result.line }
     ensures print_stop { result.print_stop ≡ print_stop_at post.old.printer.fault post.new.printer.fault }
     ensures site { result.site ≡ post.old.address.site }
     ensures application { result.application ≡ post.old.address.application }
     ensures reason { Reasons held.now result.line.done result.reason }
     ensures nobody { WarnsOf stations.now (said_by held.now) result.line.done result.nobody }
-    ensures goes { let old : PostState L = record { station = post.old.station; recorder = recorder.old; exercise = post.old.printer.exercise; printing = record { out = O.contents out.old; fault = post.old.printer.fault } } in
-        let new : PostState L = record { station = post.new.station; recorder = recorder.new; exercise = post.new.printer.exercise; printing = record { out = O.contents out.new; fault = post.new.printer.fault } } in
-        GoesOn old new }
+    ensures goes { GoesOn (printed (data_of post.old) (O.contents out.old)) (printed (data_of post.new) (O.contents out.new)) }
 {
     let before = post.print_fault();
     let own = post.address();
-    let line = post.take_line(alloc, recorder, out, line_or_placeholder(held));
+    let line = post.take_line(alloc, out, line_or_placeholder(held));
     Came {
         line,
         print_stop: print_stop_at(before, post.print_fault()),
@@ -88,20 +84,15 @@ fn take_buffered_line<L: Line + Drop, W: Write, O: Write>(
 pub(crate) fn play_lines<L: Line + Drop, R: Read, W: Write, O: Write, E: Write>(
     alloc: Global,
     stations: &[Address],
-    post: &mut Post<L>,
-    recorder: &mut RecordingWriter<'_, W>,
+    post: &mut Post<'_, L, W>,
     reader: &mut R,
     buffer: &mut [u8],
     out: &mut O,
     errors: &mut E,
 ) -> Played
     requires { length buffer.old ≡ LONGEST_LINE + 1 }
-    ensures plays { let old : RecordedPost L = record { post = post.old; recorder = recorder.old } in
-        let new : RecordedPost L = record { post = post.new; recorder = recorder.new } in
-        PlaysLines stations.now (telling L.strangers) (R.remaining reader.old) old new (E.contents errors.old) (E.contents errors.new) result }
-    ensures goes { let old : PostState L = record { station = post.old.station; recorder = recorder.old; exercise = post.old.printer.exercise; printing = record { out = O.contents out.old; fault = post.old.printer.fault } } in
-        let new : PostState L = record { station = post.new.station; recorder = recorder.new; exercise = post.new.printer.exercise; printing = record { out = O.contents out.new; fault = post.new.printer.fault } } in
-        GoesOn old new }
+    ensures plays { PlaysLines stations.now (telling L.strangers) (R.remaining reader.old) (data_of post.old) (data_of post.new) (E.contents errors.old) (E.contents errors.new) result }
+    ensures goes { GoesOn (printed (data_of post.old) (O.contents out.old)) (printed (data_of post.new) (O.contents out.new)) }
 {
     let mut told = SessionReport::nothing();
     for number in 1..u64::MAX {
@@ -120,7 +111,7 @@ pub(crate) fn play_lines<L: Line + Drop, R: Read, W: Write, O: Write, E: Write>(
                 };
             }
         };
-        let came = take_buffered_line(alloc, stations, post, recorder, out, &buffer[..held]);
+        let came = take_buffered_line(alloc, stations, post, out, &buffer[..held]);
         told = told.and_line(errors, number, came);
         if came.line.is_over() {
             return Played {

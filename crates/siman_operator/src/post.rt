@@ -1,181 +1,236 @@
-//! A post: one station at its link, commanded by lines of text, with a recording and printed rows
-//! of its entries.
+//! A post: one station at its link, with the recorder of its entries and the printer of their rows.
 
-ghost use Rattle.std.specs.Prelude.{◌≡◌, None, [], IfOk};
-ghost use Rattle.siman_scripts.specs.Command.{command_of};
+ghost use Rattle.std.specs.Prelude.{◌≡◌, Some};
+ghost use Rattle.siman_lines.specs.AtLines.{OrdersAt, RepeatsAt, TellsAt};
+ghost use Rattle.siman_lines.specs.KeptAtLine.{Keeps};
 ghost use Rattle.siman_operator.specs.Noting.{telling, datagrams_sent};
-ghost use Rattle.siman_operator.specs.Deeds.{PostState, GoesOn};
-ghost use Rattle.siman_operator.specs.Posts.{IsBegun, is_unrecorded, is_over, worst, TakesLine};
+ghost use Rattle.siman_operator.specs.Deeds.{data_of, printed, ServesOnce, IsAtSameTime, GoesOn};
+ghost use Rattle.siman_operator.specs.Posts.{begun_post};
+ghost use Rattle.siman_operator.specs.Closing.{session_text, PrintsEnd, Closes};
 
-use crate::obeying::{Rejection, obey};
+use crate::closing::print_counts;
 use crate::printing::{EntryPrinter, PrintFault};
 use crate::tracing_line::TracingLine;
-use crate::turns::{Trouble, take_turns};
+use crate::turn_printing::{TurnCounts, print_sent, print_turn};
 use dis_records::Address;
+use exercise_model::EntryView;
 use exercise_recording::RecordingWriter;
-use siman_lines::{Line, LineTrouble, StationAtLine};
-use siman_stations::Node;
-use std::alloc::{AllocError, Global};
+use siman_lines::{
+    AtLineFault, Line, LineTrouble, ServeFault, Served, StationAtLine, order_at, repeat_at, serve,
+    tell_at,
+};
+use siman_manager::Order;
+use std::alloc::Global;
 use std::io::Write;
 
-/// One station at its link. It is the only one of its recording, with the index 0, and its clock
-/// shows 0 before the first line that sets it.
+/// One station at its link, which is the only one of its recording, with its recorder, the printer
+/// of its entries, its address in the exercise, and its clock.
 #[derive(Drop)]
-pub struct Post<L: Line + Drop> {
+pub struct Post<'s, L: Line + Drop, W: Write> {
     station: StationAtLine<TracingLine<L>>,
+    recorder: RecordingWriter<'s, W>,
     printer: EntryPrinter,
     address: Address,
-    clock: u64,
+    pub(crate) clock: u64,
 }
 
-/// Result of a line of text.
-#[derive(Clone, Copy)]
-pub struct LineResult {
-    /// Whether the line was done, or why not.
-    pub done: Result<(), Rejection>,
-    /// What failed in the turns after it. There are no turns if an entry was not recorded before.
-    pub trouble: Trouble,
-}
-
-impl LineResult {
-    /// Whether an entry was not recorded, so that no further line is to be taken.
-    pub fn is_over(self) -> bool
-        ensures { result ≡ is_over self }
-    {
-        self.done == Err(Rejection::Record) || self.trouble.recorder
-    }
-
-    /// Exit status of the line: 3 if memory ran out, else 2 if anything failed or was not done,
-    /// else 0.
-    pub fn status(self) -> u8
-        ensures { result ≡ worst self }
-    {
-        if self.done == Err(Rejection::Memory) || self.trouble.memory {
-            return 3;
-        }
-        let trouble = self.trouble.line || self.trouble.recorder;
-        if self.done.is_err() || trouble { 2 } else { 0 }
-    }
-}
-
-/// Whether an entry was not recorded.
-fn is_unrecorded(done: Result<(), Rejection>) -> bool
-    ensures { result ≡ is_unrecorded done }
+/// Serves a station for one receive, as [`serve`] does, and counts a datagram that it dropped.
+fn serve_counting<L: Line + Drop, W: Write>(
+    alloc: Global,
+    station: &mut StationAtLine<TracingLine<L>>,
+    recorder: &mut RecordingWriter<'_, W>,
+    now: u64,
+) -> Result<Served, ServeFault>
+    ensures ends { ServesOnce (telling L.strangers) now station.old recorder.old station.new recorder.new result }
+    ensures keeps { Keeps station.old.index station.old.node recorder.old (Some (datagrams_sent station.old.line)) station.new.node recorder.new (Some (datagrams_sent station.new.line)) }
 {
-    matches!(done, Err(Rejection::Record))
+    let StationAtLine {
+        index,
+        node,
+        line,
+        dropped,
+        ..
+    } = station;
+    match serve(alloc, line, node, recorder, *index, now, 1) {
+        Ok(served) => {
+            *dropped = dropped.saturating_add(u64::from(served.dropped));
+            Ok(served)
+        }
+        Err(fault) => Err(fault),
+    }
 }
 
-impl<L: Line + Drop> Post<L> {
-    /// Begins a post: a station with this node at its link, with its address in an exercise.
+impl<'s, L: Line + Drop, W: Write> Post<'s, L, W> {
+    /// A post in its initial state: a station at its link, with its address in an exercise, and a
+    /// recorder. Its clock shows 0.
     pub fn begin(
         alloc: Global,
         exercise: u8,
         address: Address,
-        node: Node,
-        line: L,
-    ) -> Result<Post<L>, AllocError>
-        ensures begun { IfOk result (IsBegun exercise address node) }
-        ensures line { IfOk result (λ post. post.station.line.line ≡ line) }
+        station: StationAtLine<TracingLine<L>>,
+        recorder: RecordingWriter<'s, W>,
+    ) -> Post<'s, L, W>
+        ensures { data_of result ≡ begun_post exercise address station recorder.entry }
     {
-        let line = match TracingLine::over(alloc, line) {
-            Ok(line) => line,
-            Err(memory) => {
-                drop(node);
-                return Err(memory);
-            }
-        };
-        Ok(Post {
-            station: StationAtLine {
-                index: 0,
-                node,
-                line,
-                dropped: 0,
-                busy: false,
-            },
+        Post {
+            station,
+            recorder,
             printer: EntryPrinter::new(alloc, exercise),
             address,
             clock: 0,
-        })
+        }
     }
 
-    /// Takes a line of text, without its line feed: does what it asks for, and then serves the
-    /// station until a receive finds nothing or fails, with at most 65,536 receives. A line does
-    /// nothing, sets the clock (`at`), or asks this station for an order, a repeat or a state, in
-    /// the forms of the moves of a script; the station is served after a bad line too. Each entry
-    /// is recorded before its datagram is sent, and its row is printed after that. If an entry is
-    /// not recorded, nothing more is done, and no further line is to be taken.
-    pub fn take_line<W: Write, O: Write>(
+    /// Records and sends a new order, as [`order_at`] does, and prints the row of its entry.
+    pub(crate) fn order<O: Write>(
         &mut self,
         alloc: Global,
-        recorder: &mut RecordingWriter<'_, W>,
         out: &mut O,
-        line: &[u8],
-    ) -> LineResult
-        ensures ends { TakesLine (telling L.strangers) (command_of line.now) self.old recorder.old self.new recorder.new result }
-        ensures goes { let old : PostState L = record { station = self.old.station; recorder = recorder.old; exercise = self.old.printer.exercise; printing = record { out = O.contents out.old; fault = self.old.printer.fault } } in
-            let new : PostState L = record { station = self.new.station; recorder = recorder.new; exercise = self.new.printer.exercise; printing = record { out = O.contents out.new; fault = self.new.printer.fault } } in
-            GoesOn old new }
+        order: Order,
+    ) -> Result<(), AtLineFault>
+        ensures ends { OrdersAt (telling L.strangers) self.old.clock order self.old.station self.old.recorder self.new.station self.new.recorder result }
+        ensures time { IsAtSameTime (data_of self.old) (data_of self.new) }
+        ensures goes { GoesOn (printed (data_of self.old) (O.contents out.old)) (printed (data_of self.new) (O.contents out.new)) }
     {
         let Post {
             station,
+            recorder,
             printer,
-            address,
             clock,
+            ..
         } = self;
-        let done = obey(
-            alloc, station, printer, recorder, out, *address, clock, line,
-        );
-        if is_unrecorded(done) {
-            return LineResult {
-                done,
-                trouble: Trouble::none(),
-            };
-        }
         let now = *clock;
-        let trouble = take_turns(alloc, station, printer, recorder, out, now);
-        LineResult { done, trouble }
+        let entries = recorder.entry_count();
+        let sent = station.line.sent_count();
+        let done = order_at(alloc, station, recorder, now, order);
+        print_sent(station, printer, recorder, out, now, entries, sent);
+        done
     }
 
-    /// Number of datagrams of over 8192 bytes that it dropped; saturates at the greatest `u64`.
-    pub fn dropped(&self) -> u64
-        ensures { result ≡ self.now.station.dropped }
+    /// Records and sends the repeat that is due, if any, as [`repeat_at`] does, and prints the row
+    /// of its entry.
+    pub(crate) fn repeat<O: Write>(&mut self, alloc: Global, out: &mut O) -> Result<(), AtLineFault>
+        ensures ends { RepeatsAt (telling L.strangers) self.old.clock self.old.station self.old.recorder self.new.station self.new.recorder result }
+        ensures time { IsAtSameTime (data_of self.old) (data_of self.new) }
+        ensures goes { GoesOn (printed (data_of self.old) (O.contents out.old)) (printed (data_of self.new) (O.contents out.new)) }
     {
-        self.station.dropped
+        let Post {
+            station,
+            recorder,
+            printer,
+            clock,
+            ..
+        } = self;
+        let now = *clock;
+        let entries = recorder.entry_count();
+        let sent = station.line.sent_count();
+        let done = repeat_at(alloc, station, recorder, now);
+        print_sent(station, printer, recorder, out, now, entries, sent);
+        done
     }
 
-    /// Number of datagrams from strangers that its link passed over.
-    pub fn strangers(&self) -> u64
-        ensures { result ≡ L.strangers self.now.station.line.line }
+    /// Records the state of an entity as told, as [`tell_at`] does, and prints the row of its
+    /// entry.
+    pub(crate) fn tell<O: Write>(&mut self, out: &mut O, entity: u16) -> Result<(), AtLineFault>
+        ensures ends { TellsAt entity self.old.station self.old.recorder self.new.recorder result }
+        ensures station { self.new.station ≡ self.old.station }
+        ensures time { IsAtSameTime (data_of self.old) (data_of self.new) }
+        ensures goes { GoesOn (printed (data_of self.old) (O.contents out.old)) (printed (data_of self.new) (O.contents out.new)) }
     {
-        self.station.line.strangers()
+        let Post {
+            station,
+            recorder,
+            printer,
+            ..
+        } = self;
+        let entries = recorder.entry_count();
+        if let Err(fault) = tell_at(station, recorder, entity) {
+            return Err(fault);
+        }
+        let told = EntryView::Told {
+            station: station.index,
+            entity,
+            state: station.node.application.state(entity),
+        };
+        printer.print(out, entries, told);
+        Ok(())
+    }
+
+    /// Serves the station for one receive, as [`serve`] does, counts a datagram that it dropped,
+    /// and prints the rows of what it recorded.
+    pub(crate) fn serve_once<O: Write>(
+        &mut self,
+        alloc: Global,
+        out: &mut O,
+    ) -> Result<Served, ServeFault>
+        ensures ends { ServesOnce (telling L.strangers) self.old.clock self.old.station self.old.recorder self.new.station self.new.recorder result }
+        ensures time { IsAtSameTime (data_of self.old) (data_of self.new) }
+        ensures goes { GoesOn (printed (data_of self.old) (O.contents out.old)) (printed (data_of self.new) (O.contents out.new)) }
+    {
+        let Post {
+            station,
+            recorder,
+            printer,
+            clock,
+            ..
+        } = self;
+        let now = *clock;
+        let before = TurnCounts {
+            entries: recorder.entry_count(),
+            received: station.line.received_count(),
+            sent: station.line.sent_count(),
+        };
+        let served = serve_counting(alloc, station, recorder, now);
+        print_turn(station, printer, recorder, out, now, before);
+        served
+    }
+
+    /// Prints the counts of its recording, if every entry was printed.
+    fn print_end<O: Write>(&self, alloc: Global, out: &mut O) -> Result<(), PrintFault>
+        ensures { PrintsEnd self.now.printer.fault (session_text self.now.recorder.entries self.now.station.dropped (L.strangers self.now.station.line.line)) (O.contents out.old) (O.contents out.new) result }
+    {
+        if self.printer.fault().is_some() {
+            return Ok(());
+        }
+        let records = self.recorder.entry_count();
+        let strangers = self.station.line.strangers();
+        print_counts(alloc, records, self.station.dropped, strangers, out)
+    }
+
+    /// Ends the recording, and prints its counts if every entry was printed.
+    pub(crate) fn close<O: Write>(&mut self, alloc: Global, out: &mut O) -> Result<(), PrintFault>
+        ensures { Closes L.strangers (data_of self.old) (data_of self.new) (O.contents out.old) (O.contents out.new) result }
+    {
+        match self.recorder.finish() {
+            Ok(()) => self.print_end(alloc, out),
+            Err(_) => Err(PrintFault::Write),
+        }
     }
 
     /// Last failed call of its link, if there was any and the link records it.
-    pub fn line_trouble(&self) -> Option<LineTrouble> {
+    pub(crate) fn line_trouble(&self) -> Option<LineTrouble> {
         self.station.line.trouble()
     }
 
     /// Address of its station.
-    pub fn address(&self) -> Address
+    pub(crate) fn address(&self) -> Address
         ensures { result ≡ self.now.address }
     {
         self.address
     }
 
-    /// Its link, without the log of the datagrams.
-    pub fn into_line(self) -> L
-        ensures { result ≡ self.station.line.line }
-    {
-        let Post { station, .. } = self;
-        let StationAtLine { node, line, .. } = station;
-        drop(node);
-        line.into_inner()
-    }
-
     /// Why no further entry is printed. `None` if printing goes on.
-    pub fn print_fault(&self) -> Option<PrintFault>
+    pub(crate) fn print_fault(&self) -> Option<PrintFault>
         ensures { result ≡ self.now.printer.fault }
     {
         self.printer.fault()
+    }
+
+    /// The writer of its recording.
+    pub(crate) fn into_file(self) -> W
+        ensures { W.contents result ≡ self.entry.recorder.contents }
+    {
+        let Post { recorder, .. } = self;
+        recorder.into_inner()
     }
 }

@@ -1,17 +1,15 @@
 //! A session: one post, played by the lines of a text until its end.
 
 ghost use Rattle.std.specs.Prelude.{◌≡◌, ◌+◌, length};
-ghost use Rattle.siman_operator.specs.Noting.{telling};
+ghost use Rattle.siman_operator.specs.Deeds.{data_of};
 ghost use Rattle.siman_operator.specs.declared.reading.TheConstants.{LONGEST_LINE};
-ghost use Rattle.siman_operator.specs.Sessions.{PrintedPost, ClosesAt, EndsSession, Plays};
+ghost use Rattle.siman_operator.specs.Sessions.{ClosesAt, EndsSession, Plays};
 
 use crate::Post;
-use crate::closing::close;
 use crate::playing::{Played, Stop, play_lines};
 use crate::reading::LONGEST_LINE;
 use crate::session_report::SessionReport;
 use dis_records::Address;
-use exercise_recording::RecordingWriter;
 use siman_lines::Line;
 use std::alloc::Global;
 use std::io::{Read, Write};
@@ -19,15 +17,14 @@ use std::io::{Read, Write};
 /// Ends the recording, prints its counts, and reports a failure of either.
 fn close_session<L: Line + Drop, W: Write, O: Write, E: Write>(
     alloc: Global,
-    post: &Post<L>,
-    recorder: &mut RecordingWriter<'_, W>,
+    post: &mut Post<'_, L, W>,
     told: SessionReport,
     out: &mut O,
     errors: &mut E,
 ) -> SessionReport
-    ensures { ClosesAt L.strangers post.now recorder.old recorder.new (O.contents out.old) (O.contents out.new) told result (E.contents errors.old) (E.contents errors.new) }
+    ensures { ClosesAt L.strangers (data_of post.old) (data_of post.new) (O.contents out.old) (O.contents out.new) told result (E.contents errors.old) (E.contents errors.new) }
 {
-    let closed = close(alloc, post, recorder, out);
+    let closed = post.close(alloc, out);
     told.and_closed(errors, closed)
 }
 
@@ -35,20 +32,19 @@ fn close_session<L: Line + Drop, W: Write, O: Write, E: Write>(
 /// recorded.
 fn end_session<L: Line + Drop, W: Write, O: Write, E: Write>(
     alloc: Global,
-    post: &Post<L>,
-    recorder: &mut RecordingWriter<'_, W>,
+    post: &mut Post<'_, L, W>,
     played: Played,
     out: &mut O,
     errors: &mut E,
 ) -> SessionReport
-    ensures { EndsSession L.strangers post.now played.stop recorder.old recorder.new (O.contents out.old) (O.contents out.new) played.told result (E.contents errors.old) (E.contents errors.new) }
+    ensures { EndsSession L.strangers played.stop (data_of post.old) (data_of post.new) (O.contents out.old) (O.contents out.new) played.told result (E.contents errors.old) (E.contents errors.new) }
 {
     let told = played.told;
     match played.stop {
-        Stop::End => close_session(alloc, post, recorder, told, out, errors),
+        Stop::End => close_session(alloc, post, told, out, errors),
         Stop::Unread => {
             let told = told.and_unread(errors);
-            close_session(alloc, post, recorder, told, out, errors)
+            close_session(alloc, post, told, out, errors)
         }
         Stop::Unrecorded => told,
     }
@@ -72,18 +68,15 @@ fn end_session<L: Line + Drop, W: Write, O: Write, E: Write>(
 pub fn play<L: Line + Drop, R: Read, W: Write, O: Write, E: Write>(
     alloc: Global,
     stations: &[Address],
-    post: &mut Post<L>,
-    recorder: &mut RecordingWriter<'_, W>,
+    post: &mut Post<'_, L, W>,
     reader: &mut R,
     buffer: &mut [u8],
     out: &mut O,
     errors: &mut E,
 ) -> SessionReport
     requires { length buffer.old ≡ LONGEST_LINE + 1 }
-    ensures { let old : PrintedPost L = record { post = post.old; recorder = recorder.old; out = O.contents out.old } in
-        let new : PrintedPost L = record { post = post.new; recorder = recorder.new; out = O.contents out.new } in
-        Plays stations.now L.strangers (R.remaining reader.old) old new (E.contents errors.old) (E.contents errors.new) result }
+    ensures { Plays stations.now L.strangers (R.remaining reader.old) (data_of post.old) (data_of post.new) (O.contents out.old) (O.contents out.new) (E.contents errors.old) (E.contents errors.new) result }
 {
-    let played = play_lines(alloc, stations, post, recorder, reader, buffer, out, errors);
-    end_session(alloc, post, recorder, played, out, errors)
+    let played = play_lines(alloc, stations, post, reader, buffer, out, errors);
+    end_session(alloc, post, played, out, errors)
 }

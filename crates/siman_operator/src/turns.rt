@@ -2,14 +2,11 @@
 
 ghost use Rattle.std.specs.Prelude.{◌≡◌, ◌||◌, false};
 ghost use Rattle.siman_operator.specs.Noting.{telling};
-ghost use Rattle.siman_operator.specs.Deeds.{PostState, GoesOn};
+ghost use Rattle.siman_operator.specs.Deeds.{data_of, printed, IsAtSameTime, GoesOn};
 ghost use Rattle.siman_operator.specs.Turns.{is_followed, is_lost, is_out_of_memory, is_unrecorded, TakesTurns};
 
-use crate::deeds::serve_at_post;
-use crate::printing::EntryPrinter;
-use crate::tracing_line::TracingLine;
-use exercise_recording::RecordingWriter;
-use siman_lines::{Line, ServeFault, Served, StationAtLine};
+use crate::post::Post;
+use siman_lines::{Line, ServeFault, Served};
 use std::alloc::Global;
 use std::io::Write;
 
@@ -80,28 +77,23 @@ fn is_followed(turn: Result<Served, ServeFault>) -> bool
     }
 }
 
-/// Serves a post until a receive finds nothing or fails, with at most 65,536 receives. Goes on if a
-/// send fails or memory runs out; ends if an entry is not recorded. Returns what failed.
-pub(crate) fn take_turns<L: Line + Drop, W: Write, O: Write>(
-    alloc: Global,
-    station: &mut StationAtLine<TracingLine<L>>,
-    printer: &mut EntryPrinter,
-    recorder: &mut RecordingWriter<'_, W>,
-    out: &mut O,
-    now: u64,
-) -> Trouble
-    ensures ends { TakesTurns (telling L.strangers) now station.old recorder.old station.new recorder.new result }
-    ensures goes { let old : PostState L = record { station = station.old; recorder = recorder.old; exercise = printer.old.exercise; printing = record { out = O.contents out.old; fault = printer.old.fault } } in
-        let new : PostState L = record { station = station.new; recorder = recorder.new; exercise = printer.new.exercise; printing = record { out = O.contents out.new; fault = printer.new.fault } } in
-        GoesOn old new }
-{
-    let mut trouble = Trouble::none();
-    for _ in 0..MOST_TURNS {
-        let turn = serve_at_post(alloc, station, printer, recorder, out, now);
-        trouble = trouble.after(turn);
-        if !is_followed(turn) {
-            return trouble;
+impl<'s, L: Line + Drop, W: Write> Post<'s, L, W> {
+    /// Serves the station until a receive finds nothing or fails, with at most 65,536 receives.
+    /// Goes on if a send fails or memory runs out; ends if an entry is not recorded. Returns what
+    /// failed.
+    pub(crate) fn take_turns<O: Write>(&mut self, alloc: Global, out: &mut O) -> Trouble
+        ensures ends { TakesTurns (telling L.strangers) self.old.clock self.old.station self.old.recorder self.new.station self.new.recorder result }
+        ensures time { IsAtSameTime (data_of self.old) (data_of self.new) }
+        ensures goes { GoesOn (printed (data_of self.old) (O.contents out.old)) (printed (data_of self.new) (O.contents out.new)) }
+    {
+        let mut trouble = Trouble::none();
+        for _ in 0..MOST_TURNS {
+            let turn = self.serve_once(alloc, out);
+            trouble = trouble.after(turn);
+            if !is_followed(turn) {
+                return trouble;
+            }
         }
+        trouble
     }
-    trouble
 }

@@ -9,11 +9,11 @@ use Rattle.siman_exercise_commands.proofs.station.play_at_line.Goals as goal
 
 pub create_played-requires-clause-ready : goal.create_played-requires-clause-ready
 create_played-requires-clause-ready g c =
-    stood_ready c.args.set_up c.args.address c.in-Ok.ready c.requires.set_up c.in-Ok.ensures.head c.in-Ok.ensures.post
+    stood_ready c.args.set_up c.in-Ok.ready c.requires.set_up c.in-Ok.ensures.head c.in-Ok.ensures.station
 
 pub returns-in-Ok : goal.returns-in-Ok
 returns-in-Ok g c =
-    let did = c.create_played.ensures in (did.0, did.1, did.2, inr (c.in-Ok.ready, c.in-Ok.ensures.head, c.in-Ok.ensures.post, c.in-Ok.ensures.stations, did.3))
+    let did = c.create_played.ensures in (did.0, did.1, did.2, inr (c.in-Ok.ready, c.in-Ok.ensures.head, c.in-Ok.ensures.station, c.in-Ok.ensures.address, c.in-Ok.ensures.stations, did.3))
 
 pub returns-in-Err : goal.returns-in-Err
 returns-in-Err g c = (

@@ -1,5 +1,5 @@
 use Rattle.siman_operator.proofs.Going.{goes_none}
-use Rattle.siman_operator.proofs.obeying.obey.Goals as goal
+use Rattle.siman_operator.proofs.post.Post.obey.Goals as goal
 
 pub returns-in-Ok-None-clause-goes : goal.returns-in-Ok-None-clause-goes
 returns-in-Ok-None-clause-goes g c = goes_none _

@@ -106,9 +106,20 @@ fn is_impossible<L: ExerciseLog>(
     first && is_hopeless(log, tables, station, before, Change::of(pdu, request))
 }
 
-/// The first of causes 5 to 10 against a PDU that a station sends at an entry. `base`: the hash base of an
-/// answer's keys; `from`: whether its sender is that station; `reused`: whether it is a request
-/// that reuses its identifier; `first`: whether it is the first Able under its key; `taken`: the
+/// What is known of a PDU that a station sends at an entry, beside its bytes.
+#[derive(Clone, Copy)]
+pub(crate) struct SendFacts {
+    /// Hash base of an answer's keys.
+    pub base: u32,
+    /// Whether its sender is that station.
+    pub is_from: bool,
+    /// Whether it is a request that reuses its identifier.
+    pub is_reused: bool,
+    /// Whether it is the first Able under its key.
+    pub is_first: bool,
+}
+
+/// The first of causes 5 to 10 against a PDU that a station sends at an entry. `taken`: the
 /// request that an answer takes up, with its entry.
 #[tactic(auto, unfolding(exercise_model::specs::Cause::send_cause))]
 pub(crate) fn judge_sent<L: ExerciseLog>(
@@ -117,26 +128,23 @@ pub(crate) fn judge_sent<L: ExerciseLog>(
     station: u16,
     before: usize,
     pdu: &PduView<'_>,
-    base: u32,
-    from: bool,
-    reused: bool,
-    first: bool,
+    facts: SendFacts,
     taken: &Option<(u32, PduView<'_>)>,
 ) -> Option<Cause>
     requires at { station < length (L.recording log.now).setting.stations }
     requires within { before < length (L.recording log.now).entries }
     requires tied { AreTablesBelow (L.recording log.now) before tables.now }
-    requires base { base ≡ answer_base station (pdu_of pdu.now) }
-    requires from { from ≡ is_from (station_at (L.recording log.now) station).address (pdu_of pdu.now) }
-    requires reused { let r = L.recording log.now in reused ≡ (is_request_body (pdu_of pdu.now).body && is_reused r.setting.exercise (pdu_of pdu.now) (log_before r station before)) }
-    requires first { let r = L.recording log.now in first ≡ is_change r.setting.exercise (pdu_of pdu.now) (log_before r station before) }
+    requires base { facts.base ≡ answer_base station (pdu_of pdu.now) }
+    requires from { facts.is_from ≡ is_from (station_at (L.recording log.now) station).address (pdu_of pdu.now) }
+    requires reused { let r = L.recording log.now in facts.is_reused ≡ (is_request_body (pdu_of pdu.now).body && is_reused r.setting.exercise (pdu_of pdu.now) (log_before r station before)) }
+    requires first { let r = L.recording log.now in facts.is_first ≡ is_change r.setting.exercise (pdu_of pdu.now) (log_before r station before) }
     requires request { option_map (λ t. pdu_of t.1) taken.now ≡ request_of_sent (L.recording log.now) station before (pdu_of pdu.now) }
     ensures { let r = L.recording log.now in result ≡ send_cause r.setting.exercise (station_at r station) (log_before r station before) (pdu_of pdu.now) }
 {
-    if !from {
+    if !facts.is_from {
         return Some(Cause::WrongSender);
     }
-    if reused {
+    if facts.is_reused {
         return Some(Cause::ReusedIdentifier);
     }
     if !is_answer(pdu) {
@@ -147,9 +155,9 @@ pub(crate) fn judge_sent<L: ExerciseLog>(
     };
     if !answers(pdu, request) {
         Some(Cause::WrongAnswer)
-    } else if is_changed_answer(log, &tables.firsts, station, before, pdu, base) {
+    } else if is_changed_answer(log, &tables.firsts, station, before, pdu, facts.base) {
         Some(Cause::ChangedAnswer)
-    } else if is_impossible(log, tables, station, before, pdu, first, request) {
+    } else if is_impossible(log, tables, station, before, pdu, facts.is_first, request) {
         Some(Cause::Impossible)
     } else {
         None

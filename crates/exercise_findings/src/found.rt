@@ -21,10 +21,10 @@ ghost use Rattle.exercise_findings.specs.Sent.{Sends, Receives};
 ghost use Rattle.exercise_findings.specs.Tables.{AreTablesBelow, IsFound};
 
 use crate::behind::change_key;
-use crate::cause::{judge_sent, judge_unsent};
+use crate::cause::{SendFacts, judge_sent, judge_unsent};
 use crate::change::is_change;
 use crate::exchange::taken_up;
-use crate::firsts::{BaseCache, answer_base, cached_base};
+use crate::firsts::{BaseCache, answer_base, cached_base, empty_base_cache};
 use crate::hint::StridePredictor;
 use crate::key::{Key, received_key, sent_key};
 use crate::requests::{Requests, note_request};
@@ -100,50 +100,84 @@ fn pair_of(taken: &Option<(u32, PduView<'_>)>) -> Option<u32>
     }
 }
 
+/// Caches for the next send; they affect speed alone.
+#[derive(Drop)]
+pub(crate) struct SendCaches {
+    /// Predicted place of the request that the next answer takes up.
+    answers: StridePredictor,
+    /// The last key of a send, with its hash base.
+    last: BaseCache,
+}
+
+/// The caches before the first send.
+pub(crate) fn no_send_caches() -> SendCaches {
+    SendCaches {
+        answers: StridePredictor::new(),
+        last: empty_base_cache(),
+    }
+}
+
+/// An entry, and the station that it is of.
+#[derive(Clone, Copy)]
+pub(crate) struct StationEntry {
+    pub station: u16,
+    pub entry: usize,
+}
+
 /// Findings about a PDU that a station sends at an entry. `reused`: whether it reuses its request
 /// identifier; `is_new`: whether it is known to be new.
 fn pdu_send_findings<L: ExerciseLog>(
     log: &L,
     tables: &Tables,
-    hint: &mut StridePredictor,
-    last: &mut BaseCache,
-    station: u16,
-    entry: usize,
+    caches: &mut SendCaches,
+    place: StationEntry,
     pdu: &PduView<'_>,
     reused: bool,
     is_new: bool,
 ) -> Found
-    requires at { station < length (L.recording log.now).setting.stations }
-    requires within { entry < length (L.recording log.now).entries }
-    requires tied { AreTablesBelow (L.recording log.now) entry tables.now }
-    requires reused { let r = L.recording log.now in reused ≡ (is_request_body (pdu_of pdu.now).body && is_reused r.setting.exercise (pdu_of pdu.now) (log_before r station entry)) }
-    ensures cause { let r = L.recording log.now in result.cause ≡ send_cause r.setting.exercise (station_at r station) (log_before r station entry) (pdu_of pdu.now) }
-    ensures pair { result.pair ≡ pair_of_sent (L.recording log.now) station entry (pdu_of pdu.now) }
-    ensures unasked { result.is_unasked ≡ is_unasked (L.recording log.now) station entry (pdu_of pdu.now) }
-    ensures change { let r = L.recording log.now in result.change ≡ change_by r.setting.exercise (station_at r station) (log_before r station entry) (pdu_of pdu.now) }
-    ensures key { result.key ≡ sent_key station (pdu_of pdu.now) }
-    ensures base { result.base ≡ answer_base station (pdu_of pdu.now) }
+    requires at { place.station < length (L.recording log.now).setting.stations }
+    requires within { place.entry < length (L.recording log.now).entries }
+    requires tied { AreTablesBelow (L.recording log.now) place.entry tables.now }
+    requires reused { let r = L.recording log.now in reused ≡ (is_request_body (pdu_of pdu.now).body && is_reused r.setting.exercise (pdu_of pdu.now) (log_before r place.station place.entry)) }
+    ensures cause { let r = L.recording log.now in result.cause ≡ send_cause r.setting.exercise (station_at r place.station) (log_before r place.station place.entry) (pdu_of pdu.now) }
+    ensures pair { result.pair ≡ pair_of_sent (L.recording log.now) place.station place.entry (pdu_of pdu.now) }
+    ensures unasked { result.is_unasked ≡ is_unasked (L.recording log.now) place.station place.entry (pdu_of pdu.now) }
+    ensures change { let r = L.recording log.now in result.change ≡ change_by r.setting.exercise (station_at r place.station) (log_before r place.station place.entry) (pdu_of pdu.now) }
+    ensures key { result.key ≡ sent_key place.station (pdu_of pdu.now) }
+    ensures base { result.base ≡ answer_base place.station (pdu_of pdu.now) }
     ensures behind { result.behind ≡ None }
-    ensures source { result.is_source ≡ is_from (station_at (L.recording log.now) station).address (pdu_of pdu.now) }
+    ensures source { result.is_source ≡ is_from (station_at (L.recording log.now) place.station).address (pdu_of pdu.now) }
     ensures new { result.is_new ≡ is_new }
     ensures other { result.other ≡ false }
 {
+    let StationEntry { station, entry } = place;
     let address = log.station(usize::from(station)).address();
-    let from = is_from(address, pdu);
-    let taken = taken_up(log, &tables.firsts, hint, station, entry, pdu);
-    let base = answer_base(last, station, pdu);
-    let first = is_change(log, &tables.firsts, station, entry, pdu, base);
+    let is_from = is_from(address, pdu);
+    let taken = taken_up(
+        log,
+        &tables.firsts,
+        &mut caches.answers,
+        station,
+        entry,
+        pdu,
+    );
+    let base = answer_base(&mut caches.last, station, pdu);
+    let is_first = is_change(log, &tables.firsts, station, entry, pdu, base);
+    let facts = SendFacts {
+        base,
+        is_from,
+        is_reused: reused,
+        is_first,
+    };
     Found {
-        cause: judge_sent(
-            log, tables, station, entry, pdu, base, from, reused, first, &taken,
-        ),
+        cause: judge_sent(log, tables, station, entry, pdu, facts, &taken),
         pair: pair_of(&taken),
         is_unasked: is_answer(pdu) && taken.is_none(),
-        change: change_by(log, station, entry, pdu, first, &taken),
+        change: change_by(log, station, entry, pdu, is_first, &taken),
         key: sent_key(station, pdu),
         base,
         behind: None,
-        is_source: from,
+        is_source: is_from,
         is_new,
         other: false,
     }
@@ -196,40 +230,29 @@ pub(crate) fn send_findings<L: ExerciseLog>(
     tables: &Tables,
     requests: &mut Requests,
     rising: &mut HighWaterMarks,
-    hint: &mut StridePredictor,
-    last: &mut BaseCache,
-    entry: usize,
-    station: u16,
+    caches: &mut SendCaches,
+    place: StationEntry,
     bytes: &[u8],
 ) -> Result<Found, AllocError>
     requires limits { IsRecording (L.recording log.now) }
-    requires at { station < length (L.recording log.now).setting.stations }
-    requires few { entry < 4294967295 }
-    requires within { entry < length (L.recording log.now).entries }
-    requires sends { Sends (L.recording log.now) entry station bytes.now }
-    requires tied { AreTablesBelow (L.recording log.now) entry tables.now }
-    requires requests { AreRequests (L.recording log.now) entry requests.old }
-    requires rising { AreHighWaterMarks (L.recording log.now) entry rising.old }
-    ensures found { IfOk result (IsFound (L.recording log.now) entry) }
-    ensures requests { OnOk result (AreRequests (L.recording log.now) (entry + 1) requests.new) }
-    ensures rising { OnOk result (AreHighWaterMarks (L.recording log.now) (entry + 1) rising.new) }
+    requires at { place.station < length (L.recording log.now).setting.stations }
+    requires few { place.entry < 4294967295 }
+    requires within { place.entry < length (L.recording log.now).entries }
+    requires sends { Sends (L.recording log.now) place.entry place.station bytes.now }
+    requires tied { AreTablesBelow (L.recording log.now) place.entry tables.now }
+    requires requests { AreRequests (L.recording log.now) place.entry requests.old }
+    requires rising { AreHighWaterMarks (L.recording log.now) place.entry rising.old }
+    ensures found { IfOk result (IsFound (L.recording log.now) place.entry) }
+    ensures requests { OnOk result (AreRequests (L.recording log.now) (place.entry + 1) requests.new) }
+    ensures rising { OnOk result (AreHighWaterMarks (L.recording log.now) (place.entry + 1) rising.new) }
 {
     match meaning_view(log.exercise(), bytes) {
         Some(pdu) => {
+            let StationEntry { station, entry } = place;
             let asked = note_request(requests, log, station, entry, &pdu)?;
             let is_above = raise_mark(rising, log, station, entry, &pdu);
             let is_new = asked.first | is_above;
-            Ok(pdu_send_findings(
-                log,
-                tables,
-                hint,
-                last,
-                station,
-                entry,
-                &pdu,
-                asked.reused,
-                is_new,
-            ))
+            Ok(pdu_send_findings(log, tables, caches, place, &pdu, asked.reused, is_new))
         }
         None => Ok(other_findings()),
     }

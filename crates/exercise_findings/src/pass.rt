@@ -17,8 +17,7 @@ use crate::column::put_number;
 use crate::earlier::{Looks, back_reference_so_far, back_references, settle_source};
 use crate::first_sends::{FirstSends, hash_all, no_sends, note_send};
 use crate::firsts::{BaseCache, empty_base_cache};
-use crate::found::{receipt_findings, send_findings};
-use crate::hint::StridePredictor;
+use crate::found::{SendCaches, StationEntry, no_send_caches, receipt_findings, send_findings};
 use crate::number::{NO_ENTRY, entry_number};
 use crate::requests::{Requests, no_requests};
 use crate::rising::{HighWaterMarks, no_high_water_marks};
@@ -39,10 +38,9 @@ pub(crate) struct Pass {
     pub places: StationCache,
     /// Look-up tables of the entries so far.
     pub tables: Tables,
-    /// Predicted place of the request that the next answer takes up.
-    pub answers: StridePredictor,
-    /// The last key of a send, with its hash base.
-    pub sent: BaseCache,
+    /// Caches for the next send.
+    pub sent: SendCaches,
+    /// The last key of a receipt, with its hash base.
     pub received: BaseCache,
     /// The first cause that its station's log shows against each entry.
     pub causes: Vec<Option<Cause>>,
@@ -131,13 +129,11 @@ fn empty_pass<L: ExerciseLog>(alloc: Global, log: &L) -> Result<Pass, AllocError
     let causes = Vec::with_capacity(alloc, entries)?;
     let tables = no_tables(alloc, log)?;
     let places = places_of(alloc, log)?;
-    let answers = StridePredictor::new();
     let answered = no_answer_marks(alloc, log);
     Ok(Pass {
         places,
         tables,
-        answers,
-        sent: empty_base_cache(),
+        sent: no_send_caches(),
         received: empty_base_cache(),
         causes,
         changes: Vec::new(alloc),
@@ -191,15 +187,9 @@ fn keep_sent<L: ExerciseLog>(
     ensures requests { OnOk result (AreRequests (L.recording log.now) (entry + 1) requests.new) }
     ensures rising { OnOk result (AreHighWaterMarks (L.recording log.now) (entry + 1) rising.new) }
 {
-    let Pass {
-        tables,
-        answers,
-        sent,
-        ..
-    } = found;
-    let here = send_findings(
-        log, tables, requests, rising, answers, sent, entry, station, bytes,
-    )?;
+    let place = StationEntry { station, entry };
+    let Pass { tables, sent, .. } = found;
+    let here = send_findings(log, tables, requests, rising, sent, place, bytes)?;
     found.causes.push(here.cause)?;
     let (change, pair) = (change_number(here.change), entry_number(here.pair));
     put_number(

@@ -171,6 +171,10 @@ cut_is a q stamp request d = by (nat_le (length d.fixed) 1019) refl where
   by true t = let few : length d.fixed ≤ 1019 = grind (arith, nat_tests) in cut_by a q stamp request d (length d.fixed + length (fitting (8152 - 8 * length d.fixed) d.variable)) (filled_some d few)
   by false t = let many : 1019 < length d.fixed = grind (arith, nat_tests) in cut_by a q stamp request d 1019 (filled_full d many)
 
+-- a Data with the records that were cut is the answer
+pub as_fits : (a : AppProfile) (q : Pdu) (stamp request : ℕ) (cut d : DatumLists) → cut ≡ cut_records d → data_pdu a q stamp request cut ≡ data_answer a q stamp request d
+as_fits a q stamp request cut d is = ap (data_pdu a q stamp request) is ∙ sym (cut_is a q stamp request d)
+
 pub first_few : {X : Type 0} (n : ℕ) (xs : List X) → length (take n xs) ≤ n
 first_few zero xs = omega arith
 first_few (suc n) [] = omega arith

@@ -4,8 +4,8 @@ ghost use Rattle.std.specs.Prelude.{◌≡◌, [], IfOk, IsTrue};
 ghost use Rattle.std.specs.Option.{unwrap_or};
 ghost use Rattle.dis_records.specs.Entity.{is_open};
 ghost use Rattle.siman_pdus.specs.Role.{is_request_body};
-ghost use Rattle.siman_application.specs.Answer.{plain_answer, chosen, created, obeyed, is_meant, action_status, no_datums, data_answer, held_records, ids_of, brought, result_of, answer};
-ghost use Rattle.siman_application.specs.Holding.{held_in, stored_in};
+ghost use Rattle.siman_application.specs.Answer.{plain_answer, chosen, created, obeyed, is_meant, action_status, no_datums, data_pdu, data_answer, held_records, ids_of, brought, result_of, answer};
+ghost use Rattle.siman_application.specs.Holding.{held_in};
 ghost use Rattle.siman_application.specs.Knows.{knows};
 ghost use Rattle.siman_application.specs.Listed.{states_in};
 
@@ -144,31 +144,18 @@ fn answer_action(
     )
 }
 
-/// Data with the records held under these identifiers after `came` is stored, as many as fit.
-fn answer_data(
-    alloc: Global,
-    outfit: &AppProfile,
-    held: &Held,
-    came: &Held,
-    request: &Pdu,
-    stamp: u32,
-    id: u32,
-    ids: &DatumIds,
-) -> Result<Pdu, AllocError>
-    ensures { IfOk result (λ pdu. pdu ≡ data_answer outfit.now request.now stamp id (held_records (knows [] (stored_in (held_in came.now) (held_in held.now))) ids.now)) }
+/// Data with these datums.
+fn answer_data(outfit: &AppProfile, request: &Pdu, stamp: u32, id: u32, datums: Datums) -> Pdu
+    ensures { result ≡ data_pdu outfit.now request.now stamp id datums }
 {
-    let datums = held.find(alloc, came, ids)?;
-    Ok(plain_answer(
-        outfit,
-        request,
-        stamp,
-        Body::DataPdu {
-            request: id,
-            datums,
-        },
-    ))
+    let body = Body::DataPdu {
+        request: id,
+        datums,
+    };
+    plain_answer(outfit, request, stamp, body)
 }
 
+/// Data with the records held under these identifiers, as many as fit.
 fn answer_query(
     alloc: Global,
     outfit: &AppProfile,
@@ -181,10 +168,12 @@ fn answer_query(
     ensures { IfOk result (λ pdu. pdu ≡ data_answer outfit.now request.now stamp id (held_records (knows [] (held_in held.now)) ids.now)) }
 {
     let none = Held::new(alloc);
-    answer_data(alloc, outfit, held, &none, request, stamp, id, ids)
+    let datums = held.find(alloc, &none, ids)?;
+    Ok(answer_data(outfit, request, stamp, id, datums))
 }
 
-/// Data with the records held under the identifiers of `came`, after these datums are stored.
+/// Data with the records held under the identifiers of `came`, after these datums are stored, as
+/// many as fit.
 fn set_data_answer(
     alloc: Global,
     outfit: &AppProfile,
@@ -198,7 +187,8 @@ fn set_data_answer(
 {
     let ids = ids_of(alloc, came)?;
     let others = Held::of(alloc, came)?;
-    answer_data(alloc, outfit, held, &others, request, stamp, id, &ids)
+    let datums = held.find(alloc, &others, &ids)?;
+    Ok(answer_data(outfit, request, stamp, id, datums))
 }
 
 /// Answer to a Set Data, and the datums that it stores.

@@ -16,7 +16,7 @@ use crate::answering::{RequestResult, answer};
 use crate::entities::Entities;
 use crate::fault::AppFault;
 use crate::held::Held;
-use crate::kept::{RequestKey, RequestTable, keep, key_of, place_of, stamp_again};
+use crate::kept::{RequestTable, keep, key_of, place_of, stamp_again};
 use crate::outfit::AppProfile;
 use siman_pdus::{Datums, Pdu, numbers_are_in_range, same_order};
 use std::alloc::{AllocError, Global};
@@ -59,13 +59,11 @@ fn take_first(
     kept: &mut RequestTable,
     entities: &mut Entities,
     held: &mut Held,
-    key: RequestKey,
     pdu: &Pdu,
     stamp: u32,
 ) -> Result<usize, AppFault>
     requires right { AreRight outfit.now kept.old entities.old (held_in held.old) }
     requires own { is_for outfit.now pdu.now ≡ true }
-    requires key { IsKey key pdu.now }
     requires first { first_under pdu.now (requests (values kept.old)) ≡ None }
     ensures right { AreRight outfit.now kept.new entities.new (held_in held.new) }
     ensures err { OnErr result (values kept.new ≡ values kept.old) }
@@ -78,7 +76,7 @@ fn take_first(
     kept.reserve(1)?;
     let request = pdu.copy(alloc)?;
     let outcome = answer_and_obey(alloc, outfit, entities, held, pdu, stamp)?;
-    let place = keep(kept, key, request, outcome.answer);
+    let place = keep(kept, key_of(pdu), request, outcome.answer);
     store(held, outcome.brought);
     Ok(place)
 }
@@ -124,7 +122,7 @@ pub(crate) fn take(
     match place_of(kept, key, pdu) {
         Some(place) => Ok(take_again(kept, place, pdu, stamp)),
         None => {
-            let place = take_first(alloc, outfit, kept, entities, held, key, pdu, stamp)?;
+            let place = take_first(alloc, outfit, kept, entities, held, pdu, stamp)?;
             Ok(Some(place))
         }
     }

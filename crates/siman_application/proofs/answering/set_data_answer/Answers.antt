@@ -1,16 +1,16 @@
-use Rattle.std.proofs.Common.{◌≡◌, [], ap, subst, ◌∙◌}
-use Rattle.std.specs.Prelude.{IfOk}
+use Rattle.std.proofs.Common.{◌≡◌, [], ap, ◌∙◌}
 use Rattle.siman_pdus.specs.DatumLists.{IdLists}
 use Rattle.siman_application.specs.Answer.{data_answer, held_records, ids_of}
 use Rattle.siman_application.specs.Holding.{Holding, held_in, stored_in}
 use Rattle.siman_application.specs.Knows.{knows}
+use Rattle.siman_application.proofs.DataThatFits.{as_fits}
 use Rattle.siman_application.proofs.answering.set_data_answer.Goals as goal
 
 pub returns : goal.returns
 returns c =
-    subst (λ (came : Holding). IfOk c.answer_data.result
-    (λ pdu. pdu ≡ data_answer c.args.outfit.now c.args.request.now c.args.stamp c.args.id
-    (held_records (knows [] (stored_in came (held_in c.args.held.now))) (ids_of c.args.came.now)))) c.in_ok-others.ensures
-    (subst (λ (ids : IdLists). IfOk c.answer_data.result
-    (λ pdu. pdu ≡ data_answer c.args.outfit.now c.args.request.now c.args.stamp c.args.id
-    (held_records (knows [] (stored_in (held_in c.in_ok-others.others) (held_in c.args.held.now))) ids))) c.in_ok-ids.ensures c.answer_data.ensures)
+    let a = c.args in
+    let held = held_in a.held.now in
+    c.answer_data.ensures
+    ∙ as_fits a.outfit.now a.request.now a.stamp a.id c.in_ok-datums.datums (held_records (knows [] (stored_in (held_in c.in_ok-others.others) held)) c.in_ok-ids.ids) c.in_ok-datums.ensures
+    ∙ ap (λ (ids : IdLists). data_answer a.outfit.now a.request.now a.stamp a.id (held_records (knows [] (stored_in (held_in c.in_ok-others.others) held)) ids)) c.in_ok-ids.ensures
+    ∙ ap (λ (came : Holding). data_answer a.outfit.now a.request.now a.stamp a.id (held_records (knows [] (stored_in came held)) (ids_of a.came.now))) c.in_ok-others.ensures

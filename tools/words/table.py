@@ -18,18 +18,24 @@ NAMED = {
 
 
 class Word(NamedTuple):
-    """A word that a command takes: its name, whether it may be left out or stand more than once, what it is, and whether
-    it may stand more than once, each time for another thing."""
+    """A word that a command takes: its name, whether it may be left out or stand more than once, what it is, whether it
+    may stand more than once, each time for another thing, and whether it must stand."""
 
     name: str
     is_repeated: bool
     about: str
     is_many: bool = False
+    is_needed: bool = True
 
     @property
     def is_made(self):
         """Whether it names a file that the command makes, which must not be there yet."""
         return "must not be there yet" in self.about
+
+    @property
+    def is_file(self):
+        """Whether it names a file."""
+        return self.about.startswith("The file ")
 
 
 class Command(NamedTuple):
@@ -87,7 +93,8 @@ def choices_of(usage, words):
 
 
 def word_of(name, often, about):
-    return Word(string(name), often != "Once", string(about), often in ("OnceOrMore", "AnyTimes"))
+    is_needed = often in ("Once", "OnceOrMore")
+    return Word(string(name), often != "Once", string(about), often in ("OnceOrMore", "AnyTimes"), is_needed)
 
 
 def words_of(row, shared):
@@ -96,21 +103,26 @@ def words_of(row, shared):
     return [shared[name] if name else word_of(*parts) for *parts, name in parts]
 
 
-def program():
-    """The program, as its table of commands says."""
+def rows():
+    """The commands of the table, in its order, without what the README says that they answer."""
     text = commands.TABLE.read_text(encoding="utf-8")
     before, _, behind = text.partition("const ROWS")
     shared = {name: word_of(*parts) for name, *parts in re.findall(rf"const (\w+): CommandWord = {WORD};", before)}
-    rows = re.split(r"^    CommandRow \{$", behind.partition("\n];")[0], flags=re.M)[1:]
+    found = re.split(r"^    CommandRow \{$", behind.partition("\n];")[0], flags=re.M)[1:]
     usages = [usage.replace(r"\|", "|") for usage in commands.rows_of_program()]
-    answer, found = answers(), []
-    for row, usage in zip(rows, usages, strict=True):
+    for row, usage in zip(found, usages, strict=True):
         head, _, tail = row.partition("words:")
         keys = ("name", "about", "example")
         name, about, example = (string(re.search(rf"{key}: ({STRING})", head)[1]) for key in keys)
         words = words_of(tail, shared)
         example = example.removeprefix("Example:").strip()
-        found.append(Command(name, usage, about, answer[name], example, words, choices_of(usage, words)))
+        yield Command(name, usage, about, "", example, words, choices_of(usage, words))
+
+
+def program():
+    """The program, as its table of commands says."""
+    answer = answers()
+    found = [command._replace(answer=answer[command.name]) for command in rows()]
     texts = (commands.TABLE.parent / "usage.rt").read_text(encoding="utf-8")
     statuses, _, trial = constant(texts, "STATUSES").partition("\n\nExamples:\n")
     told = [line.split(maxsplit=1) for line in statuses.splitlines()[1:]]

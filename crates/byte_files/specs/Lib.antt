@@ -5,3 +5,5 @@ pub mod Writing
 pub mod Fetching
 pub mod Text
 pub mod Lines
+pub mod Pieces
+pub mod System

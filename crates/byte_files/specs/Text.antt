@@ -1,7 +1,12 @@
 -- Lines, words and numbers of a script, without their meaning (profile).
 use Rattle.std.specs.Prelude.{ℕ, ◌+◌, ◌-◌, ◌*◌, Bool, ◌==◌, ◌&&◌, nat_lt, nat_le, List, [], ◌∷◌, take, drop, position, Option, Some, None, if◌then◌else◌}
-use Rattle.std.specs.Option.{option_map}
+use Rattle.std.specs.Option.{option_map, option_and_then}
 use Rattle.std.specs.List.{onto_first, slice_split, list_all}
+
+-- what a second step makes of the value of the first
+infixl 10 ◌>>=◌
+abbrev pub ◌>>=◌ : {A B : Type 0} → Option A → (A → Option B) → Option B
+o >>= f = option_and_then f o
 
 -- the lines of a text: each ends with a line feed (10), which the last may lack
 abbrev pub lines_of : List ℕ → List (List ℕ)

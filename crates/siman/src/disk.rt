@@ -1,8 +1,10 @@
-//! The operating system's files and sockets, as the `Outside` of the commands.
+//! The operating system's files and sockets, as the `Outside` and the `Links` of the commands.
 
 use crate::part::{PartFile, begin_part};
 use crate::sockets::{line_at, lines_of};
-use siman_console::{Endpoint, FileKind, Known, Outside, SystemCall, SystemFault, file_kind_of};
+use siman_console::{
+    Endpoint, FileKind, Known, Links, Outside, SystemCall, SystemFault, file_kind_of,
+};
 use siman_lines::UdpLine;
 use std::alloc::Global;
 use std::fs::{File, Metadata, OpenOptions};
@@ -259,8 +261,6 @@ impl Outside for Disk<'_> {
 
     type Made = MadeFile;
 
-    type Line = UdpLine;
-
     fn open(&mut self, name: &str) -> io::Result<OpenInput> {
         let opened = self.open_named(name);
         self.keep(SystemCall::Open, opened)
@@ -317,6 +317,14 @@ impl Outside for Disk<'_> {
         self.keep_writes(&file);
     }
 
+    fn known(&self) -> Known {
+        self.known
+    }
+}
+
+impl Links for Disk<'_> {
+    type Line = UdpLine;
+
     fn lines(&mut self, alloc: Global, stations: usize) -> io::Result<Vec<UdpLine>> {
         let lines = lines_of(self.rt, alloc, stations);
         self.keep(SystemCall::BindLoopback, lines)
@@ -331,9 +339,5 @@ impl Outside for Disk<'_> {
     ) -> io::Result<UdpLine> {
         let line = line_at(self.rt, alloc, bind, peers, anyone);
         self.keep(SystemCall::Bind(bind), line)
-    }
-
-    fn known(&self) -> Known {
-        self.known
     }
 }

@@ -3,8 +3,7 @@ use Rattle.std.specs.Prelude.{◌≡◌, ℕ, ◌+◌, List, [], ◌∷◌, code
 use Rattle.std.specs.Option.{option_map_or}
 use Rattle.std.specs.Str.{bytes_eq}
 use Rattle.exercise_chart.specs.declared.point.Rows.{Rows}
-use Rattle.byte_files.specs.Text.{cut_at, number_to}
-use Rattle.siman_scripts.specs.Statement.{◌>>=◌}
+use Rattle.byte_files.specs.Text.{cut_at, number_to, ◌>>=◌}
 use Rattle.siman_analysis_commands.specs.declared.chart_words.Edge.{Edge}
 use Rattle.siman_analysis_commands.specs.declared.chart_words.Edge.TheVariants.{From, To}
 use Rattle.siman_analysis_commands.specs.declared.chart_words.Window.{Window}

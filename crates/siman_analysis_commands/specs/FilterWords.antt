@@ -13,8 +13,8 @@ use Rattle.exercise_review.specs.declared.filter.Filter.{Filter}
 use Rattle.exercise_review.specs.declared.filter.Filter.TheVariants as filters
 use Rattle.dis_records.specs.declared.address.SiteApplication.{SiteApplication}
 use Rattle.exercise_review.specs.Fate.{fate_text}
-use Rattle.byte_files.specs.Text.{cut_at, number_to}
-use Rattle.siman_scripts.specs.Statement.{◌>>=◌, target_of}
+use Rattle.byte_files.specs.Text.{cut_at, number_to, ◌>>=◌}
+use Rattle.siman_scripts.specs.Statement.{target_of}
 use Rattle.siman_outside.specs.declared.commands.ViewWord.{ViewWord}
 use Rattle.siman_outside.specs.declared.commands.ViewWord.TheVariants.{Review, Log, Count}
 

@@ -5,7 +5,9 @@ ghost use Rattle.siman_cases.specs.Done.{deed_of, deeds_of};
 
 use crate::done::{Done, endpoints, failure, had, letters, number};
 use http_server::Log;
-use siman_console::{Endpoint, FileKind, Known, Outside, SystemCall, SystemFault, file_kind_of};
+use siman_console::{
+    Endpoint, FileKind, Known, Links, Outside, SystemCall, SystemFault, file_kind_of,
+};
 use siman_trials::{
     Calls, Case, File, Given, WireLine, Written, found, line_with, lines_of, read_from, write_to,
 };
@@ -197,8 +199,6 @@ impl<'a> Outside for Shelf<'a> {
 
     type Made = Written;
 
-    type Line = WireLine;
-
     ghost deeds = { λ shelf. Some (deeds_of shelf.done) };
 
     fn open(&mut self, name: &str) -> io::Result<&'a File> {
@@ -274,6 +274,14 @@ impl<'a> Outside for Shelf<'a> {
         self.note(Done::Left);
     }
 
+    fn known(&self) -> Known {
+        self.known
+    }
+}
+
+impl<'a> Links for Shelf<'a> {
+    type Line = WireLine;
+
     fn lines(&mut self, alloc: Global, stations: usize) -> io::Result<Vec<WireLine>> {
         let answer = self.have_lines(alloc, stations);
         self.keep(SystemCall::BindLoopback, &answer);
@@ -292,9 +300,5 @@ impl<'a> Outside for Shelf<'a> {
         self.keep(SystemCall::Bind(bind), &answer);
         self.note(Done::Bound(bind, endpoints(peers), anyone, had(&answer)));
         answer
-    }
-
-    fn known(&self) -> Known {
-        self.known
     }
 }

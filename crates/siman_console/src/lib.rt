@@ -1,6 +1,6 @@
 //! The program `siman` as functions over readers and writers that return an exit status, with the
 //! texts that they print. [`run`] leads from the words of a command line to the status, over the
-//! files and links of an [`Outside`]. Over readers and writers there are [`pdu_command`] and
+//! files of an [`Outside`] with [`Links`]. Over readers and writers there are [`pdu_command`] and
 //! [`pdus_command`] for datagrams in hex text, [`show_command`] for recordings, [`check_command`]
 //! for a recording and its certificate, [`audit_command`] for the search of a recording,
 //! [`world_command`] for a script and the recording of its world, and [`trial`] for a script and
@@ -23,7 +23,7 @@ mod usage;
 pub use laws::conversion_keeps_answers;
 pub use program::run;
 pub use siman_analysis_commands::{View, filter_of};
-pub use siman_exercise_commands::{perform, trial, world_command};
+pub use siman_exercise_commands::{Links, TrialFault, perform, trial, world_command};
 pub use siman_file_commands::{
     AuditCommand, CheckCommand, LARGEST_OLD_RECORDING, ShowCommand, WhyCommand,
     answers_follow_the_grammar, audit_command, check_command, check_files, pdu_command,
@@ -31,8 +31,8 @@ pub use siman_file_commands::{
 };
 pub use siman_outside::{
     CommandLine, Ended, Endpoint, FileKind, FilesFault, JoinForm, Known, LARGEST_CERTIFICATE,
-    LARGEST_RECORDING, NoWord, Notes, OneWord, Outside, SystemCall, SystemFault, Task, TrialFault,
-    TwoWords, Unread, ViewWord, asks_help, end, file_kind_of, read_words, say_of_certificate,
+    LARGEST_RECORDING, NoWord, Notes, OneWord, Outside, SystemCall, SystemFault, Task, TwoWords,
+    Unread, ViewWord, asks_help, end, file_kind_of, read_words, say_of_certificate,
     say_of_recording,
 };
 pub use siman_print::Spelling;

@@ -10,7 +10,7 @@ ghost use Rattle.siman_lines.specs.AtLines.{Telling};
 
 use crate::usage::end_usage;
 use siman_analysis_commands::{View, chart_named};
-use siman_exercise_commands::{WorldCommand, end_live, end_station, try_input};
+use siman_exercise_commands::{Links, WorldCommand, end_live, end_station, try_input};
 use siman_file_commands::{
     AuditCommand, CheckCommand, ConvertCommand, MendCommand, ShowCommand, end_lines, join_pieces,
     show_word, why_named, word_of,
@@ -46,7 +46,7 @@ fn do_one<'a, O: Outside, W: Write>(
 
 /// Runs a command with two words, and ends it; the flag says whether an existing file with the
 /// second name is replaced.
-fn end_two<'a, O: Outside, W: Write, E: Write>(
+fn end_two<'a, O: Links, W: Write, E: Write>(
     alloc: Global,
     command: TwoWords,
     words: (&'a str, &'a str, bool),
@@ -106,7 +106,7 @@ fn do_view<'a, O: Outside, W: Write>(
 }
 
 /// Runs a task, and ends it.
-fn end_task<'a, O: Outside, R: Read + Drop, W: Write, E: Write>(
+fn end_task<'a, O: Links, R: Read + Drop, W: Write, E: Write>(
     alloc: Global,
     task: Task<'a, &'a str>,
     outside: &mut O,
@@ -155,7 +155,7 @@ fn end_task<'a, O: Outside, R: Read + Drop, W: Write, E: Write>(
 
 /// Reads the words of a command line, runs their task or writes the help or the fault of usage, and
 /// writes the reason of a fault behind its first line.
-fn end_words<O: Outside, R: Read + Drop, W: Write, E: Write, S: Write>(
+fn end_words<O: Links, R: Read + Drop, W: Write, E: Write, S: Write>(
     alloc: Global,
     words: &[String],
     outside: &mut O,
@@ -195,7 +195,7 @@ fn end_words<O: Outside, R: Read + Drop, W: Write, E: Write, S: Write>(
 /// is something to write. Answers and help are written to `out`, the first lines of faults to
 /// `errors`, and the reason of the fault that ended the command to `reasons`, behind its first
 /// line: a line that begins with two blanks. `reasons` also gets warnings.
-pub fn run<O: Outside, R: Read + Drop, W: Write, E: Write, S: Write>(
+pub fn run<O: Links, R: Read + Drop, W: Write, E: Write, S: Write>(
     alloc: Global,
     words: io::Result<Vec<String>>,
     outside: &mut O,

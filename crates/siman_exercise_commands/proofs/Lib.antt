@@ -7,3 +7,4 @@ mod Lived
 mod Posts
 mod Placed
 mod Stood
+mod Refused

@@ -5,13 +5,17 @@ use Rattle.siman_scripts.specs.declared.script_fault.ScriptFault.TheVariants as 
 use Rattle.siman_scripts.specs.declared.why.LineReason.{LineReason}
 use Rattle.siman_scripts.specs.MoveLine.{line_of_move}
 use Rattle.siman_scripts.specs.Reason.{reason_at}
+use Rattle.siman_scripts.specs.ReasonText.{reason_text}
 use Rattle.siman_scripts.specs.Script.{ScriptData, script_at}
 use Rattle.siman_stations.specs.declared.world_fault.WorldFault.{WorldFault}
 use Rattle.siman_stations.specs.declared.world_fault.WorldFault.TheVariants as worlds
 use Rattle.siman_stations.specs.World.{WorldData, sent_in, entries_of}
 use Rattle.siman_outside.specs.declared.fault.Fault.{Fault}
-use Rattle.siman_outside.specs.declared.fault.Fault.TheVariants.{Script, World, Memory}
-use Rattle.siman_outside.specs.declared.move_place.MovePlace.{MovePlace}
+use Rattle.siman_outside.specs.declared.fault.Fault.TheVariants.{BadLine, UnknownStation, WorldStations, Move, Memory}
+use Rattle.siman_outside.specs.declared.move_refusal.MovePlace.{MovePlace}
+use Rattle.siman_outside.specs.declared.short_texts.ShortText.{ShortText}
+use Rattle.siman_outside.specs.ShortTexts.{short_bytes}
+use Rattle.siman_exercise_commands.specs.Refusals.{move_refusal}
 
 -- the result of reading a script
 abbrev pub Scripted : Type 0
@@ -32,11 +36,20 @@ pub record TextRead : Type 0 where
 abbrev pub text_read : List ℕ → TextRead
 text_read text = record { scripted = script_at text; reason = reason_at text; lines = lines_if (script_at text) text }
 
--- A SCRIPT IS REFUSED, with the first reason of its text; or memory ran out
+-- what a fault has of the reason: its text
+abbrev pub IsWhy : Option LineReason → Option ShortText → Type 0
+IsWhy None why = why ≡ None
+IsWhy (Some reason) why = (short : ShortText) × (why ≡ Some short) × (short_bytes short ≡ reason_text reason)
+
+-- A SCRIPT IS REFUSED, for this reason; or memory ran out
+abbrev pub RefusesWith : ScriptFault → Option LineReason → Fault → Type 0
+RefusesWith (scripts.BadLine line) reason told = (told ≡ Memory) ⊎ ((why : Option ShortText) × IsWhy reason why × (told ≡ BadLine line why))
+RefusesWith (scripts.UnknownStation line) reason told = (told ≡ Memory) ⊎ ((why : Option ShortText) × IsWhy reason why × (told ≡ UnknownStation line why))
+RefusesWith scripts.Memory reason told = told ≡ Memory
+
+-- that of a text, with its first reason
 abbrev pub Refuses : TextRead → ScriptFault → Fault → Type 0
-Refuses t (scripts.BadLine line) told = (told ≡ Memory) ⊎ (told ≡ Script (scripts.BadLine line) t.reason)
-Refuses t (scripts.UnknownStation line) told = (told ≡ Memory) ⊎ (told ≡ Script (scripts.UnknownStation line) t.reason)
-Refuses t scripts.Memory told = told ≡ Memory
+Refuses t fault told = RefusesWith fault t.reason told
 
 -- how many datagrams the first moves of a script send
 abbrev pub sends_before : ScriptData → (number : ℕ) → ℕ
@@ -52,15 +65,16 @@ pub record IsPlacedAt (t : TextRead) (number : ℕ) (place : MovePlace) : Type 0
 
 -- A WORLD DOES NOT RUN, with the place of the move that cannot be made; or memory ran out
 abbrev pub Stopped : TextRead → WorldFault → Fault → Type 0
-Stopped t worlds.Stations told = told ≡ World worlds.Stations None
+Stopped t worlds.Stations told = told ≡ WorldStations
 Stopped t (worlds.Move number fault) told =
-    (told ≡ Memory) ⊎ ((place : MovePlace) × IsPlacedAt t number place × (told ≡ World (worlds.Move number fault) (Some place)))
+    (told ≡ Memory) ⊎ ((place : MovePlace) × IsPlacedAt t number place × (told ≡ Move number (move_refusal fault) (Some place)))
 Stopped t worlds.Memory told = told ≡ Memory
 
 -- the reason or place that a fault has
 abbrev pub GivesWhy : TextRead → Fault → Type 0
-GivesWhy t (Script fault why) = why ≡ t.reason
-GivesWhy t (World (worlds.Move number fault) there) = (place : MovePlace) × (there ≡ Some place) × IsPlacedAt t number place
+GivesWhy t (BadLine line why) = IsWhy t.reason why
+GivesWhy t (UnknownStation line why) = IsWhy t.reason why
+GivesWhy t (Move number refusal there) = (place : MovePlace) × (there ≡ Some place) × IsPlacedAt t number place
 GivesWhy t other = ⊤
 
 abbrev pub GivesReason : {A : Type 0} → TextRead → Result A Fault → Type 0

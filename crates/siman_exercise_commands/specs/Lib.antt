@@ -1,3 +1,5 @@
+pub mod Refusals
+pub mod TrialFaults
 pub mod Explained
 pub mod World
 pub mod ScriptTrial

@@ -6,15 +6,15 @@ use Rattle.std.specs.Io.KnownBytes.{Keeps}
 use Rattle.byte_files.specs.Writing.{Writes}
 use Rattle.exercise_model.specs.Setting.{SettingData}
 use Rattle.siman_scripts.specs.declared.script_fault.ScriptFault.TheVariants as scripts
-use Rattle.siman_stations.specs.declared.world_fault.WorldFault.TheVariants as worlds
 use Rattle.siman_scripts.specs.Script.{ScriptData}
 use Rattle.siman_stations.specs.World.{are_world_stations}
 use Rattle.siman_stations.specs.Holds.{AreNewNodes}
 use Rattle.siman_outside.specs.declared.fault.Fault.{Fault}
-use Rattle.siman_outside.specs.declared.fault.Fault.TheVariants.{Script, ScriptRead, World, LineFailed, Output, Exists, Memory}
+use Rattle.siman_outside.specs.declared.fault.Fault.TheVariants as faults
+use Rattle.siman_outside.specs.declared.fault.Fault.TheVariants.{BadLine, UnknownStation, ScriptRead, WorldStations, LineFailed, Output, Exists, Memory}
 use Rattle.siman_exercise_commands.specs.declared.live.Begun.{Begun}
 use Rattle.siman_exercise_commands.specs.declared.live.BegunText.{BegunText}
-use Rattle.siman_stations.specs.declared.world_fault.MoveFault.{MoveFault}
+use Rattle.siman_outside.specs.declared.move_refusal.MoveRefusal.{MoveRefusal}
 use Rattle.siman_scripts.specs.MoveLine.{line_of_move}
 use Rattle.std.specs.declared.io.ErrorKind.{ErrorKind}
 use Rattle.std.specs.declared.io.ErrorKind.TheVariants.{AlreadyExists, OutOfMemory}
@@ -33,10 +33,10 @@ use Rattle.siman_scripts.specs.declared.act.Move.{Move}
 -- A SCRIPT HAS NO STATIONS TO BEGIN WITH: its first refused line, or stations that a world cannot have; or the
 -- script could not be read; or memory ran out, which may happen at any time
 abbrev pub BeginsNone : Scripted → Fault → Type 0
-BeginsNone scripted (Script (scripts.BadLine line) why) = scripted ≡ Err (scripts.BadLine line)
-BeginsNone scripted (Script (scripts.UnknownStation line) why) = scripted ≡ Err (scripts.UnknownStation line)
+BeginsNone scripted (BadLine line why) = scripted ≡ Err (scripts.BadLine line)
+BeginsNone scripted (UnknownStation line why) = scripted ≡ Err (scripts.UnknownStation line)
 BeginsNone scripted (ScriptRead failed) = ⊤
-BeginsNone scripted (World worlds.Stations there) = (s : ScriptData) × (scripted ≡ Ok s) × (are_world_stations s.stations ≡ false)
+BeginsNone scripted WorldStations = (s : ScriptData) × (scripted ≡ Ok s) × (are_world_stations s.stations ≡ false)
 BeginsNone scripted Memory = ⊤
 BeginsNone scripted other = ⊥
 
@@ -108,8 +108,8 @@ LivesBegun told begun name deeds answered out = ⊥
 abbrev pub IsPlaced : (text : List ℕ) → (lived answered : Answered) → Type 0
 IsPlaced text lived answered =
     (answered ≡ lived)
-    ⊎ ((number line : ℕ) × (fault : MoveFault) × (lived ≡ Err (World (worlds.Move number fault) None)) × (line_of_move text number ≡ Some line)
-    × (answered ≡ Err (World (worlds.Move number fault) (Some (record { line = line; sends = None })))))
+    ⊎ ((number line : ℕ) × (refusal : MoveRefusal) × (lived ≡ Err (faults.Move number refusal None)) × (line_of_move text number ≡ Some line)
+    × (answered ≡ Err (faults.Move number refusal (Some (record { line = line; sends = None })))))
 
 abbrev pub LivesText : {L : Type 0} → Telling L → BegunText → (name : List ℕ) → List Deed → Answered → Stream → Type 0
 LivesText told kept name deeds answered out =

@@ -12,9 +12,9 @@ use Rattle.siman_scripts.specs.declared.script_fault.ScriptFault.TheVariants as 
 use Rattle.siman_stations.specs.declared.world_fault.WorldFault.TheVariants as worlds
 use Rattle.siman_scripts.specs.Script.{ScriptData}
 use Rattle.siman_outside.specs.declared.fault.Fault.{Fault}
-use Rattle.siman_outside.specs.declared.trial_fault.TrialFault.{TrialFault}
-use Rattle.siman_outside.specs.declared.trial_fault.TrialFault.TheVariants.{Read, Script, World, Write, Memory}
-use Rattle.siman_outside.specs.Ending.{of_trial}
+use Rattle.siman_exercise_commands.specs.declared.trial_fault.TrialFault.{TrialFault}
+use Rattle.siman_exercise_commands.specs.declared.trial_fault.TrialFault.TheVariants.{Read, Script, World, Write, Memory}
+use Rattle.siman_exercise_commands.specs.TrialFaults.{of_trial}
 use Rattle.siman_outside.specs.Outside.{Has, Stream}
 use Rattle.exercise_check.specs.Report.{report_text}
 use Rattle.siman_outside.specs.Recorded.{explained_text}

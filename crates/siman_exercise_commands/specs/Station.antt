@@ -7,7 +7,6 @@ use Rattle.siman_scripts.specs.declared.script_fault.ScriptFault.TheVariants as 
 use Rattle.siman_scripts.specs.Script.{ScriptData}
 use Rattle.siman_scripts.specs.Statement.{address_of}
 use Rattle.siman_scripts.specs.Stations.{WorldStationData}
-use Rattle.siman_stations.specs.declared.world_fault.WorldFault.TheVariants as worlds
 use Rattle.siman_operator.specs.Posts.{IsAtLink}
 use Rattle.siman_operator.specs.declared.reading.TheConstants.{LONGEST_LINE}
 use Rattle.siman_operator.specs.declared.recorded.ReadyStation.{ReadyStation}
@@ -21,7 +20,7 @@ use Rattle.siman_outside.specs.Words.{StationAsked}
 use Rattle.siman_outside.specs.declared.endpoint.Endpoint.{Endpoint}
 use Rattle.siman_outside.specs.declared.fault.Ended.{Ended}
 use Rattle.siman_outside.specs.declared.fault.Fault.{Fault}
-use Rattle.siman_outside.specs.declared.fault.Fault.TheVariants.{Script, ScriptRead, World, LineFailed, NotInSetup, Exists, Memory}
+use Rattle.siman_outside.specs.declared.fault.Fault.TheVariants.{BadLine, UnknownStation, ScriptRead, WorldStations, LineFailed, NotInSetup, Exists, Memory}
 use Rattle.siman_exercise_commands.specs.declared.station.Placed.{Placed}
 use Rattle.siman_outside.specs.Ending.{Ends, IsFaultOf, fault_text}
 use Rattle.siman_outside.specs.Endpoints.{endpoint_of}
@@ -58,13 +57,14 @@ abbrev pub FindsEndpoints : List (List ℕ) → Result (Vec Endpoint Global) Fau
 FindsEndpoints words (Ok endpoints) = map endpoint_of words ≡ map Some endpoints.items
 FindsEndpoints words (Err fault) = (fault ≡ Memory) ⊎ ((word : List ℕ) × (bad_endpoint words ≡ Some word) × IsAddressFault word fault)
 
--- THE WORDS NAME the address and the endpoints of the station and its peers, and there is a buffer for a line of
--- text
+-- THE WORDS NAME the address and the endpoints of the station and its peers, and its recording; and there is a
+-- buffer for a line of text
 pub record IsPlaced (asked : StationAsked) (placed : Placed) : Type 0 where
   pub address : address_of asked.address ≡ Some placed.address
   pub bind : endpoint_of asked.bind ≡ Some placed.bind
   pub peers : map endpoint_of asked.peers ≡ map Some placed.peers.items
   pub anyone : placed.anyone ≡ asked.anyone
+  pub name : placed.name.now ≡ asked.recording
   pub room : length placed.room.items ≡ LONGEST_LINE + 1
 
 -- the places that the words name; or the fault of one that is no address; or memory ran out, which may happen at
@@ -78,17 +78,17 @@ Places asked (Err fault) = (fault ≡ Memory) ⊎ ((word : List ℕ) × (bad_wor
 -- the fault of a station of a script that was not set up
 abbrev pub of_set_up : SetUpFault → Fault
 of_set_up set_ups.NotInSetup = NotInSetup
-of_set_up set_ups.Stations = World worlds.Stations None
+of_set_up set_ups.Stations = WorldStations
 of_set_up set_ups.Memory = Memory
 
 -- WHY THE STATION OF A SCRIPT AT AN ADDRESS IS NOT SET UP: the first refused line of the script, no station there,
 -- or one that a world cannot have; or the script could not be read; or memory ran out, which may happen at any time
 abbrev pub SetsUpNone : Scripted → (address : SiteApplication) → Fault → Type 0
-SetsUpNone scripted address (Script (scripts.BadLine line) why) = scripted ≡ Err (scripts.BadLine line)
-SetsUpNone scripted address (Script (scripts.UnknownStation line) why) = scripted ≡ Err (scripts.UnknownStation line)
+SetsUpNone scripted address (BadLine line why) = scripted ≡ Err (scripts.BadLine line)
+SetsUpNone scripted address (UnknownStation line why) = scripted ≡ Err (scripts.UnknownStation line)
 SetsUpNone scripted address (ScriptRead failed) = ⊤
 SetsUpNone scripted address NotInSetup = (s : ScriptData) × (scripted ≡ Ok s) × SetsUp s address (Err set_ups.NotInSetup)
-SetsUpNone scripted address (World worlds.Stations there) = (s : ScriptData) × (scripted ≡ Ok s) × SetsUp s address (Err set_ups.Stations)
+SetsUpNone scripted address WorldStations = (s : ScriptData) × (scripted ≡ Ok s) × SetsUp s address (Err set_ups.Stations)
 SetsUpNone scripted address Memory = ⊤
 SetsUpNone scripted address other = ⊥
 

@@ -9,17 +9,19 @@ use Rattle.exercise_model.specs.Recording.{PlainRecording}
 use Rattle.exercise_model.specs.Run.{IsRun}
 use Rattle.exercise_recording.specs.Text.{entry_text, recording_text}
 use Rattle.siman_scripts.specs.declared.script_fault.ScriptFault.TheVariants as scripts
+use Rattle.siman_stations.specs.declared.world_fault.MoveFault.{MoveFault}
 use Rattle.siman_stations.specs.declared.world_fault.WorldFault.{WorldFault}
 use Rattle.siman_stations.specs.declared.world_fault.WorldFault.TheVariants as worlds
 use Rattle.siman_scripts.specs.Script.{ScriptData}
 use Rattle.siman_stations.specs.World.{WorldData, sent_in, world_recording, world_refusal}
 use Rattle.siman_outside.specs.declared.fault.Fault.{Fault}
-use Rattle.siman_outside.specs.declared.fault.Fault.TheVariants.{Script, ScriptRead, World, Output, Memory}
+use Rattle.siman_outside.specs.declared.fault.Fault.TheVariants.{BadLine, UnknownStation, ScriptRead, WorldStations, Move, Output, Memory}
 use Rattle.siman_outside.specs.Ending.{EndsWith}
 use Rattle.siman_outside.specs.declared.product.Product.{Product}
 use Rattle.siman_outside.specs.declared.product.Product.TheVariants.{File, Nothing}
 use Rattle.siman_outside.specs.Outside.{Given, Stream}
 use Rattle.siman_outside.specs.Making.{WritesShort}
+use Rattle.siman_exercise_commands.specs.Refusals.{move_refusal}
 use Rattle.siman_exercise_commands.specs.Explained.{Scripted, TextRead, text_read, GivesReason}
 use Rattle.siman_print.specs.Line.{Number, Keyed, named_line}
 use Rattle.siman_print.specs.Spelled.{line_text}
@@ -50,11 +52,11 @@ Stops scripted fault = (s : ScriptData) × (scripted ≡ Ok s) × (refusal_of s 
 -- A SCRIPT YIELDS NO RECORDING: its first refused line, or else why its world does not run; or the script could not
 -- be read; or memory ran out, which may happen at any time
 abbrev pub YieldsNone : Scripted → Fault → Type 0
-YieldsNone scripted (Script (scripts.BadLine line) why) = scripted ≡ Err (scripts.BadLine line)
-YieldsNone scripted (Script (scripts.UnknownStation line) why) = scripted ≡ Err (scripts.UnknownStation line)
+YieldsNone scripted (BadLine line why) = scripted ≡ Err (scripts.BadLine line)
+YieldsNone scripted (UnknownStation line why) = scripted ≡ Err (scripts.UnknownStation line)
 YieldsNone scripted (ScriptRead failed) = ⊤
-YieldsNone scripted (World worlds.Stations there) = Stops scripted worlds.Stations
-YieldsNone scripted (World (worlds.Move number fault) there) = Stops scripted (worlds.Move number fault)
+YieldsNone scripted WorldStations = Stops scripted worlds.Stations
+YieldsNone scripted (Move number refusal there) = (fault : MoveFault) × (refusal ≡ move_refusal fault) × Stops scripted (worlds.Move number fault)
 YieldsNone scripted Memory = ⊤
 YieldsNone scripted other = ⊥
 

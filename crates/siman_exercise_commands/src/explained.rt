@@ -3,23 +3,42 @@
 ghost use Rattle.std.specs.Prelude.{◌≡◌, Ok, Some, IfSome};
 ghost use Rattle.siman_scripts.specs.MoveLine.{line_of_move};
 ghost use Rattle.siman_scripts.specs.Script.{ScriptData, script_at};
-ghost use Rattle.siman_exercise_commands.specs.Explained.{text_read, sends_before, IsPlacedAt, Refuses, Stopped};
+ghost use Rattle.siman_exercise_commands.specs.Explained.{text_read, sends_before, IsPlacedAt, RefusesWith, Refuses, Stopped};
 
+use crate::refusal::move_refusal;
 use crate::world::sent_count;
-use siman_outside::{Fault, MovePlace};
-use siman_scripts::{Script, ScriptFault, line_of_move, read_script, reason_of_script};
+use siman_outside::{Fault, MovePlace, short_text};
+use siman_scripts::{
+    LineReason, Script, ScriptFault, line_of_move, placed_reason, read_script, reason_of_script,
+};
 use siman_stations::{WorldFault, run_world};
 use std::alloc::Global;
+
+/// Fault of a text that is no script, with this reason; `Memory` if memory runs out, or if the
+/// reason has more than 255 bytes, which none has.
+fn refused_for(alloc: Global, fault: ScriptFault, reason: Option<LineReason>) -> Fault<'static>
+    ensures { RefusesWith fault reason result }
+{
+    let why = match reason {
+        Some(reason) => match short_text(alloc, placed_reason(reason)) {
+            Some(why) => Some(why),
+            None => return Fault::Memory,
+        },
+        None => None,
+    };
+    match fault {
+        ScriptFault::BadLine(line) => Fault::BadLine(line, why),
+        ScriptFault::UnknownStation(line) => Fault::UnknownStation(line, why),
+        ScriptFault::Memory => Fault::Memory,
+    }
+}
 
 /// Fault of a text that is no script, with its first reason.
 pub(crate) fn refused(alloc: Global, text: &[u8], fault: ScriptFault) -> Fault<'static>
     ensures { Refuses (text_read text.now) fault result }
 {
-    if let ScriptFault::Memory = fault {
-        return Fault::Memory;
-    }
     match reason_of_script(alloc, text) {
-        Ok(reason) => Fault::Script(fault, reason),
+        Ok(reason) => refused_for(alloc, fault, reason),
         Err(_) => Fault::Memory,
     }
 }
@@ -56,9 +75,9 @@ pub(crate) fn stopped(alloc: Global, text: &[u8], fault: WorldFault) -> Fault<'s
     ensures { Stopped (text_read text.now) fault result }
 {
     match fault {
-        WorldFault::Stations => Fault::World(WorldFault::Stations, None),
+        WorldFault::Stations => Fault::WorldStations,
         WorldFault::Move(number, fault) => match place_of(alloc, text, number) {
-            Some(place) => Fault::World(WorldFault::Move(number, fault), Some(place)),
+            Some(place) => Fault::Move(number, move_refusal(fault), Some(place)),
             None => Fault::Memory,
         },
         WorldFault::Memory => Fault::Memory,

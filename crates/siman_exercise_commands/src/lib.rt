@@ -3,20 +3,26 @@
 //! of a script, which no words of the command line name.
 //! The crate opens no file and no socket itself and ends no process: [`world_command`], [`perform`]
 //! and [`trial`] are functions over readers and writers, and [`end_live`] and [`end_station`] reach
-//! files and links only through the caller's `siman_outside::Outside`.
+//! files and links only through the caller's [`Links`], whose files are those of
+//! `siman_outside::Outside`.
 //! The contract for the layer above: what is written for each script, to the byte (`EndsWorld`,
 //! `EndsLive`, `EndsStation`, `Tries`).
 #![tactic(auto)]
 
 mod explained;
+mod links;
 mod live;
 mod recording_file;
+mod refusal;
 mod script_trial;
 mod station;
+mod trial_fault;
 mod warned;
 mod world;
 
+pub use links::Links;
 pub use live::end_live;
 pub use script_trial::{perform, trial, try_input};
 pub use station::end_station;
+pub use trial_fault::TrialFault;
 pub use world::{WorldCommand, WorldFile, world_command};

@@ -15,16 +15,17 @@ mod moves;
 mod recorded;
 
 use crate::explained::{refused, stopped};
+use crate::links::Links;
 use crate::live::moves::{attach_stations, trouble_of};
 use crate::live::recorded::{LiveRecording, put_live_row, record_moves};
 use crate::warned::no_such_station;
 use exercise_model::Recording;
-use siman_lines::{LineTrouble, StationAtLine, left_out};
+use siman_lines::{StationAtLine, left_out};
 use siman_outside::{
-    Ending, Fault, MovePlace, Notes, Outside, conclude, of_error, open_input, read_text,
+    Ending, Fault, MovePlace, Notes, ShortText, conclude, of_error, open_input, read_text,
 };
 use siman_scripts::{LARGEST_SCRIPT, Move, Script, line_of_move, read_script};
-use siman_stations::{InitialWorld, Node, WorldFault, begin_world};
+use siman_stations::{InitialWorld, Node, begin_world};
 use std::alloc::Global;
 use std::io;
 use std::io::{ErrorKind, Read, Write};
@@ -113,12 +114,12 @@ pub(crate) fn creation_fault(error: &io::Error) -> Fault<'static>
 }
 
 /// Result of `live`: its status or fault, whether it created its file, and the last failed call of
-/// a link, if a link reports one.
+/// a link in words, if a link reports one.
 #[derive(Clone, Copy)]
 struct Lived<'a> {
     answered: Result<u8, Fault<'a>>,
     created: bool,
-    trouble: Option<LineTrouble>,
+    trouble: Option<ShortText>,
 }
 
 /// Result of a fault before a file was created.
@@ -135,7 +136,7 @@ fn fault_before_file(fault: Fault<'_>) -> Lived<'_>
 
 /// Creates the file of a recording, makes the moves, records them in it, and prints the row of
 /// counts. The stations are in their initial state.
-fn create_live<O: Outside, W: Write>(
+fn create_live<O: Links, W: Write>(
     alloc: Global,
     head: &Recording,
     stations: Vec<StationAtLine<O::Line>>,
@@ -159,7 +160,7 @@ fn create_live<O: Outside, W: Write>(
             Lived {
                 answered,
                 created: true,
-                trouble: trouble_of(&stations),
+                trouble: trouble_of(alloc, &stations),
             }
         }
         Err(error) => fault_before_file(creation_fault(&error)),
@@ -167,7 +168,7 @@ fn create_live<O: Outside, W: Write>(
 }
 
 /// Requests a link for each station, then creates the file and makes the moves.
-fn live_at_lines<O: Outside, W: Write>(
+fn live_at_lines<O: Links, W: Write>(
     alloc: Global,
     begun: Begun,
     name: &str,
@@ -196,7 +197,7 @@ fn live_at_lines<O: Outside, W: Write>(
 }
 
 /// Makes the moves of a script over links, into a new file. Refuses if a file of this name exists.
-fn live_begun<O: Outside, W: Write>(
+fn live_begun<O: Links, W: Write>(
     alloc: Global,
     begun: Begun,
     name: &str,
@@ -218,21 +219,21 @@ fn live_begun<O: Outside, W: Write>(
 fn placed<'a>(alloc: Global, text: &[u8], answered: Result<u8, Fault<'a>>) -> Result<u8, Fault<'a>>
     ensures { IsPlaced text.now answered.entry result }
 {
-    let (number, fault) = match answered {
-        Err(Fault::World(WorldFault::Move(number, fault), None)) => (number, fault),
+    let (number, refusal) = match answered {
+        Err(Fault::Move(number, refusal, None)) => (number, refusal),
         _ => return answered,
     };
     match line_of_move(alloc, text, number) {
         Ok(Some(line)) => {
             let place = MovePlace { line, sends: None };
-            Err(Fault::World(WorldFault::Move(number, fault), Some(place)))
+            Err(Fault::Move(number, refusal, Some(place)))
         }
         _ => answered,
     }
 }
 
 /// As [`live_begun`], and adds the line of the script to the fault of a move that was not made.
-fn live_text<O: Outside, W: Write>(
+fn live_text<O: Links, W: Write>(
     alloc: Global,
     script: BegunText,
     name: &str,
@@ -254,7 +255,7 @@ fn live_text<O: Outside, W: Write>(
 
 /// Opens the script of the first name, and makes its moves, with a recording in the file of the
 /// second.
-fn live_of_file<'a, O: Outside, W: Write>(
+fn live_of_file<'a, O: Links, W: Write>(
     alloc: Global,
     names: (&'a str, &'a str),
     outside: &mut O,
@@ -287,7 +288,7 @@ fn incomplete_recording<'a>(lived: Lived<'_>, name: &'a str) -> Option<&'a str>
 }
 
 /// Runs `live` with these words, and returns its ending, with a fault reported on `errors`.
-pub fn end_live<'a, O: Outside, W: Write, E: Write>(
+pub fn end_live<'a, O: Links, W: Write, E: Write>(
     alloc: Global,
     words: (&'a str, &'a str),
     outside: &mut O,

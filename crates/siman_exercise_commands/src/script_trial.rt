@@ -13,12 +13,13 @@ ghost use Rattle.siman_exercise_commands.specs.Explained.{text_read};
 ghost use Rattle.siman_exercise_commands.specs.ScriptTrial.{trial_text, Performs, Tries, TriesInput, IsNoTrialFault, GivesTrial};
 
 use crate::explained::{refused, stopped};
+use crate::trial_fault::TrialFault;
 use crate::world::world_line;
 use byte_files::put;
 use exercise_audit::{Audit, audit};
 use exercise_check::{Certificate, CheckFault, Checked, check, report_text};
 use exercise_model::{ExerciseLog, Recording};
-use siman_outside::{Fault, TrialFault, read_text};
+use siman_outside::{Fault, read_text};
 use siman_print::counted;
 use siman_scripts::{LARGEST_SCRIPT, Script, read_script};
 use siman_stations::run_world;

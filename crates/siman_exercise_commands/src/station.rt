@@ -11,6 +11,7 @@ ghost use Rattle.siman_exercise_commands.specs.Explained.{TextRead, text_read, G
 ghost use Rattle.siman_exercise_commands.specs.Station.{of_set_up, Streams, FindsAddress, FindsEndpoint, FindsEndpoints, Places, SetsUpText, SetsUpFile, IsOfScript, CreatesPlayed, IsAttached, HasLine, PlaysSetUp, PlaysFile, EndsPlayed, EndsStation};
 
 use crate::explained::refused;
+use crate::links::Links;
 use crate::live::creation_fault;
 use dis_records::Address;
 use siman_lines::Line;
@@ -19,23 +20,23 @@ use siman_operator::{
     record_session, set_up,
 };
 use siman_outside::{
-    Ended, Ending, Endpoint, Fault, Outside, StationWords, conclude, end, endpoint_of, of_error,
-    open_fault, read_text,
+    Ended, Ending, Endpoint, Fault, StationWords, conclude, end, endpoint_of, of_error, open_fault,
+    read_text,
 };
 use siman_scripts::{LARGEST_SCRIPT, Script, address_of, read_script};
-use siman_stations::WorldFault;
 use std::alloc::Global;
 use std::io::{Read, Write};
 
-/// Address of a station, endpoint of its socket, endpoints of its peers, and a buffer for a line of
-/// text.
+/// Address of a station, endpoint of its socket, endpoints of its peers, name of its recording, and
+/// a buffer for a line of text.
 #[derive(Drop)]
-struct Placed {
+struct Placed<'a> {
     address: Address,
     bind: Endpoint,
     peers: Vec<Endpoint>,
     /// Whether it accepts datagrams from anyone, not from its peers alone.
     anyone: bool,
+    name: &'a str,
     room: Vec<u8>,
 }
 
@@ -75,8 +76,8 @@ fn endpoints<'a>(alloc: Global, words: &'a [&'a str]) -> Result<Vec<Endpoint>, F
     Ok(endpoints)
 }
 
-/// Address, endpoints and line buffer of a station, from its words.
-fn place<'a>(alloc: Global, words: &StationWords<'a, &'a str>) -> Result<Placed, Fault<'a>>
+/// Address, endpoints, recording and line buffer of a station, from its words.
+fn place<'a>(alloc: Global, words: &StationWords<'a, &'a str>) -> Result<Placed<'a>, Fault<'a>>
     ensures { Places (named_by (λ word. word.now) words.now) result }
 {
     let address = station_address(words.address)?;
@@ -88,6 +89,7 @@ fn place<'a>(alloc: Global, words: &StationWords<'a, &'a str>) -> Result<Placed,
         bind,
         peers,
         anyone: words.anyone,
+        name: words.recording,
         room,
     })
 }
@@ -98,7 +100,7 @@ fn of_set_up(fault: SetUpFault) -> Fault<'static>
 {
     match fault {
         SetUpFault::NotInSetup => Fault::NotInSetup,
-        SetUpFault::Stations => Fault::World(WorldFault::Stations, None),
+        SetUpFault::Stations => Fault::WorldStations,
         SetUpFault::Memory => Fault::Memory,
     }
 }
@@ -140,23 +142,24 @@ fn set_up_file<R: Read + Drop>(
 
 /// Creates the file of a recording, and plays a station at its link by the lines of a reader,
 /// recorded in that file.
-fn create_played<O: Outside, R: Read, W: Write, E: Write>(
+fn create_played<O: Links, R: Read, W: Write, E: Write>(
     alloc: Global,
     ready: ReadyStation<O::Line>,
-    room: &mut [u8],
-    name: &str,
+    placed: Placed<'_>,
     outside: &mut O,
     input: &mut R,
     out: &mut W,
     errors: &mut E,
 ) -> Result<SessionReport, Fault<'static>>
-    requires room { length room.old ≡ LONGEST_LINE + 1 }
+    requires room { length placed.room.items ≡ LONGEST_LINE + 1 }
     requires ready { IsReady ready }
     ensures { let s : Streams = record { out = record { old = W.contents out.old; new = W.contents out.new }; errors = record { old = E.contents errors.old; new = E.contents errors.new } } in
-        DidMake O.deeds outside.old outside.new (λ deeds. CreatesPlayed O.Line.strangers ready name.now (R.remaining input.old) deeds result s) }
+        DidMake O.deeds outside.old outside.new (λ deeds. CreatesPlayed O.Line.strangers ready placed.entry.name.now (R.remaining input.old) deeds result s) }
 {
-    match outside.create(name) {
+    let mut placed = placed;
+    match outside.create(placed.name) {
         Ok(file) => {
+            let room = &mut placed.room;
             let recorded = record_session(alloc, ready, file, input, room, out, errors);
             let SessionRecording { told, file } = recorded;
             outside.close(file);
@@ -169,36 +172,11 @@ fn create_played<O: Outside, R: Read, W: Write, E: Write>(
     }
 }
 
-/// Attaches a configured station to its link, and plays it.
-fn play_at_line<O: Outside, R: Read, W: Write, E: Write>(
+/// Requests the link of a configured station, attaches the station, and plays it there.
+fn open_and_play<O: Links, R: Read, W: Write, E: Write>(
     alloc: Global,
     set_up: SetUp,
-    address: Address,
-    line: O::Line,
-    room: &mut [u8],
-    name: &str,
-    outside: &mut O,
-    input: &mut R,
-    out: &mut W,
-    errors: &mut E,
-) -> Result<SessionReport, Fault<'static>>
-    requires room { length room.old ≡ LONGEST_LINE + 1 }
-    requires set_up { IsOfScript set_up }
-    ensures { let s : Streams = record { out = record { old = W.contents out.old; new = W.contents out.new }; errors = record { old = E.contents errors.old; new = E.contents errors.new } } in
-        DidMake O.deeds outside.old outside.new (λ deeds. IsAttached O.Line.strangers set_up address name.now (R.remaining input.old) deeds result s) }
-{
-    match attach_station(alloc, set_up, address, line) {
-        Ok(ready) => create_played(alloc, ready, room, name, outside, input, out, errors),
-        Err(_) => Err(Fault::Memory),
-    }
-}
-
-/// Requests the station's link, and plays the station there.
-fn open_and_play<O: Outside, R: Read, W: Write, E: Write>(
-    alloc: Global,
-    set_up: SetUp,
-    placed: Placed,
-    name: &str,
+    placed: Placed<'_>,
     outside: &mut O,
     input: &mut R,
     out: &mut W,
@@ -207,33 +185,30 @@ fn open_and_play<O: Outside, R: Read, W: Write, E: Write>(
     requires room { length placed.room.items ≡ LONGEST_LINE + 1 }
     requires set_up { IsOfScript set_up }
     ensures { let s : Streams = record { out = record { old = W.contents out.old; new = W.contents out.new }; errors = record { old = E.contents errors.old; new = E.contents errors.new } } in
-        DidMake O.deeds outside.old outside.new (λ deeds. HasLine O.Line.strangers set_up placed name.now (R.remaining input.old) deeds result s) }
+        DidMake O.deeds outside.old outside.new (λ deeds. HasLine O.Line.strangers set_up placed.entry placed.entry.name.now (R.remaining input.old) deeds result s) }
 {
-    let Placed {
-        address,
-        bind,
-        peers,
-        anyone,
-        mut room,
-    } = placed;
-    let line = match outside.line_at(alloc, bind, &peers, anyone) {
+    let line = match outside.line_at(alloc, placed.bind, &placed.peers, placed.anyone) {
         Ok(line) => line,
         Err(error) => {
             drop(set_up);
+            drop(placed);
             return Err(of_error(&error, Fault::LineFailed));
         }
     };
-    play_at_line(
-        alloc, set_up, address, line, &mut room, name, outside, input, out, errors,
-    )
+    match attach_station(alloc, set_up, placed.address, line) {
+        Ok(ready) => create_played(alloc, ready, placed, outside, input, out, errors),
+        Err(_) => {
+            drop(placed);
+            Err(Fault::Memory)
+        }
+    }
 }
 
 /// Plays a configured station, with a new recording file. Refuses if a file of this name exists.
-fn play_set_up<O: Outside, R: Read, W: Write, E: Write>(
+fn play_set_up<O: Links, R: Read, W: Write, E: Write>(
     alloc: Global,
     set_up: SetUp,
-    placed: Placed,
-    name: &str,
+    placed: Placed<'_>,
     outside: &mut O,
     input: &mut R,
     out: &mut W,
@@ -242,37 +217,37 @@ fn play_set_up<O: Outside, R: Read, W: Write, E: Write>(
     requires room { length placed.room.items ≡ LONGEST_LINE + 1 }
     requires set_up { IsOfScript set_up }
     ensures { let s : Streams = record { out = record { old = W.contents out.old; new = W.contents out.new }; errors = record { old = E.contents errors.old; new = E.contents errors.new } } in
-        DidMake O.deeds outside.old outside.new (λ deeds. PlaysSetUp O.Line.strangers set_up placed name.now (R.remaining input.old) deeds result s) }
+        DidMake O.deeds outside.old outside.new (λ deeds. PlaysSetUp O.Line.strangers set_up placed.entry placed.entry.name.now (R.remaining input.old) deeds result s) }
 {
-    if outside.is_taken(name) {
+    if outside.is_taken(placed.name) {
         drop(set_up);
         drop(placed);
         return Err(Fault::Exists);
     }
-    open_and_play(alloc, set_up, placed, name, outside, input, out, errors)
+    open_and_play(alloc, set_up, placed, outside, input, out, errors)
 }
 
 /// Opens the script that the words name, and plays its station.
-fn play_file<'a, O: Outside, R: Read, W: Write, E: Write>(
+fn play_file<'a, O: Links, R: Read, W: Write, E: Write>(
     alloc: Global,
     words: &StationWords<'a, &'a str>,
-    placed: Placed,
+    placed: Placed<'a>,
     outside: &mut O,
     input: &mut R,
     out: &mut W,
     errors: &mut E,
 ) -> Result<SessionReport, Fault<'a>>
-    requires { length placed.room.items ≡ LONGEST_LINE + 1 }
+    requires room { length placed.room.items ≡ LONGEST_LINE + 1 }
+    requires name { placed.name.now ≡ words.now.recording.now }
     ensures { let s : Streams = record { out = record { old = W.contents out.old; new = W.contents out.new }; errors = record { old = E.contents errors.old; new = E.contents errors.new } } in
-        Did O.deeds O.holds outside.old outside.new (λ deeds. PlaysFile O.Line.strangers (named_by (λ word. word.now) words.now) placed (R.remaining input.old) deeds result s) }
+        Did O.deeds O.holds outside.old outside.new (λ deeds. PlaysFile O.Line.strangers (named_by (λ word. word.now) words.now) placed.entry (R.remaining input.old) deeds result s) }
 {
     let opened = match outside.open(words.setup) {
         Ok(opened) => opened,
         Err(error) => return Err(open_fault(words.setup, &error)),
     };
-    let name = words.recording;
     match set_up_file(alloc, outside.read(opened), placed.address) {
-        Ok(set_up) => play_set_up(alloc, set_up, placed, name, outside, input, out, errors),
+        Ok(set_up) => play_set_up(alloc, set_up, placed, outside, input, out, errors),
         Err(fault) => Err(fault),
     }
 }
@@ -292,7 +267,7 @@ fn end_played<E: Write>(played: Result<SessionReport, Fault<'_>>, errors: &mut E
 
 /// Plays a station of a script with these words, by the lines of a reader, and returns its ending,
 /// with a fault reported on `errors`.
-pub fn end_station<'a, O: Outside, R: Read + Drop, W: Write, E: Write>(
+pub fn end_station<'a, O: Links, R: Read + Drop, W: Write, E: Write>(
     alloc: Global,
     words: StationWords<'a, &'a str>,
     outside: &mut O,

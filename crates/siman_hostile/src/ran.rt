@@ -1,7 +1,7 @@
 //! Runs of the program with words, files in memory and standard input, in which every call of the
 //! system succeeds.
 
-use siman_console::{Endpoint, Known, Outside, run};
+use siman_console::{Endpoint, Known, Links, Outside, run};
 use siman_trials::{Given, WELL, WireLine, Written, lines_of, read_from, write_to};
 use std::alloc::Global;
 use std::io;
@@ -49,8 +49,6 @@ impl<'a> Outside for MemoryFiles<'a> {
 
     type Made = Written;
 
-    type Line = WireLine;
-
     fn open(&mut self, name: &str) -> io::Result<&'a [u8]> {
         match self.held(name) {
             Some(bytes) => Ok(bytes),
@@ -96,6 +94,14 @@ impl<'a> Outside for MemoryFiles<'a> {
         self.left = Some(file.bytes);
     }
 
+    fn known(&self) -> Known {
+        Known::nothing()
+    }
+}
+
+impl<'a> Links for MemoryFiles<'a> {
+    type Line = WireLine;
+
     fn lines(&mut self, alloc: Global, stations: usize) -> io::Result<Vec<WireLine>> {
         Ok(lines_of(alloc, stations, None)?)
     }
@@ -112,10 +118,6 @@ impl<'a> Outside for MemoryFiles<'a> {
             Some(line) => Ok(line),
             None => Err(io::Error::from(ErrorKind::Other)),
         }
-    }
-
-    fn known(&self) -> Known {
-        Known::nothing()
     }
 }
 

@@ -1,5 +1,5 @@
 -- Calls at stations and their links, one after the other (profile).
-use Rattle.std.specs.Prelude.{◌≡◌, ◌≢◌, ℕ, ◌+◌, ◌<◌, ◌^◌, ◌-◌, min, Bool, true, false, not, ◌||◌, ◌==◌, nat_lt, List, [], ◌∷◌, length, slice_get, slice_set, Option, Some, None, Result, Ok, Err, ◌⊎◌}
+use Rattle.std.specs.Prelude.{◌≡◌, ◌≢◌, ℕ, ◌+◌, ◌<◌, ◌^◌, ◌-◌, min, Bool, false, not, ◌||◌, ◌==◌, nat_lt, List, [], ◌∷◌, length, slice_get, slice_set, Option, Some, Result, Ok, Err, ◌⊎◌}
 use Rattle.std.specs.List.{AllByRecursion, zip}
 use Rattle.exercise_model.specs.Entry.{Entry, Told}
 use Rattle.exercise_model.specs.History.{past}

@@ -33,5 +33,5 @@ pub use station_at_line::{
     StationAtLine, order_at, repeat_at, serve_rounds, stations_at_lines, tell_at,
 };
 pub use telling::tell;
-pub use trouble::{LineCall, LineTrouble, put_line_trouble, system_words};
+pub use trouble::{LineCall, LineTrouble, put_line_trouble, trouble_pieces};
 pub use udp::UdpLine;

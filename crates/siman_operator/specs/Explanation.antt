@@ -1,5 +1,7 @@
 -- Second line of a report: what a person needs to correct a line of text (profile).
 use Rattle.std.specs.Prelude.{ℕ, List, [], ◌++◌, codes, decimal, Option, Some, None}
+use Rattle.byte_files.specs.declared.pieces.PlacedText.{PlacedText}
+use Rattle.byte_files.specs.Pieces.{behind, five, placed_text}
 use Rattle.siman_manager.specs.declared.fault.OrderFault.TheVariants as orders
 use Rattle.siman_stations.specs.declared.station_fault.StationFault.{StationFault}
 use Rattle.siman_stations.specs.declared.station_fault.StationFault.TheVariants as stations
@@ -7,8 +9,6 @@ use Rattle.siman_scripts.specs.ReasonText.{command_text}
 use Rattle.siman_lines.specs.declared.trouble.LineTrouble.{LineTrouble}
 use Rattle.siman_lines.specs.Trouble.{line_trouble_text}
 use Rattle.siman_print.specs.Records.{line_end}
-use Rattle.siman_operator.specs.declared.explanation.SessionReason.{SessionReason}
-use Rattle.siman_operator.specs.declared.explanation.SessionReason.TheVariants.{Words, Alone, Order, Line}
 use Rattle.siman_operator.specs.declared.reason.BadReason.{BadReason}
 use Rattle.siman_operator.specs.declared.reason.BadReason.TheVariants as reasons
 
@@ -24,7 +24,7 @@ bad_text (Some (reasons.NoOrder reason)) = second (command_text reason)
 
 -- the only station that the session plays
 abbrev pub alone_words : (site application : ℕ) → List ℕ
-alone_words site application = (codes "this session plays station " ++ decimal site) ++ ((codes ":" ++ decimal application) ++ codes " alone")
+alone_words site application = five (codes "this session plays station ") (decimal site ++ behind (codes ":") application) (codes " alone") [] []
 
 abbrev pub alone_text : (site application : ℕ) → List ℕ
 alone_text site application = second (alone_words site application)
@@ -45,14 +45,7 @@ abbrev pub lost_text : Option LineTrouble → List ℕ
 lost_text None = []
 lost_text (Some trouble) = second (line_trouble_text trouble)
 
--- Texts.
-
-abbrev pub explanation_text : SessionReason → List ℕ
-explanation_text (Words words) = words.now
-explanation_text (Alone site application) = alone_words site application
-explanation_text (Order reason) = command_text reason
-explanation_text (Line trouble) = line_trouble_text trouble
-
-abbrev pub second_line : Option SessionReason → List ℕ
+-- THE SECOND LINE of an explanation; none without one
+abbrev pub second_line : Option PlacedText → List ℕ
 second_line None = []
-second_line (Some explanation) = second (explanation_text explanation)
+second_line (Some explanation) = second (placed_text explanation)

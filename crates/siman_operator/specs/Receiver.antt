@@ -1,8 +1,9 @@
 -- Receiver of an order for which its script may have no station (profile).
-use Rattle.std.specs.Prelude.{◌≡◌, ◌⊎◌, ℕ, ◌==◌, Bool, ◌||◌, ◌&&◌, List, ◌++◌, codes, decimal, Option, Some, None, Result, Ok, Err, if◌then◌else◌}
+use Rattle.std.specs.Prelude.{◌≡◌, ◌⊎◌, ℕ, ◌==◌, Bool, ◌||◌, ◌&&◌, List, [], ◌++◌, codes, decimal, Option, Some, None, Result, Ok, Err, if◌then◌else◌}
 use Rattle.std.specs.List.{list_any}
 use Rattle.dis_records.specs.declared.address.SiteApplication.{SiteApplication}
 use Rattle.dis_records.specs.Entity.{site_application_of}
+use Rattle.byte_files.specs.Pieces.{behind, five}
 use Rattle.siman_print.specs.Records.{line_end}
 use Rattle.siman_scripts.specs.declared.command.Command.{Command}
 use Rattle.siman_scripts.specs.declared.command.Command.TheVariants as commands
@@ -37,4 +38,4 @@ WarnsOf stations said (Err why) nobody = nobody ≡ None
 -- : the script has no station S:A: add it there, or see whether the address is right
 abbrev pub nobody_text : (site application : ℕ) → List ℕ
 nobody_text site application =
-    (codes ": the script has no station " ++ decimal site) ++ ((codes ":" ++ decimal application) ++ (codes ": add it there, or see whether the address is right" ++ line_end))
+    five (codes ": the script has no station ") (decimal site ++ behind (codes ":") application) (codes ": add it there, or see whether the address is right" ++ line_end) [] []

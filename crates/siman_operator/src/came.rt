@@ -6,11 +6,11 @@ ghost use Rattle.siman_operator.specs.Explanation.{second_line};
 ghost use Rattle.siman_operator.specs.Receiver.{nobody_text};
 ghost use Rattle.siman_operator.specs.Came.{station_fault_name, at_line, named, result_line, why_text, refused_text, line_text, memory_text, output_text, shortage_text, rejection_text, failed_text, warned_line, warning_text, result_of, is_lost, is_out_of_memory, is_unwritten, status_of};
 
-use crate::explanation::{SessionReason, of_bad, of_lost, of_other, of_station, put_second};
+use crate::explanation::{of_bad, of_lost, of_other, of_station, put_second};
 use crate::reason::BadReason;
 use crate::receiver::put_nobody;
 use crate::{LineResult, PrintFault, Rejection};
-use byte_files::{WriteFailed, put, put_both};
+use byte_files::{PlacedText, WriteFailed, put, put_both};
 use dis_records::SiteApplication;
 use itoa::Buffer;
 use siman_lines::LineTrouble;
@@ -121,9 +121,9 @@ fn put_told<E: Write>(
     errors: &mut E,
     number: u64,
     name: &str,
-    explanation: Option<SessionReason>,
+    explanation: Option<PlacedText<'_>>,
 ) -> Result<(), WriteFailed>
-    ensures { Writes result (E.contents errors.old) (E.contents errors.new) (result_line number name.now ++ second_line explanation) }
+    ensures { Writes result (E.contents errors.old) (E.contents errors.new) (result_line number name.now ++ second_line explanation.entry) }
 {
     put_at_line(errors, number, name)?;
     put_second(errors, explanation)

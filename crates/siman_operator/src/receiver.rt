@@ -1,15 +1,13 @@
 //! Receiver of an order for which the script may have no station.
 
-ghost use Rattle.std.specs.Prelude.{◌≡◌, ◌++◌, codes, decimal};
+ghost use Rattle.std.specs.Prelude.{◌≡◌};
 ghost use Rattle.byte_files.specs.Writing.{Writes};
-ghost use Rattle.siman_print.specs.Records.{line_end};
 ghost use Rattle.siman_operator.specs.Reading.{said_by};
 ghost use Rattle.siman_operator.specs.Receiver.{gets, is_got, missing, absent_receiver, WarnsOf, nobody_text};
 
 use crate::Rejection;
-use crate::explanation::put_behind;
 use crate::reading::line_or_placeholder;
-use byte_files::{WriteFailed, put};
+use byte_files::{TextPiece, WriteFailed, put_pieces, three_pieces};
 use dis_records::{Address, SiteApplication};
 use siman_scripts::{Command, StationTask, read_command};
 use std::alloc::Global;
@@ -77,17 +75,6 @@ pub(crate) fn warned_receiver(
     }
 }
 
-/// Writes the application of the receiver, and what to do.
-fn put_nobody_there<E: Write>(errors: &mut E, application: u16) -> Result<(), WriteFailed>
-    ensures { Writes result (E.contents errors.old) (E.contents errors.new) ((codes ":" ++ decimal application) ++ (codes ": add it there, or see whether the address is right" ++ line_end)) }
-{
-    put_behind(errors, ":", application)?;
-    put(
-        errors,
-        b": add it there, or see whether the address is right\n",
-    )
-}
-
 /// Writes the address of a station that the script lacks, and what to do.
 pub(crate) fn put_nobody<E: Write>(
     errors: &mut E,
@@ -96,6 +83,10 @@ pub(crate) fn put_nobody<E: Write>(
 ) -> Result<(), WriteFailed>
     ensures { Writes result (E.contents errors.old) (E.contents errors.new) (nobody_text site application) }
 {
-    put_behind(errors, ": the script has no station ", site)?;
-    put_nobody_there(errors, application)
+    let text = three_pieces(
+        TextPiece::Words(": the script has no station "),
+        TextPiece::Address(site, application),
+        TextPiece::Words(": add it there, or see whether the address is right\n"),
+    );
+    put_pieces(errors, text)
 }

@@ -16,41 +16,35 @@ use Rattle.exercise_recording.specs.declared.mending.MendFault.TheVariants as me
 use Rattle.exercise_check.specs.declared.certificate_fault.CertificateFault.{CertificateFault}
 use Rattle.exercise_check.specs.declared.certificate_fault.CertificateFault.TheVariants as certificates
 use Rattle.exercise_check.specs.FaultText as certificate_texts
-use Rattle.siman_manager.specs.declared.fault.OrderFault.TheVariants as orders
-use Rattle.siman_scripts.specs.declared.script_fault.ScriptFault.{ScriptFault}
-use Rattle.siman_scripts.specs.declared.script_fault.ScriptFault.TheVariants as scripts
-use Rattle.siman_stations.specs.declared.world_fault.MoveFault.{MoveFault}
-use Rattle.siman_stations.specs.declared.world_fault.MoveFault.TheVariants as moves
-use Rattle.siman_stations.specs.declared.world_fault.WorldFault.{WorldFault}
-use Rattle.siman_stations.specs.declared.world_fault.WorldFault.TheVariants as worlds
 use Rattle.siman_outside.specs.declared.place.Place.{Place}
 use Rattle.siman_outside.specs.declared.place.Place.TheVariants as places
 use Rattle.siman_outside.specs.declared.place.Place.TheVariants.{Offset, Line, Move, PieceOffset, PieceStation, Unopened}
 use Rattle.siman_outside.specs.declared.unopened.OpenFault.{OpenFault}
 use Rattle.siman_outside.specs.declared.unopened.OpenFault.TheVariants.{Missing, Denied, Directory, Other}
+use Rattle.siman_outside.specs.declared.move_refusal.MoveRefusal.{MoveRefusal}
+use Rattle.siman_outside.specs.declared.move_refusal.MoveRefusal.TheVariants as moves
 use Rattle.siman_outside.specs.declared.join_limit.JoinLimit.{JoinLimit}
 use Rattle.siman_outside.specs.declared.join_limit.JoinLimit.TheVariants as limits
 use Rattle.siman_outside.specs.declared.fault.Fault.{Fault}
 use Rattle.siman_outside.specs.declared.fault.Ended.{Ended}
-use Rattle.siman_outside.specs.declared.fault.Fault.TheVariants.{NotBytePairs, HexLine, Input, File, Words, Recording, Already, Piece, OtherExercise, StationTwice, Joined, Certificate, Script, ScriptRead, World, LineFailed, StationWord, NotInSetup, Filter, Step, OverLimit, ChartOverLimit, Output, SameAs, Exists, Memory}
+use Rattle.siman_outside.specs.declared.fault.Fault.TheVariants as faults
+use Rattle.siman_outside.specs.declared.fault.Fault.TheVariants.{NotBytePairs, HexLine, Input, File, Words, Recording, Already, Piece, OtherExercise, StationTwice, Joined, Certificate, BadLine, UnknownStation, ScriptRead, WorldStations, LineFailed, StationWord, NotInSetup, Filter, Step, OverLimit, ChartOverLimit, Output, SameAs, Exists, Memory}
 use Rattle.siman_outside.specs.declared.files_fault.FilesFault.{FilesFault}
 use Rattle.siman_outside.specs.declared.files_fault.FilesFault.TheVariants as files
 use Rattle.siman_outside.specs.declared.input.InputFault.{InputFault}
 use Rattle.siman_outside.specs.declared.input.InputFault.TheVariants as inputs
-use Rattle.siman_outside.specs.declared.trial_fault.TrialFault.{TrialFault}
-use Rattle.siman_outside.specs.declared.trial_fault.TrialFault.TheVariants as trials
 use Rattle.siman_print.specs.Records.{line_end}
 
--- the name of a move's fault
-abbrev pub move_fault_name : MoveFault → List ℕ
-move_fault_name moves.Records = codes "records"
-move_fault_name moves.NoSuchStation = codes "no-such-station"
-move_fault_name moves.NoSuchSend = codes "no-such-send"
-move_fault_name moves.NoSuchEntity = codes "no-such-entity"
-move_fault_name moves.NotARequest = codes "not-a-request"
-move_fault_name (moves.Order orders.IdsSpent) = codes "ids-spent"
-move_fault_name (moves.Order orders.TooLong) = codes "too-long"
-move_fault_name (moves.Order orders.Memory) = codes "memory"
+-- the name of the reason why a move is refused
+abbrev pub refusal_name : MoveRefusal → List ℕ
+refusal_name moves.Records = codes "records"
+refusal_name moves.NoSuchStation = codes "no-such-station"
+refusal_name moves.NoSuchSend = codes "no-such-send"
+refusal_name moves.NoSuchEntity = codes "no-such-entity"
+refusal_name moves.NotARequest = codes "not-a-request"
+refusal_name moves.IdsSpent = codes "ids-spent"
+refusal_name moves.TooLong = codes "too-long"
+refusal_name moves.Memory = codes "memory"
 
 -- the name of a limit that joined pieces pass
 abbrev pub limit_name : JoinLimit → List ℕ
@@ -91,13 +85,11 @@ reported_as (Joined limit) = (codes "join: ", limit_name limit, None)
 reported_as (Certificate (certificates.Format f)) = (codes "certificate: ", certificate_texts.name_of f, Some (Offset (certificate_texts.place_of f)))
 reported_as (Certificate certificates.Read) = (codes "certificate: ", codes "read", None)
 reported_as (Certificate certificates.Memory) = (codes "certificate: ", codes "memory", None)
-reported_as (Script (scripts.BadLine line) why) = (codes "script: ", codes "bad-line", Some (Line line))
-reported_as (Script (scripts.UnknownStation line) why) = (codes "script: ", codes "unknown-station", Some (Line line))
-reported_as (Script scripts.Memory why) = (codes "script: ", codes "memory", None)
+reported_as (BadLine line why) = (codes "script: ", codes "bad-line", Some (Line line))
+reported_as (UnknownStation line why) = (codes "script: ", codes "unknown-station", Some (Line line))
 reported_as (ScriptRead failed) = (codes "script: ", codes "read", None)
-reported_as (World worlds.Stations there) = (codes "world: ", codes "stations", None)
-reported_as (World (worlds.Move number fault) there) = (codes "world: ", move_fault_name fault, Some (Move number))
-reported_as (World worlds.Memory there) = (codes "world: ", codes "memory", None)
+reported_as WorldStations = (codes "world: ", codes "stations", None)
+reported_as (faults.Move number refusal there) = (codes "world: ", refusal_name refusal, Some (Move number))
 reported_as LineFailed = (codes "live: ", codes "line", None)
 reported_as (StationWord word) = (codes "station: address ", word.now, None)
 reported_as NotInSetup = (codes "station: ", codes "not-in-setup", None)
@@ -169,33 +161,16 @@ of_mend (mends.Recording fault) = of_recording fault
 of_mend mends.Write = Output
 of_mend mends.Memory = Memory
 
--- the fault of a command for the fault of a script
-abbrev pub of_script : ScriptFault → Fault
-of_script scripts.Memory = Memory
-of_script fault = Script fault None
-
--- the fault of a command for a script that was not read whole; the fault of a world; the fault of a judged certificate
+-- the fault of a command for a script that was not read whole, and for a judged certificate
 abbrev pub of_unread_script : InputFault → Fault
 of_unread_script (inputs.Unread failed) = ScriptRead failed
 of_unread_script inputs.Memory = Memory
-
-abbrev pub of_world : WorldFault → Fault
-of_world worlds.Memory = Memory
-of_world fault = World fault None
 
 abbrev pub of_files : FilesFault → Fault
 of_files (files.Recording fault) = Recording fault
 of_files (files.Certificate fault) = Certificate fault
 of_files files.Write = Output
 of_files files.Memory = Memory
-
--- the fault of a command for the fault of a trial
-abbrev pub of_trial : TrialFault → Fault
-of_trial (trials.Read failed) = ScriptRead failed
-of_trial (trials.Script fault) = Script fault None
-of_trial (trials.World fault) = World fault None
-of_trial trials.Write = Output
-of_trial trials.Memory = Memory
 
 -- the exit status of an answer or a fault
 abbrev pub status_of : Result ℕ Fault → ℕ

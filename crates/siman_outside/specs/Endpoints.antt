@@ -1,7 +1,6 @@
 -- Endpoints of sockets, as words of a command line: IP:PORT (profile).
 use Rattle.std.specs.Prelude.{ℕ, List, nat_le, ◌==◌, Option, Some, None, if◌then◌else◌}
-use Rattle.byte_files.specs.Text.{cut_at, number_to}
-use Rattle.siman_scripts.specs.Statement.{◌>>=◌}
+use Rattle.byte_files.specs.Text.{cut_at, number_to, ◌>>=◌}
 use Rattle.siman_outside.specs.declared.endpoint.Endpoint.{Endpoint}
 
 -- one of the four numbers of an address, 0 to 255

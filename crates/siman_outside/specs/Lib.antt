@@ -1,7 +1,6 @@
 pub mod Outside
 pub mod Ending
 pub mod FilesFaults
-pub mod TrialFaults
 pub mod Endpoints
 pub mod Making
 pub mod Opening
@@ -13,3 +12,4 @@ pub mod FileKinds
 pub mod Notes
 pub mod Words
 pub mod Reasons
+pub mod ShortTexts

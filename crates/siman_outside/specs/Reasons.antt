@@ -3,43 +3,20 @@ use Rattle.std.specs.Prelude.{◌≡◌, ◌⊎◌, ⊤, ℕ, zero, suc, ◌-◌
 use Rattle.std.specs.Io.KnownBytes.{Keeps}
 use Rattle.byte_files.specs.Writing.{Writes}
 use Rattle.byte_files.specs.declared.output.WriteFailed.{WriteFailed}
-use Rattle.siman_scripts.specs.ReasonText.{reason_text}
-use Rattle.siman_manager.specs.declared.fault.OrderFault.TheVariants as orders
-use Rattle.siman_stations.specs.declared.world_fault.MoveFault.{MoveFault}
-use Rattle.siman_stations.specs.declared.world_fault.MoveFault.TheVariants as moves
-use Rattle.siman_stations.specs.declared.world_fault.WorldFault.TheVariants as worlds
-use Rattle.siman_lines.specs.Trouble.{line_trouble_text}
+use Rattle.byte_files.specs.Pieces.{five, pieces_text}
 use Rattle.siman_print.specs.Records.{line_end}
 use Rattle.siman_outside.specs.declared.fault.Fault.{Fault}
-use Rattle.siman_outside.specs.declared.fault.Fault.TheVariants.{Script, World, Step}
-use Rattle.siman_outside.specs.declared.move_place.MovePlace.{MovePlace}
-use Rattle.siman_outside.specs.declared.notes.Warning.{Warning}
-use Rattle.siman_outside.specs.declared.notes.Warning.TheVariants as warnings
-use Rattle.siman_outside.specs.declared.pieces.TextPiece.{TextPiece}
-use Rattle.siman_outside.specs.declared.pieces.TextPiece.TheVariants as kinds
-use Rattle.siman_outside.specs.declared.pieces.TextPieces.{TextPieces}
+use Rattle.siman_outside.specs.declared.fault.Fault.TheVariants.{BadLine, UnknownStation, Move, Step}
+use Rattle.siman_outside.specs.ShortTexts.{short_bytes}
+use Rattle.siman_outside.specs.declared.move_refusal.MovePlace.{MovePlace}
+use Rattle.siman_outside.specs.declared.move_refusal.MoveRefusal.{MoveRefusal}
+use Rattle.siman_outside.specs.declared.move_refusal.MoveRefusal.TheVariants as moves
 use Rattle.siman_outside.specs.declared.reason.Reason.{Reason}
 use Rattle.siman_outside.specs.declared.reason.Reason.TheVariants as reasons
+use Rattle.siman_outside.specs.declared.notes.Warning.{Warning}
+use Rattle.siman_outside.specs.declared.notes.Warning.TheVariants as warnings
 
--- Pieces of a text.
-
-abbrev pub piece_text : TextPiece → List ℕ
-piece_text (kinds.Name name) = name.now
-piece_text (kinds.Words words) = words.now
-piece_text (kinds.Number n) = decimal n
-piece_text (kinds.Address site application) = decimal site ++ (codes ":" ++ decimal application)
-piece_text kinds.Nothing = []
-
-abbrev pub five : List ℕ → List ℕ → List ℕ → List ℕ → List ℕ → List ℕ
-five a b c d e = a ++ (b ++ (c ++ (d ++ e)))
-
-abbrev pub pieces_text : TextPieces → List ℕ
-pieces_text p = five (piece_text p.first) (piece_text p.second) (piece_text p.third) (piece_text p.fourth) (piece_text p.fifth)
-
-abbrev pub pieces : TextPiece → TextPiece → TextPiece → TextPiece → TextPiece → TextPieces
-pieces a b c d e = record { first = a; second = b; third = c; fourth = d; fifth = e }
-
--- Of a move that cannot be made.
+-- Of a move that is refused.
 
 -- the number of a script's line, and words behind it
 abbrev pub line_text : (line : ℕ) → (told : List ℕ) → List ℕ
@@ -55,21 +32,21 @@ abbrev pub sent_text : (line : ℕ) → Option ℕ → List ℕ
 sent_text line None = line_text line (codes ": that datagram was not sent before it")
 sent_text line (Some sends) = known_text line sends
 
--- why a move cannot be made
-abbrev pub move_words : MoveFault → List ℕ
-move_words moves.Records = codes ": a recording has at most 1048576 entries"
-move_words moves.NoSuchStation = codes ": the script has no such station"
-move_words moves.NoSuchSend = codes ": that datagram was not sent before it"
-move_words moves.NoSuchEntity = codes ": the number of an entity is from 1 to 65533"
-move_words moves.NotARequest = codes ": only requests are ordered"
-move_words (moves.Order orders.IdsSpent) = codes ": no request identifier is left: begin with a smaller first="
-move_words (moves.Order orders.TooLong) = codes ": its PDU would have more than 8192 bytes: ask for fewer data"
-move_words (moves.Order orders.Memory) = codes ": memory ran out"
+-- why a move is refused, in words
+abbrev pub refusal_words : MoveRefusal → List ℕ
+refusal_words moves.Records = codes ": a recording has at most 1048576 entries"
+refusal_words moves.NoSuchStation = codes ": the script has no such station"
+refusal_words moves.NoSuchSend = codes ": that datagram was not sent before it"
+refusal_words moves.NoSuchEntity = codes ": the number of an entity is from 1 to 65533"
+refusal_words moves.NotARequest = codes ": only requests are ordered"
+refusal_words moves.IdsSpent = codes ": no request identifier is left: begin with a smaller first="
+refusal_words moves.TooLong = codes ": its PDU would have more than 8192 bytes: ask for fewer data"
+refusal_words moves.Memory = codes ": memory ran out"
 
--- the line of a move in its script, and why it cannot be made, or which would do
-abbrev pub move_text : MovePlace → MoveFault → List ℕ
+-- the line of a move in its script, and why the move is refused, or which would do
+abbrev pub move_text : MovePlace → MoveRefusal → List ℕ
 move_text place moves.NoSuchSend = sent_text place.line place.sends
-move_text place fault = line_text place.line (move_words fault)
+move_text place refusal = line_text place.line (refusal_words refusal)
 
 -- Of a word that names a step past the last one.
 
@@ -80,8 +57,7 @@ step_text (suc last) = five (codes "the number of steps is ") (decimal (suc last
 -- Of a reason.
 
 abbrev pub reason_words : Reason → List ℕ
-reason_words (reasons.Script why) = reason_text why
-reason_words (reasons.Line trouble) = line_trouble_text trouble
+reason_words (reasons.Short text) = short_bytes text
 reason_words (reasons.Text pieces) = pieces_text pieces
 
 -- The text says that a file is no script and looks like one of another kind.
@@ -90,8 +66,9 @@ IsForeign text = (name kind : List ℕ) × (text ≡ five name (codes " is no sc
 
 -- THE REASON OF A FAULT, if the input determines it: why a line of a script is refused or what kind of file it looks like, the place of a move and which would do, or the last step. The text for any other fault is in no contract.
 abbrev pub IsReason : Fault → (text : List ℕ) → Type 0
-IsReason (Script fault (Some why)) text = (text ≡ reason_text why) ⊎ IsForeign text
-IsReason (World (worlds.Move number fault) (Some place)) text = text ≡ move_text place fault
+IsReason (BadLine line (Some why)) text = (text ≡ short_bytes why) ⊎ IsForeign text
+IsReason (UnknownStation line (Some why)) text = (text ≡ short_bytes why) ⊎ IsForeign text
+IsReason (Move number refusal (Some place)) text = text ≡ move_text place refusal
 IsReason (Step word steps) text = text ≡ step_text steps
 IsReason other text = ⊤
 

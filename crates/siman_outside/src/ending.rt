@@ -6,7 +6,7 @@ ghost use Rattle.siman_outside.specs.Outside.{begun_by};
 
 use crate::fault::{Ended, Fault, end};
 use crate::notes::{Notes, Warning};
-use siman_lines::LineTrouble;
+use crate::short_texts::ShortText;
 use std::io::Write;
 
 /// The ending of a command, and what its explanation needs.
@@ -17,8 +17,8 @@ pub struct Ending<'a> {
     pub fault: Option<Fault<'a>>,
     /// The name of the recording that the command began before its fault, which can be mended.
     pub begun: Option<&'a str>,
-    /// The last failed call of a station's link, as the link reported it.
-    pub trouble: Option<LineTrouble>,
+    /// The last failed call of a station's link, in words.
+    pub trouble: Option<ShortText>,
     /// The warning to print, if any.
     pub warning: Option<Warning>,
 }

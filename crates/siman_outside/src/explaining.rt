@@ -11,12 +11,9 @@ use crate::fault::Ended;
 use crate::known::Known;
 use crate::named::Named;
 use crate::notes::Warning;
-use crate::pieces::put_pieces;
 use crate::reason::{Reason, reason_of};
 use crate::warning::warning_pieces;
-use byte_files::{WriteFailed, put, put_both};
-use siman_lines::put_line_trouble;
-use siman_scripts::put_reason;
+use byte_files::{WriteFailed, put, put_both, put_pieces};
 use std::io::Write;
 
 /// Writes a reason, without a line end.
@@ -24,8 +21,7 @@ fn put_words<W: Write>(writer: &mut W, reason: Reason<'_>) -> Result<(), WriteFa
     ensures { Writes result (W.contents writer.old) (W.contents writer.new) (reason_words reason.entry) }
 {
     match reason {
-        Reason::Script(why) => put_reason(writer, why),
-        Reason::Line(trouble) => put_line_trouble(writer, trouble),
+        Reason::Short(text) => put(writer, text.bytes()),
         Reason::Text(pieces) => put_pieces(writer, pieces),
     }
 }

@@ -4,20 +4,18 @@ ghost use Rattle.std.specs.Prelude.{◌≡◌, Some};
 ghost use Rattle.std.specs.IoError.{error_kind};
 ghost use Rattle.byte_files.specs.Writing.{Writes};
 ghost use Rattle.siman_outside.specs.declared.fault.Fault.TheVariants.{Memory};
-ghost use Rattle.siman_outside.specs.Ending.{reported_as, place_text, fault_text, fault_line, fault_status, IsFaultOf, of_recording, of_convert, of_mend, of_files, of_script, of_world, of_trial, of_unread_script, of_certificate, Ends};
+ghost use Rattle.siman_outside.specs.Ending.{reported_as, place_text, fault_text, fault_line, fault_status, IsFaultOf, of_recording, of_convert, of_mend, of_files, of_unread_script, of_certificate, Ends};
 
 use crate::files_fault::FilesFault;
 use crate::input::{InputFault, Unread};
 use crate::join_limit::JoinLimit;
-use crate::move_place::{MovePlace, move_fault_name};
+use crate::move_refusal::{MovePlace, MoveRefusal};
 use crate::place::{Place, put_place};
-use crate::trial_fault::TrialFault;
+use crate::short_texts::ShortText;
 use crate::unopened::OpenFault;
 use byte_files::{WriteFailed, put, put_both};
 use exercise_check::CertificateFault;
 use exercise_recording::{ConvertFault, MendFault, RecordingFault};
-use siman_scripts::{LineReason, ScriptFault};
-use siman_stations::WorldFault;
 use std::alloc::{AllocError, AllocFailed};
 use std::io::{ErrorKind, Write};
 use std::{fmt, io};
@@ -50,13 +48,18 @@ pub enum Fault<'a> {
     Joined(JoinLimit),
     /// The certificate could not be read. Lack of memory is `Memory`.
     Certificate(CertificateFault),
-    /// The text is no script; the reason, if it is known. Lack of memory is `Memory`.
-    Script(ScriptFault, Option<LineReason>),
+    /// The line of this number, from 1, of the script has no form of a script's line; why, if it is
+    /// known.
+    BadLine(usize, Option<ShortText>),
+    /// The line of this number, from 1, names a station that the script does not have; why, if it
+    /// is known.
+    UnknownStation(usize, Option<ShortText>),
     /// The script could not be read.
     ScriptRead(Unread),
-    /// The world of the script does not run; the place of the move that cannot be made, if it is
-    /// known. Lack of memory is `Memory`.
-    World(WorldFault, Option<MovePlace>),
+    /// A station of the script opens with more entities than one may have.
+    WorldStations,
+    /// The move of this number, from 0, of the script is refused; its place, if it is known.
+    Move(usize, MoveRefusal, Option<MovePlace>),
     /// The link of a station could not be opened, or a call of it failed.
     LineFailed,
     /// This word is no address of a station, or no endpoint of a socket.
@@ -129,19 +132,15 @@ impl<'a> Fault<'a> {
             ),
             Fault::Certificate(CertificateFault::Read) => ("certificate: ", "read", None),
             Fault::Certificate(CertificateFault::Memory) => ("certificate: ", "memory", None),
-            Fault::Script(ScriptFault::BadLine(line), _) => {
-                ("script: ", "bad-line", Some(Place::Line(line)))
-            }
-            Fault::Script(ScriptFault::UnknownStation(line), _) => {
+            Fault::BadLine(line, _) => ("script: ", "bad-line", Some(Place::Line(line))),
+            Fault::UnknownStation(line, _) => {
                 ("script: ", "unknown-station", Some(Place::Line(line)))
             }
-            Fault::Script(ScriptFault::Memory, _) => ("script: ", "memory", None),
             Fault::ScriptRead(_) => ("script: ", "read", None),
-            Fault::World(WorldFault::Stations, _) => ("world: ", "stations", None),
-            Fault::World(WorldFault::Move(number, fault), _) => {
-                ("world: ", move_fault_name(fault), Some(Place::Move(number)))
+            Fault::WorldStations => ("world: ", "stations", None),
+            Fault::Move(number, refusal, _) => {
+                ("world: ", refusal.name(), Some(Place::Move(number)))
             }
-            Fault::World(WorldFault::Memory, _) => ("world: ", "memory", None),
             Fault::LineFailed => ("live: ", "line", None),
             Fault::StationWord(word) => ("station: address ", word, None),
             Fault::NotInSetup => ("station: ", "not-in-setup", None),
@@ -264,42 +263,6 @@ impl From<FilesFault> for Fault<'_> {
             FilesFault::Certificate(fault) => Fault::Certificate(fault),
             FilesFault::Write => Fault::Output,
             FilesFault::Memory => Fault::Memory,
-        }
-    }
-}
-
-impl From<ScriptFault> for Fault<'_> {
-    ghost from_gives = { λ fault e. e ≡ of_script fault };
-
-    fn from(fault: ScriptFault) -> Self {
-        match fault {
-            ScriptFault::Memory => Fault::Memory,
-            ScriptFault::BadLine(_) | ScriptFault::UnknownStation(_) => Fault::Script(fault, None),
-        }
-    }
-}
-
-impl From<WorldFault> for Fault<'_> {
-    ghost from_gives = { λ fault e. e ≡ of_world fault };
-
-    fn from(fault: WorldFault) -> Self {
-        match fault {
-            WorldFault::Memory => Fault::Memory,
-            WorldFault::Stations | WorldFault::Move(..) => Fault::World(fault, None),
-        }
-    }
-}
-
-impl From<TrialFault> for Fault<'_> {
-    ghost from_gives = { λ fault e. e ≡ of_trial fault };
-
-    fn from(fault: TrialFault) -> Self {
-        match fault {
-            TrialFault::Read(failed) => Fault::ScriptRead(failed),
-            TrialFault::Script(fault) => Fault::Script(fault, None),
-            TrialFault::World(fault) => Fault::World(fault, None),
-            TrialFault::Write => Fault::Output,
-            TrialFault::Memory => Fault::Memory,
         }
     }
 }

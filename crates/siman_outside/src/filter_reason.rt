@@ -1,7 +1,7 @@
 //! Reasons for words that are no filter of a view, or select no steps of a picture.
 
 use crate::commands::ViewWord;
-use crate::pieces::{TextPieces, words};
+use byte_files::{TextPieces, words_alone};
 
 /// The values of a key that all views have, if the word begins with one.
 fn shared_words(word: &str) -> Option<&'static str> {
@@ -48,9 +48,9 @@ pub(crate) fn filter_pieces(word: &str, view: Option<ViewWord>) -> TextPieces<'s
             word,
             "the filters of count are station=S:A, entity=S:A:E, request=S:A/N and kind=NAME",
         ),
-        None => return words(
+        None => return words_alone(
             "the words of chart are from=STEP and to=STEP, each at most once, the first not above the last",
         ),
     };
-    words(shared_words(word).unwrap_or(own))
+    words_alone(shared_words(word).unwrap_or(own))
 }

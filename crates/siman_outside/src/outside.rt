@@ -1,19 +1,14 @@
-//! The surroundings of a program: its files and links.
+//! The surroundings of a program: its files.
 
-use crate::endpoint::Endpoint;
 use crate::known::Known;
-use siman_lines::Line;
-use std::alloc::Global;
 use std::io;
 use std::io::{Read, Write};
 
-/// The files that a program may open and make, and the links that it may open. For contracts an
-/// implementation may say what its files hold and which calls were made; that of the operating
-/// system says neither.
+/// The files that a program may open and make. For contracts an implementation may say what its
+/// files hold and which calls were made; that of the operating system says neither.
 pub trait Outside {
-    ghost use Rattle.std.specs.Prelude.{◌≡◌, ◌∷◌, [], ℕ, List, Option, Some, None, IfOk, slice_get};
-    ghost use Rattle.siman_lines.specs.Calls.{IsUnused};
-    ghost use Rattle.siman_outside.specs.Outside.{Found, Deed, Opens, Compares, Reads, LooksInto, Makes, Saves, Discards, LooksFor, Lines, Binds, Creates, Leaves, found_by, save_result, count_result, call_result, Adds, IsHeld, IsFresh};
+    ghost use Rattle.std.specs.Prelude.{◌≡◌, ◌∷◌, [], ℕ, List, Option, None};
+    ghost use Rattle.siman_outside.specs.Outside.{Found, Deed, Opens, Compares, Reads, LooksInto, Makes, Saves, Discards, LooksFor, Creates, Leaves, found_by, save_result, Adds, IsHeld, IsFresh};
 
     /// A file opened for reading, of which nothing was read yet.
     type Opened: Drop;
@@ -24,9 +19,6 @@ pub trait Outside {
     /// A file made for writing. Flushing a regular file of `make` makes all that was written to it
     /// survive a power loss; for a file written in place a flush promises nothing.
     type Made: Write + Drop;
-
-    /// The end of a network at one station.
-    type Line: Line + Drop;
 
     /// The calls so far, oldest first, if they are known.
     ghost deeds: { Self → Option (List Deed) } = { λ _. None };
@@ -88,23 +80,6 @@ pub trait Outside {
     /// Closes a created file, and leaves it as it is.
     fn close(&mut self, file: Self::Made)
         ensures done { Adds (deeds self.old) (deeds self.new) (Leaves (Self.Made.contents file) ∷ []) };
-
-    /// The links of `stations` stations, each of which sends to all others, and none of which was
-    /// used. No file is opened or made.
-    fn lines(&mut self, alloc: Global, stations: usize) -> io::Result<Vec<Self::Line>>
-        ensures done { Adds (deeds self.old) (deeds self.new) (Lines stations (count_result result) ∷ []) }
-        ensures unused { IfOk result (λ lines. (number : ℕ) (l : Self.Line) → slice_get lines.items number ≡ Some l → IsUnused (Self.Line.sent l)) };
-
-    /// The link of one station: a socket bound to `bind` that may broadcast. It sends to each of
-    /// `peers`, and hears them alone, or anyone (`anyone`). No file is opened or made.
-    fn line_at(
-        &mut self,
-        alloc: Global,
-        bind: Endpoint,
-        peers: &[Endpoint],
-        anyone: bool,
-    ) -> io::Result<Self::Line>
-        ensures done { Adds (deeds self.old) (deeds self.new) (Binds bind peers.now anyone (call_result result) ∷ []) };
 
     /// Details of the calls so far that explain a fault. No contract speaks of them: they are the
     /// system's own reports.

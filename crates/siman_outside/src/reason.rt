@@ -1,7 +1,8 @@
 //! The reason of a fault: the line behind its first line that explains it to a person.
 
 ghost use Rattle.std.specs.Prelude.{◌≡◌, ℕ, List, None, IfSome};
-ghost use Rattle.siman_outside.specs.Reasons.{IsForeign, line_text, known_text, sent_text, move_words, move_text, step_text, pieces_text, reason_words, IsReason};
+ghost use Rattle.byte_files.specs.Pieces.{pieces_text};
+ghost use Rattle.siman_outside.specs.Reasons.{IsForeign, line_text, known_text, sent_text, refusal_words, move_text, step_text, reason_words, IsReason};
 
 use crate::fault::Fault;
 use crate::file_kind::FileKind;
@@ -12,21 +13,17 @@ use crate::filter_reason::filter_pieces;
 use crate::join_limit::JoinLimit;
 use crate::known::{Known, SystemCall, SystemFault};
 use crate::limits::LARGEST_RECORDING;
-use crate::move_place::MovePlace;
+use crate::move_refusal::{MovePlace, MoveRefusal};
 use crate::named::Named;
-use crate::pieces::{TextPiece, TextPieces, five, named, named_twice, two_named, words};
-use siman_lines::{LineTrouble, system_words};
-use siman_manager::OrderFault;
-use siman_scripts::LineReason;
-use siman_stations::{MoveFault, WorldFault};
+use crate::named_text::{named, named_twice, two_named};
+use crate::short_texts::ShortText;
+use byte_files::{TextPiece, TextPieces, five_pieces, system_words, words_alone};
 
 /// The reason of a fault.
 #[derive(Clone, Copy)]
 pub(crate) enum Reason<'a> {
-    /// Why a line of a script is refused.
-    Script(LineReason),
-    /// A failed call of a station's link, as the link reported it.
-    Line(LineTrouble),
+    /// A text that came with the fault.
+    Short(ShortText),
     /// A text in pieces.
     Text(TextPieces<'a>),
 }
@@ -35,7 +32,7 @@ pub(crate) enum Reason<'a> {
 fn line_pieces(line: usize, told: &'static str) -> TextPieces<'static>
     ensures { pieces_text result ≡ line_text line told.now }
 {
-    five(
+    five_pieces(
         TextPiece::Words("line "),
         TextPiece::Number(line as u64),
         TextPiece::Words(told),
@@ -51,7 +48,7 @@ fn known_pieces(line: usize, sends: usize) -> TextPieces<'static>
     if sends == 0 {
         return line_pieces(line, ": no datagram was sent before it");
     }
-    five(
+    five_pieces(
         TextPiece::Words("line "),
         TextPiece::Number(line as u64),
         TextPiece::Words(": only the datagrams 0 to "),
@@ -70,34 +67,30 @@ fn sent_pieces(line: usize, sends: Option<usize>) -> TextPieces<'static>
     }
 }
 
-/// Why a move cannot be made.
-fn move_words(fault: MoveFault) -> &'static str
-    ensures { result.now ≡ move_words fault }
+/// Why a move is refused, in words.
+fn refusal_words(refusal: MoveRefusal) -> &'static str
+    ensures { result.now ≡ refusal_words refusal }
 {
-    match fault {
-        MoveFault::Records => ": a recording has at most 1048576 entries",
-        MoveFault::NoSuchStation => ": the script has no such station",
-        MoveFault::NoSuchSend => ": that datagram was not sent before it",
-        MoveFault::NoSuchEntity => ": the number of an entity is from 1 to 65533",
-        MoveFault::NotARequest => ": only requests are ordered",
-        MoveFault::Order(OrderFault::IdsSpent) => {
-            ": no request identifier is left: begin with a smaller first="
-        }
-        MoveFault::Order(OrderFault::TooLong) => {
-            ": its PDU would have more than 8192 bytes: ask for fewer data"
-        }
-        MoveFault::Order(OrderFault::Memory) => ": memory ran out",
+    match refusal {
+        MoveRefusal::Records => ": a recording has at most 1048576 entries",
+        MoveRefusal::NoSuchStation => ": the script has no such station",
+        MoveRefusal::NoSuchSend => ": that datagram was not sent before it",
+        MoveRefusal::NoSuchEntity => ": the number of an entity is from 1 to 65533",
+        MoveRefusal::NotARequest => ": only requests are ordered",
+        MoveRefusal::IdsSpent => ": no request identifier is left: begin with a smaller first=",
+        MoveRefusal::TooLong => ": its PDU would have more than 8192 bytes: ask for fewer data",
+        MoveRefusal::Memory => ": memory ran out",
     }
 }
 
-/// The line of a move in its script, and why the move cannot be made, or which would do.
-fn move_pieces(place: MovePlace, fault: MoveFault) -> TextPieces<'static>
-    ensures { pieces_text result ≡ move_text place fault }
+/// The line of a move in its script, and why the move is refused, or which would do.
+fn move_pieces(place: MovePlace, refusal: MoveRefusal) -> TextPieces<'static>
+    ensures { pieces_text result ≡ move_text place refusal }
 {
-    if let MoveFault::NoSuchSend = fault {
+    if let MoveRefusal::NoSuchSend = refusal {
         return sent_pieces(place.line, place.sends);
     }
-    line_pieces(place.line, move_words(fault))
+    line_pieces(place.line, refusal_words(refusal))
 }
 
 /// The number of steps, and the last step.
@@ -105,9 +98,9 @@ fn step_pieces(steps: usize) -> TextPieces<'static>
     ensures { pieces_text result ≡ step_text steps }
 {
     if steps == 0 {
-        return words("there are no steps");
+        return words_alone("there are no steps");
     }
-    five(
+    five_pieces(
         TextPiece::Words("the number of steps is "),
         TextPiece::Number(steps as u64),
         TextPiece::Words(": the last is "),
@@ -119,9 +112,9 @@ fn step_pieces(steps: usize) -> TextPieces<'static>
 /// The limit that pieces pass together.
 fn limit_pieces(limit: JoinLimit) -> TextPieces<'static> {
     match limit {
-        JoinLimit::Stations => words("a recording has at most 256 stations"),
-        JoinLimit::Records => words("a recording has at most 1048576 entries"),
-        JoinLimit::Size => five(
+        JoinLimit::Stations => words_alone("a recording has at most 256 stations"),
+        JoinLimit::Records => words_alone("a recording has at most 1048576 entries"),
+        JoinLimit::Size => five_pieces(
             TextPiece::Words("a recording has at most "),
             TextPiece::Number(LARGEST_RECORDING),
             TextPiece::Words(" bytes"),
@@ -133,7 +126,7 @@ fn limit_pieces(limit: JoinLimit) -> TextPieces<'static> {
 
 /// The reason for a station that an earlier piece has too.
 fn twice_pieces(site: u16, application: u16) -> TextPieces<'static> {
-    five(
+    five_pieces(
         TextPiece::Words("an earlier piece has station "),
         TextPiece::Address(site, application),
         TextPiece::Words(" too: leave one of the two out"),
@@ -165,9 +158,9 @@ fn socket_words(known: Known) -> &'static str {
 
 /// The reason for a socket that was not bound.
 fn socket_pieces<'a>(names: Named<'a>, known: Known) -> TextPieces<'a> {
-    five(
+    five_pieces(
         TextPiece::Words("binding "),
-        TextPiece::Name(socket_name(names, known)),
+        TextPiece::Words(socket_name(names, known)),
         TextPiece::Words(": "),
         TextPiece::Words(socket_words(known)),
         TextPiece::Nothing,
@@ -185,24 +178,15 @@ fn standing_pieces(names: Named<'_>) -> TextPieces<'_> {
     named(names.made, " is there already: give another name")
 }
 
-/// The reason for a world that does not run.
-fn world_pieces(fault: WorldFault) -> TextPieces<'static> {
-    match fault {
-        WorldFault::Stations => words("a station opens with at most 4096 entities"),
-        WorldFault::Move(..) => words("the move cannot be made"),
-        WorldFault::Memory => words("memory ran out"),
-    }
-}
-
 /// The reason for a fault, a text that no contract specifies; it may depend on the system's errors.
 fn other_pieces<'a>(fault: Fault<'a>, names: Named<'a>, known: Known) -> TextPieces<'a> {
     match fault {
         Fault::NotBytePairs | Fault::HexLine(_) => {
-            words("pairs of hex digits are expected, of at most 65536 bytes")
+            words_alone("pairs of hex digits are expected, of at most 65536 bytes")
         }
-        Fault::Input => words("standard input could not be read to its end"),
+        Fault::Input => words_alone("standard input could not be read to its end"),
         Fault::File(name, reason) => file_pieces(name, reason, known),
-        Fault::Words => words("a word of the command line is not UTF-8"),
+        Fault::Words => words_alone("a word of the command line is not UTF-8"),
         Fault::Recording(fault) => recording_pieces(fault, names, known),
         Fault::Already => named(names.first, " is of the second format already"),
         Fault::Piece(fault, name) => piece_pieces(fault, name),
@@ -212,9 +196,10 @@ fn other_pieces<'a>(fault: Fault<'a>, names: Named<'a>, known: Known) -> TextPie
         Fault::StationTwice(site, application, _) => twice_pieces(site, application),
         Fault::Joined(limit) => limit_pieces(limit),
         Fault::Certificate(fault) => certificate_pieces(fault, names, known),
-        Fault::Script(..) => words("the text is no script"),
+        Fault::BadLine(..) | Fault::UnknownStation(..) => words_alone("the text is no script"),
         Fault::ScriptRead(_) => named(names.first, " could not be read to its end"),
-        Fault::World(fault, _) => world_pieces(fault),
+        Fault::WorldStations => words_alone("a station opens with at most 4096 entities"),
+        Fault::Move(..) => words_alone("the move cannot be made"),
         Fault::LineFailed => socket_pieces(names, known),
         Fault::StationWord(word) => named(
             word,
@@ -223,14 +208,14 @@ fn other_pieces<'a>(fault: Fault<'a>, names: Named<'a>, known: Known) -> TextPie
         Fault::NotInSetup => two_named(names.first, " has no line station ", names.second),
         Fault::Filter(word) => filter_pieces(word, names.view),
         Fault::Step(_, steps) => step_pieces(steps),
-        Fault::OverLimit => words("a view has at most 4194304 lines"),
+        Fault::OverLimit => words_alone("a view has at most 4194304 lines"),
         Fault::ChartOverLimit => {
-            words("a picture has at most 2000 rows: choose some by from=STEP and to=STEP")
+            words_alone("a picture has at most 2000 rows: choose some by from=STEP and to=STEP")
         }
         Fault::Output => output_pieces(names.made, known),
         Fault::SameAs(name) => named(name, " is read: give the new file another name"),
         Fault::Exists => standing_pieces(names),
-        Fault::Memory => words("there is not enough memory for it"),
+        Fault::Memory => words_alone("there is not enough memory for it"),
     }
 }
 
@@ -239,24 +224,24 @@ fn other_reason<'a>(
     fault: Fault<'a>,
     names: Named<'a>,
     known: Known,
-    trouble: Option<LineTrouble>,
+    trouble: Option<ShortText>,
 ) -> Reason<'a> {
     match trouble {
-        Some(trouble) if matches!(fault, Fault::LineFailed) => Reason::Line(trouble),
+        Some(trouble) if matches!(fault, Fault::LineFailed) => Reason::Short(trouble),
         _ => Reason::Text(other_pieces(fault, names, known)),
     }
 }
 
 /// The reason for a fault, if the input determines it.
-fn read_reason(fault: Fault<'_>) -> Option<Reason<'static>>
+fn read_reason<'a>(fault: Fault<'a>) -> Option<Reason<'a>>
     ensures some { IfSome result (λ reason. IsReason fault.entry (reason_words reason)) }
     ensures none { result ≡ None → (text : List ℕ) → IsReason fault.entry text }
 {
     match fault {
-        Fault::Script(_, Some(why)) => Some(Reason::Script(why)),
-        Fault::World(WorldFault::Move(_, fault), Some(place)) => {
-            Some(Reason::Text(move_pieces(place, fault)))
+        Fault::BadLine(_, Some(why)) | Fault::UnknownStation(_, Some(why)) => {
+            Some(Reason::Short(why))
         }
+        Fault::Move(_, refusal, Some(place)) => Some(Reason::Text(move_pieces(place, refusal))),
         Fault::Step(_, steps) => Some(Reason::Text(step_pieces(steps))),
         _ => None,
     }
@@ -280,7 +265,9 @@ fn foreign_reason<'a>(fault: Fault<'a>, names: Named<'a>, known: Known) -> Optio
     ensures { IfSome result (λ reason. IsReason fault.entry (reason_words reason)) }
 {
     match fault {
-        Fault::Script(_, Some(_)) => foreign_script(names.first, known.first),
+        Fault::BadLine(_, Some(_)) | Fault::UnknownStation(_, Some(_)) => {
+            foreign_script(names.first, known.first)
+        }
         _ => None,
     }
 }
@@ -290,7 +277,7 @@ pub(crate) fn reason_of<'a>(
     fault: Fault<'a>,
     names: Named<'a>,
     known: Known,
-    trouble: Option<LineTrouble>,
+    trouble: Option<ShortText>,
 ) -> Reason<'a>
     ensures { IsReason fault.entry (reason_words result) }
 {

@@ -1,16 +1,17 @@
 //! Texts of warnings.
 
 ghost use Rattle.std.specs.Prelude.{◌≡◌};
-ghost use Rattle.siman_outside.specs.Reasons.{pieces_text, meant_text, nobody_text, warning_text};
+ghost use Rattle.byte_files.specs.Pieces.{pieces_text};
+ghost use Rattle.siman_outside.specs.Reasons.{meant_text, nobody_text, warning_text};
 
 use crate::notes::Warning;
-use crate::pieces::{TextPiece, TextPieces, five};
+use byte_files::{TextPiece, TextPieces, five_pieces};
 
 /// The warning about a recording with datagrams none of which means anything in this exercise.
 fn meant_pieces(datagrams: u64, exercise: u8) -> TextPieces<'static>
     ensures { pieces_text result ≡ meant_text datagrams exercise }
 {
-    five(
+    five_pieces(
         TextPiece::Words("none of the "),
         TextPiece::Number(datagrams),
         TextPiece::Words(" datagrams is a management PDU of exercise "),
@@ -23,7 +24,7 @@ fn meant_pieces(datagrams: u64, exercise: u8) -> TextPieces<'static>
 fn nobody_pieces(line: usize, site: u16, application: u16) -> TextPieces<'static>
     ensures { pieces_text result ≡ nobody_text line site application }
 {
-    five(
+    five_pieces(
         TextPiece::Words("line "),
         TextPiece::Number(line as u64),
         TextPiece::Words(": the script has no station "),

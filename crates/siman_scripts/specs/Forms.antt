@@ -8,8 +8,8 @@ use Rattle.siman_scripts.specs.declared.form.Next.{Next}
 use Rattle.siman_scripts.specs.declared.form.Next.TheVariants.{Needed, Optional, End}
 use Rattle.siman_scripts.specs.declared.word_kind.WordKind.{WordKind}
 use Rattle.siman_scripts.specs.declared.word_kind.WordKind.TheVariants as kinds
-use Rattle.byte_files.specs.Text.{number_to}
-use Rattle.siman_scripts.specs.Statement.{◌>>=◌, address_of, target_of, value_of, state_of, number_named}
+use Rattle.byte_files.specs.Text.{number_to, ◌>>=◌}
+use Rattle.siman_scripts.specs.Statement.{address_of, target_of, value_of, state_of, number_named}
 
 -- the number of an entity that a station may open with
 abbrev pub entity_of : List ℕ → Option ℕ

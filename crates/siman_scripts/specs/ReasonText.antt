@@ -1,5 +1,6 @@
 -- The text of a reason (profile).
 use Rattle.std.specs.Prelude.{ℕ, ◌==◌, List, [], ◌++◌, codes, decimal, Option, Some, None, if◌then◌else◌}
+use Rattle.byte_files.specs.Pieces.{five}
 use Rattle.siman_scripts.specs.declared.form.LineForm.{LineForm}
 use Rattle.siman_scripts.specs.declared.form.LineForm.TheVariants as forms
 use Rattle.siman_scripts.specs.declared.why.CommandReason.{CommandReason}
@@ -12,23 +13,7 @@ use Rattle.siman_scripts.specs.declared.why.Why.{Why}
 use Rattle.siman_scripts.specs.declared.why.Why.TheVariants as whys
 use Rattle.siman_scripts.specs.declared.word_kind.WordKind.{WordKind}
 use Rattle.siman_scripts.specs.declared.word_kind.WordKind.TheVariants as kinds
-use Rattle.siman_scripts.specs.declared.reason_text.ReasonPiece.{ReasonPiece}
-use Rattle.siman_scripts.specs.declared.reason_text.ReasonPiece.TheVariants.{Words, Number, Nothing}
-use Rattle.siman_scripts.specs.declared.reason_text.ReasonPieces.{ReasonPieces}
 use Rattle.siman_scripts.specs.Forms.{form_name}
-
--- Pieces of a text.
-
-abbrev pub piece_text : ReasonPiece → List ℕ
-piece_text (Words words) = words.now
-piece_text (Number n) = decimal n
-piece_text Nothing = []
-
-abbrev pub five : List ℕ → List ℕ → List ℕ → List ℕ → List ℕ → List ℕ
-five a b c d e = a ++ (b ++ (c ++ (d ++ e)))
-
-abbrev pub pieces_text : ReasonPieces → List ℕ
-pieces_text p = five (piece_text p.first) (piece_text p.second) (piece_text p.third) (piece_text p.fourth) (piece_text p.fifth)
 
 -- What is expected.
 

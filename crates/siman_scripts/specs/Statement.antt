@@ -1,6 +1,5 @@
 -- The statement of a line of a script: its forms, word by word (profile).
 use Rattle.std.specs.Prelude.{ℕ, Bool, true, ◌==◌, nat_le, List, [], ◌∷◌, codes, Option, Some, None, if◌then◌else◌}
-use Rattle.std.specs.Option.{option_and_then}
 use Rattle.std.specs.Str.{bytes_eq}
 use Rattle.dis_records.specs.declared.address.SiteApplication.{SiteApplication}
 use Rattle.dis_records.specs.Address.{is_address}
@@ -17,11 +16,7 @@ use Rattle.siman_scripts.specs.declared.act.Act.TheVariants.{Command, Deliver, T
 use Rattle.siman_scripts.specs.declared.statement.ManagerRules.{ManagerRules}
 use Rattle.siman_scripts.specs.declared.statement.Statement.{Statement}
 use Rattle.siman_scripts.specs.declared.statement.Statement.TheVariants as says
-use Rattle.byte_files.specs.Text.{is_ascii, words_of, cut_at, number_to}
-
-infixl 10 ◌>>=◌
-abbrev pub ◌>>=◌ : {A B : Type 0} → Option A → (A → Option B) → Option B
-o >>= f = option_and_then f o
+use Rattle.byte_files.specs.Text.{is_ascii, words_of, cut_at, number_to, ◌>>=◌}
 
 -- Words.
 

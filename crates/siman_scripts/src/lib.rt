@@ -39,7 +39,7 @@ pub use line_reason::a_line_is_refused_for_a_reason;
 pub use move_line::line_of_move;
 pub use moves::target_of;
 pub use placed_word::{PlacedWord, placed_words, words_have_their_columns};
-pub use reason_text::{put_command_reason, put_reason};
+pub use reason_text::{placed_command_reason, placed_reason, put_command_reason, put_reason};
 pub use script::{LARGEST_SCRIPT, Script, read_script};
 pub use script_fault::ScriptFault;
 pub use script_reason::{

@@ -1,35 +1,17 @@
 //! The text of a reason, in pieces.
 
 ghost use Rattle.std.specs.Prelude.{◌≡◌, ◌++◌, decimal, Some};
+ghost use Rattle.byte_files.specs.Pieces.{piece_text, pieces_text, placed_text};
 ghost use Rattle.byte_files.specs.Writing.{Writes};
-ghost use Rattle.siman_scripts.specs.ReasonText.{piece_text, pieces_text, form_text, kind_words, kind_largest, plain_line_text, unknown_name_text, line_text, plain_text, why_text, place_text, reason_text, command_why_text, column_text, command_text};
+ghost use Rattle.siman_scripts.specs.ReasonText.{form_text, kind_words, kind_largest, plain_line_text, unknown_name_text, line_text, plain_text, why_text, place_text, reason_text, command_why_text, column_text, command_text};
 
-use self::ReasonPiece::{Nothing, Number, Words};
 use crate::form::{LineForm, form_name};
 use crate::why::{CommandReason, CommandWhy, LineReason, LineWhy, Why};
 use crate::word_kind::WordKind;
-use byte_files::{WriteFailed, put};
-use itoa::Buffer;
+use byte_files::TextPiece::{Nothing, Number, Words};
+use byte_files::{PlacedText, TextPiece, TextPieces, WriteFailed, put_placed, three_pieces};
 use std::fmt;
 use std::io::Write;
-
-/// A piece of a text.
-#[derive(Clone, Copy)]
-enum ReasonPiece {
-    Words(&'static str),
-    Number(u64),
-    Nothing,
-}
-
-/// A text in five pieces, one after the other.
-#[derive(Clone, Copy)]
-struct ReasonPieces {
-    first: ReasonPiece,
-    second: ReasonPiece,
-    third: ReasonPiece,
-    fourth: ReasonPiece,
-    fifth: ReasonPiece,
-}
 
 /// Form of a line, as it is written.
 fn form_text(form: LineForm) -> &'static str
@@ -71,25 +53,12 @@ fn kind_words(kind: WordKind) -> &'static str
     }
 }
 
-fn kind_largest(kind: WordKind) -> ReasonPiece
+fn kind_largest(kind: WordKind) -> TextPiece<'static>
     ensures { piece_text result ≡ kind_largest kind }
 {
     match kind {
         WordKind::Number(largest) => Number(largest),
         _ => Nothing,
-    }
-}
-
-/// A text in three pieces.
-fn three(first: ReasonPiece, second: ReasonPiece, third: ReasonPiece) -> ReasonPieces
-    ensures { result ≡ record { first = first; second = second; third = third; fourth = ReasonPiece.Nothing; fifth = ReasonPiece.Nothing } }
-{
-    ReasonPieces {
-        first,
-        second,
-        third,
-        fourth: Nothing,
-        fifth: Nothing,
     }
 }
 
@@ -115,29 +84,33 @@ fn plain_line_text(why: LineWhy) -> &'static str
 }
 
 /// Text of a reason of a line by itself.
-fn line_pieces(why: LineWhy) -> ReasonPieces
+fn line_pieces(why: LineWhy) -> TextPieces<'static>
     ensures { pieces_text result ≡ line_text why }
 {
     match why {
-        LineWhy::UnknownName(Some(form)) => three(
+        LineWhy::UnknownName(Some(form)) => three_pieces(
             Words("no line begins with this word: is "),
             Words(form_name(form)),
             Words(" meant?"),
         ),
-        LineWhy::Missing(form, kind) => ReasonPieces {
+        LineWhy::Missing(form, kind) => TextPieces {
             first: Words("the line ends, and "),
             second: Words(kind_words(kind)),
             third: kind_largest(kind),
             fourth: Words(": "),
             fifth: Words(form_text(form)),
         },
-        LineWhy::TooMany(form) => three(
+        LineWhy::TooMany(form) => three_pieces(
             Words("a word too many: the line is "),
             Words(form_text(form)),
             Nothing,
         ),
-        LineWhy::Wrong(_, kind) => three(Words(kind_words(kind)), kind_largest(kind), Nothing),
-        _ => three(Words(plain_line_text(why)), Nothing, Nothing),
+        LineWhy::Wrong(_, kind) => three_pieces(
+            Words(kind_words(kind)),
+            kind_largest(kind),
+            Nothing,
+        ),
+        _ => three_pieces(Words(plain_line_text(why)), Nothing, Nothing),
     }
 }
 
@@ -166,42 +139,42 @@ fn plain_text(why: Why) -> &'static str
 }
 
 /// Text of a reason of a line.
-fn why_pieces(why: Why) -> ReasonPieces
+fn why_pieces(why: Why) -> TextPieces<'static>
     ensures { pieces_text result ≡ why_text why }
 {
     match why {
         Why::Line(line_why) => line_pieces(line_why),
-        Why::StationNotAbove(site, application) => ReasonPieces {
+        Why::StationNotAbove(site, application) => TextPieces {
             first: Words("the address has to be above "),
             second: Number(site as u64),
             third: Words(":"),
             fourth: Number(application as u64),
             fifth: Words(", that of the station before: sort the station lines"),
         },
-        Why::EntityNotAbove(number) => three(
+        Why::EntityNotAbove(number) => three_pieces(
             Words("the entity has to be above "),
             Number(number as u64),
             Words(", the one before at this station: sort the opening lines"),
         ),
-        Why::UnknownStation(site, application) => ReasonPieces {
+        Why::UnknownStation(site, application) => TextPieces {
             first: Words("no line says station "),
             second: Number(site as u64),
             third: Words(":"),
             fourth: Number(application as u64),
             fifth: Words(": add one"),
         },
-        _ => three(Words(plain_text(why)), Nothing, Nothing),
+        _ => three_pieces(Words(plain_text(why)), Nothing, Nothing),
     }
 }
 
 /// Text of a place; empty if the reason is about the whole text.
-fn place_pieces(line: usize, column: usize) -> ReasonPieces
+fn place_pieces(line: usize, column: usize) -> TextPieces<'static>
     ensures { pieces_text result ≡ place_text line column }
 {
     if column == 0 {
-        return three(Nothing, Nothing, Nothing);
+        return three_pieces(Nothing, Nothing, Nothing);
     }
-    ReasonPieces {
+    TextPieces {
         first: Words("line "),
         second: Number(line as u64),
         third: Words(", column "),
@@ -211,12 +184,12 @@ fn place_pieces(line: usize, column: usize) -> ReasonPieces
 }
 
 /// Text of a reason of a typed line.
-fn command_pieces(why: CommandWhy) -> ReasonPieces
+fn command_pieces(why: CommandWhy) -> TextPieces<'static>
     ensures { pieces_text result ≡ command_why_text why }
 {
     match why {
         CommandWhy::Line(line_why) => line_pieces(line_why),
-        CommandWhy::NotForStation(form) => three(
+        CommandWhy::NotForStation(form) => three_pieces(
             Words(form_name(form)),
             Words(" is no order for a station"),
             Nothing,
@@ -224,37 +197,10 @@ fn command_pieces(why: CommandWhy) -> ReasonPieces
     }
 }
 
-fn column_pieces(column: usize) -> ReasonPieces
+fn column_pieces(column: usize) -> TextPieces<'static>
     ensures { pieces_text result ≡ column_text column }
 {
-    three(Words("column "), Number(column as u64), Words(": "))
-}
-
-impl fmt::Display for ReasonPiece {
-    ghost output = { λ piece. Some (piece_text piece) };
-
-    fn fmt<W: fmt::Write>(&self, f: &mut fmt::Formatter<W>) -> fmt::Result {
-        match self {
-            Words(words) => write!(f, "{words}"),
-            Number(number) => write!(f, "{number}"),
-            Nothing => Ok(()),
-        }
-    }
-}
-
-impl fmt::Display for ReasonPieces {
-    ghost output = { λ pieces. Some (pieces_text pieces) };
-
-    fn fmt<W: fmt::Write>(&self, f: &mut fmt::Formatter<W>) -> fmt::Result {
-        let ReasonPieces {
-            first,
-            second,
-            third,
-            fourth,
-            fifth,
-        } = self;
-        write!(f, "{first}{second}{third}{fourth}{fifth}")
-    }
+    three_pieces(Words("column "), Number(column as u64), Words(": "))
 }
 
 /// Writes the line, the column and the reason, without a line end; only the reason if it is about
@@ -280,89 +226,31 @@ impl fmt::Display for CommandReason {
     }
 }
 
-fn put_piece<W: Write>(writer: &mut W, piece: ReasonPiece) -> Result<(), WriteFailed>
-    ensures { Writes result (W.contents writer.old) (W.contents writer.new) (piece_text piece) }
+/// Place and text of a reason.
+pub fn placed_reason(reason: LineReason) -> PlacedText<'static>
+    ensures { placed_text result ≡ reason_text reason }
 {
-    match piece {
-        Words(words) => put(writer, words.as_bytes()),
-        Number(number) => {
-            let mut buffer = Buffer::new();
-            put(writer, buffer.format(number).as_bytes())
-        }
-        Nothing => put(writer, b""),
+    PlacedText {
+        place: place_pieces(reason.line, reason.column),
+        text: why_pieces(reason.why),
     }
 }
 
-/// Writes two pieces.
-fn put_two<W: Write>(
-    writer: &mut W,
-    first: ReasonPiece,
-    second: ReasonPiece,
-) -> Result<(), WriteFailed>
-    ensures { Writes result (W.contents writer.old) (W.contents writer.new) (piece_text first ++ piece_text second) }
+/// Place and text of the reason of a typed line.
+pub fn placed_command_reason(reason: CommandReason) -> PlacedText<'static>
+    ensures { placed_text result ≡ command_text reason }
 {
-    put_piece(writer, first)?;
-    put_piece(writer, second)
-}
-
-/// Writes three pieces.
-fn put_three<W: Write>(
-    writer: &mut W,
-    first: ReasonPiece,
-    second: ReasonPiece,
-    third: ReasonPiece,
-) -> Result<(), WriteFailed>
-    ensures { Writes result (W.contents writer.old) (W.contents writer.new) (piece_text first ++ (piece_text second ++ piece_text third)) }
-{
-    put_piece(writer, first)?;
-    put_two(writer, second, third)
-}
-
-/// Writes four pieces.
-fn put_four<W: Write>(
-    writer: &mut W,
-    first: ReasonPiece,
-    second: ReasonPiece,
-    third: ReasonPiece,
-    fourth: ReasonPiece,
-) -> Result<(), WriteFailed>
-    ensures { Writes result (W.contents writer.old) (W.contents writer.new) (piece_text first ++ (piece_text second ++ (piece_text third ++ piece_text fourth))) }
-{
-    put_piece(writer, first)?;
-    put_three(writer, second, third, fourth)
-}
-
-fn put_pieces<W: Write>(writer: &mut W, pieces: ReasonPieces) -> Result<(), WriteFailed>
-    ensures { Writes result (W.contents writer.old) (W.contents writer.new) (pieces_text pieces) }
-{
-    put_piece(writer, pieces.first)?;
-    put_four(
-        writer,
-        pieces.second,
-        pieces.third,
-        pieces.fourth,
-        pieces.fifth,
-    )
-}
-
-/// Writes two texts in pieces.
-fn put_texts<W: Write>(
-    writer: &mut W,
-    first: ReasonPieces,
-    second: ReasonPieces,
-) -> Result<(), WriteFailed>
-    ensures { Writes result (W.contents writer.old) (W.contents writer.new) (pieces_text first ++ pieces_text second) }
-{
-    put_pieces(writer, first)?;
-    put_pieces(writer, second)
+    PlacedText {
+        place: column_pieces(reason.column),
+        text: command_pieces(reason.why),
+    }
 }
 
 /// Writes a reason as it displays, without a line end.
 pub fn put_reason<W: Write>(writer: &mut W, reason: LineReason) -> Result<(), WriteFailed>
     ensures { Writes result (W.contents writer.old) (W.contents writer.new) (reason_text reason) }
 {
-    let place = place_pieces(reason.line, reason.column);
-    put_texts(writer, place, why_pieces(reason.why))
+    put_placed(writer, placed_reason(reason))
 }
 
 /// Writes the reason of a typed line as it displays, without a line end.
@@ -372,6 +260,5 @@ pub fn put_command_reason<W: Write>(
 ) -> Result<(), WriteFailed>
     ensures { Writes result (W.contents writer.old) (W.contents writer.new) (command_text reason) }
 {
-    let place = column_pieces(reason.column);
-    put_texts(writer, place, command_pieces(reason.why))
+    put_placed(writer, placed_command_reason(reason))
 }

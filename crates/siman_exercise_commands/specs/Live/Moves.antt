@@ -14,11 +14,12 @@ use Rattle.siman_lines.specs.Steps.{Each, Stops}
 use Rattle.siman_stations.specs.declared.turn.Node.{Node}
 use Rattle.siman_stations.specs.declared.world_fault.MoveFault.{MoveFault}
 use Rattle.siman_stations.specs.declared.world_fault.MoveFault.TheVariants as moves
-use Rattle.siman_stations.specs.declared.world_fault.WorldFault.TheVariants as worlds
 use Rattle.siman_stations.specs.Asked.{order_fault, tell_fault}
 use Rattle.siman_stations.specs.Acts.{of_station, as_move}
 use Rattle.siman_outside.specs.declared.fault.Fault.{Fault}
-use Rattle.siman_outside.specs.declared.fault.Fault.TheVariants.{World, LineFailed, Output, Memory}
+use Rattle.siman_outside.specs.declared.fault.Fault.TheVariants as faults
+use Rattle.siman_outside.specs.declared.fault.Fault.TheVariants.{LineFailed, Output, Memory}
+use Rattle.siman_exercise_commands.specs.Refusals.{move_refusal}
 use Rattle.siman_exercise_commands.specs.declared.live.moves.LiveMoveFault.{LiveMoveFault}
 use Rattle.siman_exercise_commands.specs.declared.live.moves.LiveMoveFault.TheVariants as halts
 
@@ -50,7 +51,7 @@ Gives reason halts.Memory = ⊤
 
 -- the fault of a halt at the move of a number
 abbrev pub at_move : ℕ → LiveMoveFault → Fault
-at_move number (halts.Move fault) = World (worlds.Move number fault) None
+at_move number (halts.Move fault) = faults.Move number (move_refusal fault) None
 at_move number halts.Line = LineFailed
 at_move number halts.Record = Output
 at_move number halts.Memory = Memory

@@ -8,15 +8,17 @@ ghost use Rattle.siman_lines.specs.KeptAtLine.{Keeps};
 ghost use Rattle.siman_stations.specs.Acts.{as_move};
 ghost use Rattle.siman_exercise_commands.specs.Live.Moves.{live_fault, judged, move_fault, Gives, at_move, of_done, ActEnds, JudgedEnds, MoveEnds, MovesEnd};
 
+use crate::refusal::move_refusal;
+use byte_files::unplaced;
 use exercise_model::MOST_ENTRIES;
 use exercise_recording::RecordingWriter;
 use siman_lines::{
-    AtLineFault, Line, LineTrouble, StationAtLine, order_at, repeat_at, serve_rounds,
-    stations_at_lines, tell_at,
+    AtLineFault, Line, StationAtLine, order_at, repeat_at, serve_rounds, stations_at_lines,
+    tell_at, trouble_pieces,
 };
-use siman_outside::Fault;
+use siman_outside::{Fault, ShortText, short_text};
 use siman_scripts::{Act, Move};
-use siman_stations::{MoveFault, Node, WorldFault};
+use siman_stations::{MoveFault, Node};
 use std::alloc::Global;
 use std::io::Write;
 
@@ -45,7 +47,7 @@ impl LiveMoveFault {
         ensures { result ≡ at_move number self }
     {
         match self {
-            LiveMoveFault::Move(fault) => Fault::World(WorldFault::Move(number, fault), None),
+            LiveMoveFault::Move(fault) => Fault::Move(number, move_refusal(fault), None),
             LiveMoveFault::Line => Fault::LineFailed,
             LiveMoveFault::Record => Fault::Output,
             LiveMoveFault::Memory => Fault::Memory,
@@ -53,9 +55,14 @@ impl LiveMoveFault {
     }
 }
 
-/// Last failed call of a link, from the first station whose link reports one.
-pub(crate) fn trouble_of<L: Line + Drop>(stations: &[StationAtLine<L>]) -> Option<LineTrouble> {
-    stations.iter().find_map(|station| station.line.trouble())
+/// Last failed call of a link, in words, from the first station whose link reports one. `None`, too,
+/// if memory runs out.
+pub(crate) fn trouble_of<L: Line + Drop>(
+    alloc: Global,
+    stations: &[StationAtLine<L>],
+) -> Option<ShortText> {
+    let trouble = stations.iter().find_map(|station| station.line.trouble())?;
+    short_text(alloc, unplaced(trouble_pieces(trouble)))
 }
 
 /// Attaches each station to the link of the same index. There must be as many links as stations.

@@ -1,4 +1,4 @@
-use Rattle.std.proofs.Common.{◌≡◌, [], ap, ◌∙◌}
+use Rattle.std.proofs.Common.{[], ap, ◌∙◌}
 use Rattle.siman_pdus.specs.DatumLists.{IdLists}
 use Rattle.siman_application.specs.Answer.{data_answer, held_records, ids_of}
 use Rattle.siman_application.specs.Holding.{Holding, held_in, stored_in}

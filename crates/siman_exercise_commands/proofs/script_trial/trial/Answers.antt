@@ -6,7 +6,7 @@ use Rattle.siman_outside.specs.declared.input.InputFault.{InputFault}
 use Rattle.siman_outside.specs.declared.input.InputFault.TheVariants as inputs
 use Rattle.siman_exercise_commands.specs.Explained.{Scripted}
 use Rattle.siman_exercise_commands.specs.ScriptTrial.{Tries}
-use Rattle.siman_outside.specs.TrialFaults.{unread}
+use Rattle.siman_exercise_commands.specs.TrialFaults.{unread}
 use Rattle.siman_outside.proofs.Offered.{at_fault, of_any}
 use Rattle.siman_exercise_commands.proofs.Scripts.{of_script}
 use Rattle.siman_exercise_commands.proofs.script_trial.trial.Goals as goal

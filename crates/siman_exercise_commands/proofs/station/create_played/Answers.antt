@@ -15,9 +15,9 @@ returns-in-Ok g c = (
   (refl, (_, refl, c.record_session-recorded.ensures.records, c.record_session-recorded.ensures.left c.requires.ready)),
 )
 
-pub returns-in-Err : goal.returns-in-Err
-returns-in-Err g c = (
-  Creates c.args.name.now (Err (error_kind c.in-Err.error)) ∷ [],
+pub returns : goal.returns
+returns g c = (
+  Creates c.args.placed.name.now (Err (error_kind c.in-Err.error)) ∷ [],
   c.in-Err.ensures.done,
   (λ holds. all_one (WasHeld holds) _ tt),
   (refl, (c.creation_fault.result, c.creation_fault.ensures, (refl, refl, Keeps-refl (g.W.Write.contents c.args.out.now), Keeps-refl (g.E.Write.contents c.args.errors.now)))),

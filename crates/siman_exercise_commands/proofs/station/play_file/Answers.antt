@@ -22,11 +22,11 @@ returns-in-Ok-set_up_file g c =
       opens ∷ reads ∷ rest.0,
       adds_then _ _ _ (opens ∷ []) (reads ∷ rest.0) c.in-Ok.ensures.done (adds_then _ _ _ (reads ∷ []) rest.0 c.read.ensures.done rest.1),
       All-append Held (opens ∷ reads ∷ []) rest.0 (all_two Held opens reads c.in-Ok.ensures.held tt) (rest.2 (g.O.Outside.holds c.args.outside.now)),
-      (refl, refl, inr (c.in-Ok-set_up_file.set_up, read, rest.3)),
+      (refl, refl, inr (c.in-Ok-set_up_file.set_up, read, rw c.requires.name at rest.3)),
     )
 
-pub returns-in-Err-set_up_file : goal.returns-in-Err-set_up_file
-returns-in-Err-set_up_file g c =
+pub returns : goal.returns
+returns g c =
     let Held = WasHeld (g.O.Outside.holds c.args.outside.now) in
     let opens = Opens c.args.words.now.setup.now (Ok (g.O.Outside.bytes c.in-Ok.opened)) in
     let reads = Reads (g.O.Outside.bytes c.in-Ok.opened) in

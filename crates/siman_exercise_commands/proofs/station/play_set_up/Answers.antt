@@ -7,7 +7,7 @@ use Rattle.siman_exercise_commands.proofs.station.play_set_up.Goals as goal
 
 pub returns : goal.returns
 returns g c =
-    let looked = LooksFor c.args.name.now false in
+    let looked = LooksFor c.args.placed.name.now false in
     let rest = c.open_and_play.ensures in (
       looked ∷ rest.0,
       adds_then _ _ _ (looked ∷ []) rest.0 c.if-is_taken.ensures.done rest.1,

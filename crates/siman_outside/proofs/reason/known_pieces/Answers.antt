@@ -1,7 +1,8 @@
 -- The last of so many that are not none.
 use Rattle.std.proofs.Common.{◌≡◌, ℕ, ◌-◌, ◌==◌, false, codes, decimal, refl, arith}
 use Rattle.std.proofs.lemmas.Bool.Decides.{nat_tests}
-use Rattle.siman_outside.specs.Reasons.{five, known_text}
+use Rattle.byte_files.specs.Pieces.{five}
+use Rattle.siman_outside.specs.Reasons.{known_text}
 use Rattle.siman_outside.proofs.reason.known_pieces.Goals as goal
 
 is_some : (sends : ℕ) → (sends ≡ 0 → ⊥) → (sends == 0) ≡ false
@@ -12,4 +13,4 @@ last_known : (line sends : ℕ) → (sends ≡ 0 → ⊥)
 last_known line sends none = rw (is_some sends none) refl
 
 pub returns : goal.returns
-returns c = rw c.five.ensures (last_known c.args.line c.args.sends c.if-sends-eq0.false)
+returns c = rw c.five_pieces.ensures (last_known c.args.line c.args.sends c.if-sends-eq0.false)

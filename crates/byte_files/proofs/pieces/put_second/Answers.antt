@@ -1,0 +1,14 @@
+-- The second octet, and then the rest.
+use Rattle.std.proofs.Common.{◌++◌, codes}
+use Rattle.byte_files.proofs.Offered.{at_error, writes_part, writes_then}
+use Rattle.byte_files.specs.Pieces.{behind}
+use Rattle.byte_files.proofs.pieces.put_second.Goals as goal
+
+pub returns-in_err-put_behind : goal.returns-in_err-put_behind
+returns-in_err-put_behind g c =
+    at_error c.from_residual.result _ _ _ c.from_residual.ensures.0
+    (writes_part _ _ (behind (codes ".") c.args.second) (behind (codes ".") c.args.third ++ (behind (codes ".") c.args.last ++ behind (codes ":") c.args.port)) (rw c.from.ensures at c.in_err-put_behind.ensures))
+
+pub returns : goal.returns
+returns g c =
+    writes_then c.put_third.result _ _ _ (behind (codes ".") c.args.second) (behind (codes ".") c.args.third ++ (behind (codes ".") c.args.last ++ behind (codes ":") c.args.port)) (rw c.from.ensures at c.in_ok-put_behind.ensures) c.put_third.ensures

@@ -1,5 +1,6 @@
 #!/usr/bin/env python3
-"""Compares the table of commands in the README with that of the program, `ROWS` in siman_outside.
+"""Compares the table of commands in the README with that of the program, `ROWS` in siman_outside, and there each usage
+with the words of its row.
 
 Each command of the program needs its row in the README, with the words that usage gives it, in the order of the help;
 and each row of the README that is a command by its name has to be one of the program. Its last line is `N commands, M
@@ -12,6 +13,7 @@ from pathlib import Path
 
 TOP = Path(__file__).resolve().parent.parent
 TABLE = TOP / "crates" / "siman_outside" / "src" / "table.rt"
+WORD = r'CommandWord \{\s*name: "([A-Z]+)",\s*often: Often::(\w+),'
 
 
 def in_readme(usage):
@@ -33,8 +35,34 @@ def rows_of_readme():
     return re.findall(r"^\| `\./siman ([a-z][^`]*)` \|", section, flags=re.M)
 
 
+def words_of_usage(usage):
+    """The words in capitals that a usage names, each with how often it may stand: <W>, [W], <W>... or [W]...."""
+    often = {("<", ""): "Once", ("[", ""): "AtMostOnce", ("<", "..."): "OnceOrMore", ("[", "..."): "AnyTimes"}
+    return [(word, often[edge, more]) for edge, word, more in re.findall(r"([<\[])([A-Z]+)[>\]](\.\.\.)?", usage)]
+
+
+def rows_that_differ():
+    """Each row of which the usage names another command or other words than the row has: what it says, and what it has.
+    The word STEP of `chart` stands in its usage as from=STEP and to=STEP.
+    """
+    before, _, behind = TABLE.read_text(encoding="utf-8").partition("const ROWS")
+    shared = {name: word for name, *word in re.findall(rf"const (\w+): CommandWord = {WORD}", before)}
+    for row in re.split(r"^    CommandRow \{$", behind.partition("\n];")[0], flags=re.M)[1:]:
+        head, _, tail = row.partition("words:")
+        name, usage = (re.search(rf'{key}: "([^"]+)"', head)[1] for key in ("name", "usage"))
+        # Each word is written out there, or is the name of one that rows share.
+        named = re.findall(rf"{WORD}|(?:^ +|[\[ ])([A-Z_]+)(?=[,\]])", tail, flags=re.M)
+        has = [tuple(shared[one]) if one else (word, often) for word, often, one in named]
+        has = [it for it in has if it[0] != "STEP"]
+        if usage.split()[:2] != ["siman", name] or words_of_usage(usage) != has:
+            yield usage, name, has
+
+
 def main():
     program, readme, wrong = rows_of_program(), rows_of_readme(), 0
+    for usage, name, has in rows_that_differ():
+        print(f"the usage `{usage}` is not that of {name} with {has}")
+        wrong += 1
     for own, other in itertools.zip_longest(program, readme):
         if own != other:
             print(f"the program has `{own}` where the README has `{other}`")

@@ -1,6 +1,4 @@
 pub mod Digits
-pub mod InPlace
-pub mod Offered
-mod Keyed
+mod KeysApart
 pub mod Reasons
 pub mod Texts

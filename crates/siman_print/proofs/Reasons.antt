@@ -1,5 +1,5 @@
 -- A datagram has a reason exactly where it means nothing.
-use Rattle.std.proofs.Common.{◌≡◌, ℕ, List, Bool, true, false, Option, Some, None, refl, sym, ap, ◌∙◌}
+use Rattle.std.proofs.Common.{◌≡◌, ℕ, List, Bool, true, false, Option, Some, None, refl, ap, ◌∙◌}
 use Rattle.std.specs.Prelude.{◌==◌, ◌&&◌, not, is_some, is_none, option_and_then, if◌then◌else◌}
 use Rattle.siman_pdus.specs.declared.fault.ViewFault.{ViewFault}
 use Rattle.siman_pdus.specs.declared.pdu.Body.{Body}
@@ -10,7 +10,6 @@ use Rattle.siman_pdus.specs.declared.roles.Role.TheVariants.{Answer, Outside}
 use Rattle.siman_pdus.specs.Reading.{pdu_from, pdu_refusal, unless_refused, view_refusal, reading}
 use Rattle.siman_pdus.specs.Role.{is_acknowledge_flag, role_of}
 use Rattle.exercise_model.specs.Meaning.{meant, meaning, is_outside}
-use Rattle.siman_print.specs.declared.reason.OtherReason.{OtherReason}
 use Rattle.siman_print.specs.declared.reason.OtherReason.TheVariants.{Refused, Exercise, Flag}
 use Rattle.siman_print.specs.Reason.{idle_flag, why_unmeant, why_read, why_other}
 

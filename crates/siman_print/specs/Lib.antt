@@ -1,7 +1,7 @@
 pub mod Line
 pub mod Keys
 pub mod Spelled
-pub mod InPlace
+pub mod Fields
 pub mod Lent
 pub mod CountLine
 pub mod EntryLines

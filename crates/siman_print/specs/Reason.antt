@@ -9,7 +9,8 @@ use Rattle.siman_pdus.specs.declared.pdu.Body.TheVariants.{Acknowledge}
 use Rattle.siman_pdus.specs.declared.pdu.Pdu.{Pdu}
 use Rattle.siman_pdus.specs.Reading.{view_refusal, reading}
 use Rattle.siman_pdus.specs.Role.{is_acknowledge_flag}
-use Rattle.siman_print.specs.Line.{Value, Word, Missing}
+use Rattle.siman_print.specs.Line.{Value, Word}
+use Rattle.siman_print.specs.Fields.{option_value}
 use Rattle.siman_print.specs.declared.reason.OtherReason.{OtherReason}
 use Rattle.siman_print.specs.declared.reason.OtherReason.TheVariants.{Refused, Exercise, Flag}
 
@@ -79,5 +80,4 @@ reason_text why = reason_name why ++ number_behind (codes ":") (reason_number wh
 
 -- the value of a field: a reason, or missing
 abbrev pub reason_value : Option OtherReason → Value
-reason_value None = Missing
-reason_value (Some why) = Word (reason_text why)
+reason_value why = option_value (λ why. Word (reason_text why)) why

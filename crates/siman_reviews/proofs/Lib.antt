@@ -1,6 +1,7 @@
 mod Kept
 mod LineParts
-mod Keyed
+mod KeysApart
+mod FateNames
 mod CarriedLines
 mod HeldLines
 mod OtherCounts

@@ -1,6 +1,7 @@
 //! Rows in their two spellings, with literal texts.
 
 mod examples;
+mod fields;
 mod values;
 
 use self::examples::*;

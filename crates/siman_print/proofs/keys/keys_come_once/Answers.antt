@@ -1,5 +1,5 @@
 -- The laws, by the kinds of PDUs.
-use Rattle.siman_print.proofs.Keyed.{head_apart, entry_apart}
+use Rattle.siman_print.proofs.KeysApart.{head_apart, entry_apart}
 use Rattle.siman_print.proofs.keys.keys_come_once.Goals as goal
 
 pub returns-clause-heads : goal.returns-clause-heads

@@ -7,6 +7,8 @@
 #[cfg(test)]
 mod applications;
 #[cfg(test)]
+mod captures;
+#[cfg(test)]
 mod certificates;
 #[cfg(test)]
 mod conflicts;
@@ -16,6 +18,10 @@ mod crowds;
 mod exercises;
 #[cfg(test)]
 mod faults;
+#[cfg(test)]
+mod fragments;
+#[cfg(test)]
+mod frames;
 #[cfg(test)]
 mod joining;
 #[cfg(test)]

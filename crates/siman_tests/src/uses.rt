@@ -12,6 +12,7 @@ mod answer;
 mod archive;
 mod archived;
 mod auditor;
+mod capture;
 mod certificate;
 mod change;
 mod contradiction;
@@ -19,6 +20,8 @@ mod copies;
 mod datagram;
 mod entity;
 mod file;
+mod fragment;
+mod frame;
 mod gap;
 mod line;
 mod log;
@@ -45,6 +48,7 @@ pub use answer::has_one_request;
 pub use archive::{may_be_converted, need_one_byte_more};
 pub use archived::{need_no_second_check, need_no_second_search};
 pub use auditor::{found_what_others_find, reviewed_the_archive};
+pub use capture::{has_a_packet_for_each_record, is_passed_over_by_its_length};
 pub use certificate::says_one_order;
 pub use change::made_the_state;
 pub use contradiction::{
@@ -54,6 +58,11 @@ pub use copies::change_no_answer;
 pub use datagram::{end_of_one_pdu, length_that_is_read};
 pub use entity::changes_by_an_able_alone;
 pub use file::says_one_thing;
+pub use fragment::{
+    has_the_size_that_was_told, is_given_up_with_an_overlap, leaves_what_is_held_well,
+    may_come_before_the_first,
+};
+pub use frame::{carries_all_its_data, is_as_its_front_says};
 pub use gap::must_be_filled;
 pub use line::{explain_what_they_wrote, leave_a_recording};
 pub use log::{grows_by_no_filter, is_read_by_programs, names_each_datum_once};

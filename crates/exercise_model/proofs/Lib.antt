@@ -19,6 +19,8 @@ mod Carrying
 mod Knowledge
 mod Standing
 mod Conversions
+mod AlikeLogs
 mod Moved
+mod EarlyReceipts
 mod Parted
 pub mod Offered

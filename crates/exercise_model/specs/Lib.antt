@@ -20,3 +20,4 @@ pub mod Knowledge
 pub mod Conversion
 pub mod Alike
 pub mod Part
+pub mod OwnLog

@@ -7,7 +7,7 @@
 //! Runs: [`what_explains_holds`], [`logs_suffice`], [`accounts_are_whole`], [`entries_have_one_place`],
 //! [`changes_are_known`], [`allowed_stays_allowed`] and [`ends_are_one`]. First answers:
 //! [`first_answers_change_states`]. Forms: [`forms_decide_who_is_heard`]. Some of the stations
-//! alone: [`parts_are_explained`]. Conversion to the second format: [`conversion_keeps_runs`].
+//! alone: [`parts_are_explained`]. Receipts that stand earlier: [`early_receipts_are_allowed`]. Conversion to the second format: [`conversion_keeps_runs`].
 //!
 //! Only [`Recording::push`] and [`meaning_of`] take memory.
 #![tactic(auto)]
@@ -34,8 +34,8 @@ pub use fault::LogFault;
 pub use form::Form;
 pub use laws::{
     accounts_are_whole, allowed_stays_allowed, changes_are_known, conversion_keeps_runs,
-    ends_are_one, entries_have_one_place, first_answers_change_states, forms_decide_who_is_heard,
-    logs_suffice, parts_are_explained, what_explains_holds,
+    early_receipts_are_allowed, ends_are_one, entries_have_one_place, first_answers_change_states,
+    forms_decide_who_is_heard, logs_suffice, parts_are_explained, what_explains_holds,
 };
 pub use log::ExerciseLog;
 pub use meaning::{meaning_again, meaning_of, meaning_view};

@@ -32,6 +32,7 @@ mod picture;
 mod pieces;
 mod post;
 mod reason;
+mod receipt;
 mod report;
 mod script;
 mod search;
@@ -77,6 +78,7 @@ pub use reason::{
     is_none_of_a_script, is_true_of_the_lines_before, points_at_its_word,
     says_what_the_decoder_says,
 };
+pub use receipt::may_be_noted_early;
 pub use report::{
     names_each_field_once, says_in_json_what_the_text_says, says_the_same_of_the_archive,
 };

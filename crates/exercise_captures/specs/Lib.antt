@@ -1,0 +1,4 @@
+pub mod Checksum
+pub mod Datagram
+pub mod Blocks
+pub mod Export

@@ -68,6 +68,7 @@ head-read p at r f =
     let head : ℕ → ℕ → ℕ → PacketHead = λ (s fr o : ℕ). record {
       at = at;
       link = p.link;
+      order = p.order;
       wanted = true;
       stamp = s * 1000000 + (if p.nanoseconds then fr / 1000 else fr);
       direction = Unknown;

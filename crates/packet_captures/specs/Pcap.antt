@@ -41,6 +41,7 @@ abbrev pub record_head : PcapHead → (wanted : Bool) → (at : ℕ) → List �
 record_head p wanted at h = record {
   at = at;
   link = p.link;
+  order = p.order;
   wanted = wanted;
   stamp = record_stamp p h;
   direction = Unknown;

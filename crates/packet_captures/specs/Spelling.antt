@@ -57,6 +57,7 @@ packet_of p at r = record {
   head = record {
     at = at;
     link = p.link;
+    order = p.order;
     wanted = true;
     stamp = r.seconds * 1000000 + (if p.nanoseconds then r.fraction / 1000 else r.fraction);
     direction = Unknown;

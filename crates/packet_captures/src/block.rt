@@ -165,6 +165,7 @@ fn timed_packet(
         head: PacketHead {
             at,
             link: interface.link,
+            order,
             wanted: interface.wanted,
             stamp,
             direction: timed_direction(order, kept, block),
@@ -244,6 +245,7 @@ pub(crate) fn simple_packet(
         head: PacketHead {
             at,
             link: interface.link,
+            order,
             wanted: interface.wanted,
             stamp,
             direction: Direction::Unknown,

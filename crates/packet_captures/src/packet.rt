@@ -1,5 +1,7 @@
 //! Packets, as a capture hands them up.
 
+use crate::byte_order::ByteOrder;
+
 /// Which way a packet went, as the host that captured it saw it.
 #[derive(Clone, Copy, Debug, PartialEq, Eq)]
 pub enum Direction {
@@ -18,6 +20,8 @@ pub struct PacketHead {
     pub at: u64,
     /// Link type of its interface (LINKTYPE).
     pub link: u16,
+    /// Byte order of its file or section, which is that of the capturing host.
+    pub order: ByteOrder,
     /// Whether its interface has the wanted name, or no name is wanted.
     pub wanted: bool,
     /// Microseconds since 1970-01-01, rounded down.

@@ -86,6 +86,7 @@ impl PcapHead {
         PacketHead {
             at,
             link: self.link,
+            order: self.order,
             wanted,
             stamp: self.record_stamp(head),
             direction: Direction::Unknown,

@@ -1,1 +1,6 @@
 mod Blocks
+mod BlockOptions
+mod ReadInterfaces
+mod ReadPackets
+mod ReadBack
+mod ReadDatagrams

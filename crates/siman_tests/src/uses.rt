@@ -19,6 +19,7 @@ mod contradiction;
 mod copies;
 mod datagram;
 mod entity;
+mod exported;
 mod file;
 mod fragment;
 mod frame;
@@ -59,6 +60,7 @@ pub use contradiction::{
 pub use copies::change_no_answer;
 pub use datagram::{end_of_one_pdu, length_that_is_read};
 pub use entity::changes_by_an_able_alone;
+pub use exported::ends_whole;
 pub use file::says_one_thing;
 pub use fragment::{
     has_the_size_that_was_told, is_given_up_with_an_overlap, leaves_what_is_held_well,

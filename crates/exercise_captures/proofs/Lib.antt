@@ -4,3 +4,6 @@ mod ReadInterfaces
 mod ReadPackets
 mod ReadBack
 mod ReadDatagrams
+mod Shorts
+mod Follows
+mod EntryLaws

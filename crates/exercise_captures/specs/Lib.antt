@@ -3,3 +3,12 @@ pub mod Datagram
 pub mod Blocks
 pub mod Export
 pub mod ReadBack
+pub mod Kind
+pub mod Counts
+pub mod Faults
+pub mod Answers
+pub mod Log
+pub mod Entries
+pub mod Judgement
+pub mod Reading
+pub mod Import

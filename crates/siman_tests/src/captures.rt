@@ -1,7 +1,8 @@
 //! Packet captures: packets of both formats, in both byte orders, and each fault with its place.
 
+use packet_captures::ByteOrder::{Big, Little};
 use packet_captures::Direction::{Inbound, Outbound, Unknown};
-use packet_captures::{Capture, CaptureFault, Direction, FormatFault, PacketHead};
+use packet_captures::{ByteOrder, Capture, CaptureFault, Direction, FormatFault, PacketHead};
 use siman_trials::{Calls, WELL, read_from};
 use std::alloc::Global;
 use std::io::{ErrorKind, Read};
@@ -77,10 +78,18 @@ const BLOCKS: [u8; 492] = [
 ];
 
 /// Head of a packet.
-fn head(at: u64, link: u16, stamp: u64, direction: Direction, original: u32) -> PacketHead {
+fn head(
+    order: ByteOrder,
+    at: u64,
+    link: u16,
+    stamp: u64,
+    direction: Direction,
+    original: u32,
+) -> PacketHead {
     PacketHead {
         at,
         link,
+        order,
         wanted: true,
         stamp,
         direction,
@@ -117,11 +126,15 @@ fn is_read(alloc: Global, file: &[u8], packets: &[Packet<'_>], lost: u64) -> boo
 #[test]
 fn pcap_is_read_in_each_form(rt: HostRuntime) {
     let bytes: [u8; 5] = [0xDE, 0xAD, 0xBE, 0xEF, 0x01];
-    let packet = head(24, 1, 1_700_000_000_123_456, Unknown, 5);
-    for file in [LITTLE_MICRO, BIG_MICRO, LITTLE_NANO] {
+    for (file, order) in [
+        (LITTLE_MICRO, Little),
+        (BIG_MICRO, Big),
+        (LITTLE_NANO, Little),
+    ] {
+        let packet = head(order, 24, 1, 1_700_000_000_123_456, Unknown, 5);
         assert!(rt; is_read(rt.alloc(), &file, &[(packet, &bytes)], 0));
     }
-    let cut = head(24, 113, 1_700_000_000_123_456, Unknown, 1500);
+    let cut = head(Big, 24, 113, 1_700_000_000_123_456, Unknown, 1500);
     assert!(rt; is_read(rt.alloc(), &BIG_NANO, &[(cut, &bytes)], 0));
     assert!(rt; is_read(rt.alloc(), &BIG_NANO[..24], &[], 0));
 }
@@ -129,14 +142,23 @@ fn pcap_is_read_in_each_form(rt: HostRuntime) {
 #[test]
 fn pcapng_is_read_block_by_block(rt: HostRuntime) {
     let packets: [Packet<'_>; 5] = [
-        (head(96, 1, 1_700_000_000_123_456, Outbound, 60), &[1, 2, 3]),
-        (head(164, 1, 1_700_000_000_123_456, Unknown, 9), &[4, 5, 6]),
         (
-            head(184, 101, 1_700_000_000_123_457, Inbound, 4),
+            head(Little, 96, 1, 1_700_000_000_123_456, Outbound, 60),
+            &[1, 2, 3],
+        ),
+        (
+            head(Little, 164, 1, 1_700_000_000_123_456, Unknown, 9),
+            &[4, 5, 6],
+        ),
+        (
+            head(Little, 184, 101, 1_700_000_000_123_457, Inbound, 4),
             &[7, 8, 9, 10],
         ),
-        (head(404, 276, 700_000_000_500_000, Unknown, 0), &[]),
-        (head(436, 276, 700_000_000_500_000, Unknown, 2), &[11, 12]),
+        (head(Big, 404, 276, 700_000_000_500_000, Unknown, 0), &[]),
+        (
+            head(Big, 436, 276, 700_000_000_500_000, Unknown, 2),
+            &[11, 12],
+        ),
     ];
     assert!(rt; is_read(rt.alloc(), &BLOCKS, &packets, 10));
     assert!(rt; is_read(rt.alloc(), &BLOCKS[..336], &packets[..3], 9));

@@ -25,6 +25,7 @@ mod fragment;
 mod frame;
 mod gap;
 mod header;
+mod imported;
 mod line;
 mod log;
 mod manager;
@@ -69,6 +70,7 @@ pub use fragment::{
 pub use frame::{carries_all_its_data, is_as_its_front_says};
 pub use gap::must_be_filled;
 pub use header::adds_up_to_all_ones;
+pub use imported::is_of_the_packets_alone;
 pub use line::{explain_what_they_wrote, leave_a_recording};
 pub use log::{grows_by_no_filter, is_read_by_programs, names_each_datum_once};
 pub use manager::sends_nothing_too_often;

@@ -61,11 +61,15 @@ class Cases:
     def __init__(self):
         self.lines, self.files, self.calls, self.kept = [], {}, {}, set()
 
+    def spelled(self, text):
+        """The lines that fill a file."""
+        return hexes(text)
+
     def case(self, name, files=()):
         self.lines.append(f"\ncase {name}")
         for file, text in dict(files).items():
             if self.files.get(file) != text:
-                self.lines += [f"file {file}", *hexes(text)]
+                self.lines += [f"file {file}", *self.spelled(text)]
                 self.files[file] = text
 
     def replaces(self, words):
@@ -86,7 +90,7 @@ class Cases:
             if text:
                 self.lines += [part, *(f"text {line}" if line else "text" for line in text.decode().splitlines())]
         if left is not None:
-            self.lines += ["left", *hexes(left)]
+            self.lines += ["left", *self.spelled(left)]
 
     def joined(self, name, files, form=None, keep=None, new="new"):
         """Pieces that are joined, or not: all are opened in the order of the words, and then the new one is made."""

@@ -38,14 +38,19 @@ def crates():
 
 def sources(crate):
     folder = TOP / "crates" / crate / "src"
-    return {path.stem: path.read_text(encoding="utf-8") for path in sorted(folder.rglob("*.rt"))}
+    paths = sorted(folder.rglob("*.rt"))
+    return {path.relative_to(folder).with_suffix("").as_posix(): path.read_text(encoding="utf-8") for path in paths}
 
 
-def exported(text):
-    """The names that lib.rt exports of its own modules."""
+def exported(files, module="lib"):
+    """The names that a module exports of its own modules, each with the module where it stands."""
     names = set()
-    for path, braced, single in re.findall(r"^pub use (?:\w+::)*(\w+)::(?:\{([^}]*)\}|(\w+));", text, re.MULTILINE):
-        names |= {(path, name) for name in re.findall(r"\w+", braced or single)}
+    folder = "" if module == "lib" else f"{module}/"
+    for path, braced, single in re.findall(r"^pub use ((?:\w+::)*\w+)::(?:\{([^}]*)\}|(\w+));", files[module], re.MULTILINE):
+        inner = folder + path.removeprefix("crate::").replace("::", "/")
+        within = exported(files, inner) if inner in files else set()
+        for name in re.findall(r"\w+", braced or single):
+            names |= {it for it in within if it[1] == name} or {(inner, name)}
     return names
 
 
@@ -69,7 +74,7 @@ def signatures(text, indent, public):
 def calls_of(crate):
     """The public calls of a crate, by name, with their return types."""
     files = sources(crate)
-    names = exported(files["lib"])
+    names = exported(files)
     calls = {}
     for module, text in files.items():
         for name, returned in signatures(text, "", True):

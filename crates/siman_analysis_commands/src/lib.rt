@@ -1,8 +1,7 @@
 //! The commands that show the history of a recording: the [`View`]s `review`, `log` and `count`,
 //! and `chart`, which draws it in the sequence of a certificate. `siman_outside` runs a view on readers and on
 //! the names of files; [`chart_named`] takes the names of three. Their rows are those of
-//! `siman_reviews` and `exercise_log`, and the picture is that of `exercise_chart`; [`filter_of`]
-//! parses a filter.
+//! `exercise_log`, and the picture is that of `exercise_chart`; [`filter_of`] parses a filter.
 //!
 //! It opens no file itself and ends no process.
 //!

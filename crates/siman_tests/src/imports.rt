@@ -1,8 +1,8 @@
 //! Tests of recordings that are made of captures.
 
 use dis_records::{Address, SiteApplication};
-use exercise_captures::{Import, ImportFault, PacketCounts, PacketRule, import_log};
 use exercise_model::Station;
+use exercise_recording::{Import, ImportFault, PacketCounts, PacketRule, import_log};
 use packet_captures::{Capture, FormatFault, Host};
 use siman_trials::{Calls, WELL, read_from};
 use std::alloc::Global;

@@ -1,9 +1,9 @@
 //! Headers of exported packets.
 
 ghost use Rattle.std.specs.Prelude.{◌≡◌, ℕ, ◌+◌, ◌<◌, ◌^◌};
-ghost use Rattle.exercise_captures.specs.Checksum.{carried, checksum_of};
+ghost use Rattle.exercise_recording.specs.Captures.Checksum.{carried, checksum_of};
 
-use exercise_captures::headers_add_up;
+use exercise_recording::headers_add_up;
 
 /// Who adds up the words of an IPv4 header, its checksum among them, has all ones, as the standard
 /// asks for; so nobody drops an exported packet for its checksum.

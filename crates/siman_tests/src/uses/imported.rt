@@ -1,14 +1,14 @@
 //! Recordings that are made of captures.
 
 ghost use Rattle.std.specs.Prelude.{◌≡◌, ◌++◌, ℕ, Ok};
-ghost use Rattle.exercise_captures.specs.Import.{head_of};
-ghost use Rattle.exercise_captures.specs.Log.{LogState, log_of};
-ghost use Rattle.exercise_captures.specs.declared.packet_rule.PacketRule.{PacketRule};
+ghost use Rattle.exercise_recording.specs.Captures.Import.{head_of};
+ghost use Rattle.exercise_recording.specs.Captures.Log.{LogState, log_of};
+ghost use Rattle.exercise_recording.specs.declared.captures.packet_rule.PacketRule.{PacketRule};
 ghost use Rattle.exercise_model.specs.Station.{StationData};
 ghost use Rattle.exercise_recording.specs.Text.{end_text};
 ghost use Rattle.packet_captures.specs.Capture.{PlainCapture};
 
-use exercise_captures::kept_packets_are_entries;
+use exercise_recording::kept_packets_are_entries;
 
 /// Captures with the same packets give the same recording, whatever else they say: how they end,
 /// and how many packets were lost.

@@ -22,10 +22,10 @@ ghost use Rattle.siman_scripts.specs.Statement.{statement_of};
 ghost use Rattle.siman_scripts.specs.Words.{IsPlacedAt, placed_words_of};
 ghost use Rattle.siman_print.specs.Reason.{number_behind, reason_text, why_other};
 ghost use Rattle.siman_print.specs.declared.reason.OtherReason.TheVariants.{Refused};
-ghost use Rattle.siman_reviews.specs.Others.{other_counts};
+ghost use Rattle.exercise_log.specs.ReviewRows.Others.{other_counts};
 
+use exercise_log::others_are_counted;
 use siman_print::{others_have_reasons, reasons_are_refusals};
-use siman_reviews::others_are_counted;
 use siman_scripts::{
     a_line_has_a_reason_or_is_an_order, a_line_is_refused_for_a_reason,
     a_text_has_a_reason_or_is_a_script, reasons_hold_of_the_lines_before, words_have_their_columns,

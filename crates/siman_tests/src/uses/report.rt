@@ -14,17 +14,17 @@ ghost use Rattle.exercise_conflict.specs.Lines.{clash_line};
 ghost use Rattle.siman_pdus.specs.declared.pdu.Pdu.{Pdu};
 ghost use Rattle.siman_print.specs.EntryLines.{entry_line};
 ghost use Rattle.siman_print.specs.Head.{head_line};
-ghost use Rattle.siman_reviews.specs.Review.{filtered_lines, order_line, review_line, review_lines};
+ghost use Rattle.exercise_log.specs.ReviewRows.Review.{filtered_lines, order_line, review_line, review_lines};
 ghost use Rattle.siman_print.specs.Keys.{has_no_key_twice};
 ghost use Rattle.siman_print.specs.Spelled.{line_json};
 
 use exercise_conflict::conflict_keys_come_once;
+use exercise_log::{
+    conversion_keeps_lines, review_json_says_the_same, review_keys_come_once, review_text,
+};
 use exercise_model::{ExerciseLog, Recording};
 use exercise_review::{Filter, Review};
 use siman_print::{Spelling, keys_come_once};
-use siman_reviews::{
-    conversion_keeps_lines, json_says_the_same, review_keys_come_once, review_text,
-};
 use std::alloc::{AllocError, Global};
 
 /// A review in JSON. It has a row for each row of the text, with equal fields, so that a program
@@ -39,7 +39,7 @@ pub fn says_in_json_what_the_text_says<L: ExerciseLog>(
     requires { GivesReview (L.recording log.now) review.now }
     ensures { IfOk result (λ text. string_bytes text ≡ flat_map line_json (review_lines (L.recording log.now) explained filters.now)) }
 {
-    json_says_the_same();
+    review_json_says_the_same();
     review_text(alloc, Spelling::Json, log, explained, filters, review)
 }
 

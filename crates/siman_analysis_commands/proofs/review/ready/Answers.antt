@@ -7,7 +7,7 @@ use Rattle.exercise_review.specs.Fate.{fate_of}
 use Rattle.exercise_audit.specs.Audit.{IsExplained}
 use Rattle.exercise_review.specs.Review.{line_count}
 use Rattle.siman_print.specs.declared.spelling.Spelling.{Spelling}
-use Rattle.siman_reviews.specs.Review.{review_spelled, body_spelled}
+use Rattle.exercise_log.specs.ReviewRows.Review.{review_spelled, body_spelled}
 use Rattle.siman_analysis_commands.specs.Review.{IsFateIn}
 use Rattle.siman_analysis_commands.proofs.Reviewed.{each_fate}
 use Rattle.siman_analysis_commands.proofs.review.ready.Goals as goal
@@ -28,7 +28,7 @@ returns g c =
       within = subst (λ (x : PlainRecording). line_count x ≤ MOST_LINES) same c.in_ok-reviewed.ensures.within;
       text_is = ap (λ t. t ++ body_spelled s told filters) c.in_ok-head.ensures ∙ sym (c.head_and_body_are_all.ensures s told explained filters)
           ∙ ap (λ (x : PlainRecording). review_spelled s x explained filters) (c.in_ok-reviewed.ensures.reviewed ∙ same);
-      part = c.filters_take_away.ensures r explained filters;
+      part = c.review_filters_take_away.ensures r explained filters;
       fates = λ h o s t explains within maker. each_fate (λ fate. fate_of r o (Station t) ≡ fate → IsFateIn r h o s t fate)
           (law.done r h o s t limits explains within maker) (law.answered r h o s t limits explains within maker)
           (law.refused r h o s t limits explains within maker) (law.pending r h o s t explains maker) (law.unheard r h o s t explains maker)

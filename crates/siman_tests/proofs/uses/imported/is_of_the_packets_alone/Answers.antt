@@ -1,5 +1,5 @@
 use Rattle.std.proofs.Common.{◌∙◌, sym, ap, List, []}
-use Rattle.exercise_captures.specs.Entries.{entries_from, recording_with}
+use Rattle.exercise_recording.specs.Captures.Entries.{entries_from, recording_with}
 use Rattle.exercise_recording.specs.Text.{recording_text}
 use Rattle.packet_captures.specs.Packet.{Packet}
 use Rattle.siman_tests.proofs.uses.imported.is_of_the_packets_alone.Goals as goal

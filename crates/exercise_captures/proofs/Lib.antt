@@ -1,9 +1,0 @@
-mod Blocks
-mod BlockOptions
-mod ReadInterfaces
-mod ReadPackets
-mod ReadBack
-mod ReadDatagrams
-mod Shorts
-mod Follows
-mod EntryLaws

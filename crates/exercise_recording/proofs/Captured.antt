@@ -1,0 +1,9 @@
+pub mod Blocks
+pub mod BlockOptions
+pub mod ReadInterfaces
+pub mod ReadPackets
+pub mod ReadBack
+pub mod ReadDatagrams
+pub mod Shorts
+pub mod Follows
+pub mod EntryLaws

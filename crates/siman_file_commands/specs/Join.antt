@@ -53,6 +53,7 @@ abbrev pub IsJoinFault : JoinFault → (name : List ℕ) → Fault → Type 0
 IsJoinFault (joins.Recording why) name fault = fault_text fault ≡ codes "recording: " ++ join_fault_text (joins.Recording why) ++ codes " in " ++ name
 IsJoinFault joins.Exercise name fault = fault_text fault ≡ codes "join: exercise in " ++ name
 IsJoinFault (joins.Station a) name fault = fault_text fault ≡ codes "join: " ++ join_fault_text (joins.Station a) ++ codes " in " ++ name
+IsJoinFault (joins.Time a) name fault = fault_text fault ≡ codes "join: " ++ join_fault_text (joins.Time a) ++ codes " in " ++ name
 IsJoinFault joins.Stations name fault = fault_text fault ≡ codes "join: stations"
 IsJoinFault joins.Records name fault = fault_text fault ≡ codes "join: records"
 IsJoinFault joins.Size name fault = fault_text fault ≡ codes "join: size"
@@ -115,7 +116,7 @@ ReadsBehind j (piece ∷ pieces) deeds result =
 
 -- PIECES ARE READ in the order of the words
 abbrev pub ReadsPieces : FormWord → List Seen → List Deed → Result JoiningData Fault → Type 0
-ReadsPieces word pieces deeds result = ReadsBehind (record { word = word; pieces = [] }) pieces deeds result
+ReadsPieces word pieces deeds result = ReadsBehind (record { word = word; parts = false; pieces = [] }) pieces deeds result
 
 -- ---- the made file
 

@@ -52,6 +52,9 @@ fn result_of(fault: JoinFault, name: &str) -> Fault<'_>
         JoinFault::Station(address) => {
             Fault::StationTwice(address.site(), address.application(), name)
         }
+        JoinFault::Time(address) => {
+            Fault::BackInTime(address.site(), address.application(), name)
+        }
         JoinFault::Stations => Fault::Joined(JoinLimit::Stations),
         JoinFault::Records => Fault::Joined(JoinLimit::Records),
         JoinFault::Size => Fault::Joined(JoinLimit::Size),

@@ -28,7 +28,7 @@ use Rattle.siman_outside.specs.declared.join_limit.JoinLimit.TheVariants as limi
 use Rattle.siman_outside.specs.declared.fault.Fault.{Fault}
 use Rattle.siman_outside.specs.declared.fault.Ended.{Ended}
 use Rattle.siman_outside.specs.declared.fault.Fault.TheVariants as faults
-use Rattle.siman_outside.specs.declared.fault.Fault.TheVariants.{NotBytePairs, HexLine, Input, File, Words, Recording, Already, Piece, OtherExercise, StationTwice, Joined, Certificate, BadLine, UnknownStation, ScriptRead, WorldStations, LineFailed, StationWord, NotInSetup, Filter, Step, OverLimit, ChartOverLimit, Output, SameAs, Exists, Memory}
+use Rattle.siman_outside.specs.declared.fault.Fault.TheVariants.{NotBytePairs, HexLine, Input, File, Words, Recording, Already, Piece, OtherExercise, StationTwice, BackInTime, Joined, Certificate, BadLine, UnknownStation, ScriptRead, WorldStations, LineFailed, StationWord, NotInSetup, Filter, Step, OverLimit, ChartOverLimit, Output, SameAs, Exists, Memory}
 use Rattle.siman_outside.specs.declared.files_fault.FilesFault.{FilesFault}
 use Rattle.siman_outside.specs.declared.files_fault.FilesFault.TheVariants as files
 use Rattle.siman_outside.specs.declared.input.InputFault.{InputFault}
@@ -81,6 +81,7 @@ reported_as (Piece recordings.Read name) = (codes "recording: ", codes "read", S
 reported_as (Piece recordings.Memory name) = (codes "recording: ", codes "memory", Some (places.Piece name))
 reported_as (OtherExercise name) = (codes "join: ", codes "exercise", Some (places.Piece name))
 reported_as (StationTwice site application name) = (codes "join: ", codes "station", Some (PieceStation site application name))
+reported_as (BackInTime site application name) = (codes "join: ", codes "time", Some (PieceStation site application name))
 reported_as (Joined limit) = (codes "join: ", limit_name limit, None)
 reported_as (Certificate (certificates.Format f)) = (codes "certificate: ", certificate_texts.name_of f, Some (Offset (certificate_texts.place_of f)))
 reported_as (Certificate certificates.Read) = (codes "certificate: ", codes "read", None)

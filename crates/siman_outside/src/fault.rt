@@ -44,6 +44,9 @@ pub enum Fault<'a> {
     /// The piece of this name has the station of this site and application, which an earlier piece
     /// has too.
     StationTwice(u16, u16, &'a str),
+    /// The log of the station of this site and application begins in the piece of this name before
+    /// its last stamp in the earlier pieces.
+    BackInTime(u16, u16, &'a str),
     /// The recording joined from the pieces passes a limit.
     Joined(JoinLimit),
     /// The certificate could not be read. Lack of memory is `Memory`.
@@ -122,6 +125,11 @@ impl<'a> Fault<'a> {
             Fault::StationTwice(site, application, piece) => (
                 "join: ",
                 "station",
+                Some(Place::PieceStation(site, application, piece)),
+            ),
+            Fault::BackInTime(site, application, piece) => (
+                "join: ",
+                "time",
                 Some(Place::PieceStation(site, application, piece)),
             ),
             Fault::Joined(limit) => ("join: ", limit.name(), None),

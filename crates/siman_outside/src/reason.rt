@@ -135,6 +135,17 @@ fn twice_pieces(site: u16, application: u16) -> TextPieces<'static> {
     )
 }
 
+/// The reason for a station whose log begins in a piece before its end in the earlier ones.
+fn back_pieces(site: u16, application: u16) -> TextPieces<'static> {
+    five_pieces(
+        TextPiece::Words("the log of "),
+        TextPiece::Address(site, application),
+        TextPiece::Words(" begins there before its end in an earlier piece: give its parts in the order of time, each once"),
+        TextPiece::Nothing,
+        TextPiece::Nothing,
+    )
+}
+
 /// Name of the socket on which a call failed: as the command line has it, or one of the loopback.
 fn socket_name<'a>(names: Named<'a>, known: Known) -> &'a str {
     match known.failed {
@@ -194,6 +205,7 @@ fn other_pieces<'a>(fault: Fault<'a>, names: Named<'a>, known: Known) -> TextPie
             two_named(name, " is of another exercise than ", names.first)
         }
         Fault::StationTwice(site, application, _) => twice_pieces(site, application),
+        Fault::BackInTime(site, application, _) => back_pieces(site, application),
         Fault::Joined(limit) => limit_pieces(limit),
         Fault::Certificate(fault) => certificate_pieces(fault, names, known),
         Fault::BadLine(..) | Fault::UnknownStation(..) => words_alone("the text is no script"),

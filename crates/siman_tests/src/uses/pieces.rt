@@ -5,7 +5,7 @@ ghost use Rattle.exercise_model.specs.History.{History};
 ghost use Rattle.exercise_model.specs.Recording.{IsRecording, PlainRecording};
 ghost use Rattle.exercise_model.specs.Run.{Explains};
 ghost use Rattle.exercise_model.specs.declared.form.Form.TheVariants.{First};
-ghost use Rattle.exercise_recording.specs.Joining.{ArePieces, entries_at, index_among, joined, stations_of};
+ghost use Rattle.exercise_recording.specs.Joining.{ArePieces, entries_at, index_among, joined, joined_parts, stations_of};
 ghost use Rattle.exercise_recording.specs.JoiningOrder.{AreSamePieces};
 ghost use Rattle.exercise_recording.specs.Totals.{entry_total};
 ghost use Rattle.exercise_recording.specs.declared.joined.FormWord.{FormWord};
@@ -13,7 +13,8 @@ ghost use Rattle.exercise_recording.specs.declared.joined.FormWord.TheVariants.{
 
 use exercise_model::{Recording, conversion_keeps_runs};
 use exercise_recording::{
-    logs_are_kept, one_piece_is_converted, order_of_pieces_says_nothing, pieces_are_explained,
+    logs_are_kept, one_piece_is_converted, order_of_pieces_says_nothing, parts_are_kept,
+    pieces_are_explained,
 };
 
 /// It does not matter which piece is joined first: the runs that explain one arrangement of the
@@ -34,6 +35,15 @@ pub fn lose_no_entry(pieces: &[Recording])
         → length (entries_at i (joined word pieces.now).entries) ≡ length (entries_at s r.entries) }
 {
     logs_are_kept();
+}
+
+/// Parts of logs lose no entry either (`count`), and where each station is in one of them, it does
+/// not matter whether they are joined as parts (`same`).
+pub fn may_be_parts(parts: &[Recording])
+    ensures count { (word : FormWord) → length (joined_parts word parts.now).entries ≡ entry_total parts.now }
+    ensures same { (word : FormWord) → ArePieces parts.now → joined_parts word parts.now ≡ joined word parts.now }
+{
+    parts_are_kept();
 }
 
 /// Joining a single piece changes nothing: exactly the runs that explain the piece explain the

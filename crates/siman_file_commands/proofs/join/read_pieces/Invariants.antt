@@ -9,7 +9,7 @@ abbrev pub invariant-loop-alloc : goal.invariant-loop-alloc
 invariant-loop-alloc g l =
     let seen = map (seen_by g.O.Outside.bytes) in
     (deeds : List Deed) × Adds (g.O.Outside.deeds l.initial.outside) (g.O.Outside.deeds l.outside) deeds × ((holds : List ℕ → Option Found) → All (WasHeld holds) deeds)
-    × IsReading (record { word = l.fn.word; pieces = [] }) (seen l.initial.pieces.items) (seen l.pieces.items) deeds l.joining
+    × IsReading (record { word = l.fn.word; parts = false; pieces = [] }) (seen l.initial.pieces.items) (seen l.pieces.items) deeds l.joining
 
 abbrev pub decreases-loop-alloc : goal.decreases-loop-alloc
 decreases-loop-alloc g l = vec_len l.pieces

@@ -56,11 +56,11 @@ _siman() {
     current=${words[-1]%.}
     COMPREPLY=()
     if ((${#words[@]} == 2)); then
-        _siman_words 'pdu pdus show check audit world live station convert mend join review log count why chart help --help --version'
+        _siman_words 'pdu pdus show check audit world live station convert mend join import export review log count why chart help --help --version'
         return
     fi
     case ${words[1]}:$((${#words[@]} - 3)) in
-        help:0) _siman_words 'pdu pdus show check audit world live station convert mend join review log count why chart help' ;;
+        help:0) _siman_words 'pdu pdus show check audit world live station convert mend join import export review log count why chart help' ;;
         show:0) _siman_files dsrc ;;
         check:0) _siman_files dsrc ;;
         check:1) _siman_files dsct ;;
@@ -82,6 +82,13 @@ _siman() {
         mend:1) _siman_folders ;;
         mend:*) _siman_words '--force' ;;
         join:*) _siman_others dsrc; _siman_words 'form=open form=closed --force' ;;
+        import:0) _siman_files script ;;
+        import:3) _siman_files pcap ;;
+        import:4) _siman_folders ;;
+        import:*) _siman_words 'port= on= cut=keep shared echo opening=none opening=assumed --force' ;;
+        export:0) _siman_files dsrc ;;
+        export:1) _siman_folders ;;
+        export:*) _siman_words '--force' ;;
         review:0) _siman_files dsrc ;;
         review:*) _siman_words 'station= entity= request= fate=done fate=answered fate=refused fate=pending fate=unheard fate=unanswered fate=lost fate=unknown fate=nobody --json' ;;
         log:0) _siman_files dsrc ;;

@@ -3,7 +3,8 @@
 
 A public call is a `pub fn` that a crate's lib.rt exports, by itself or with its type, or a method of a trait that it
 exports. For each the script reads from the code what it refuses with: the variants of the fault that its return type
-names, `None` of an Option, `false` of nothing else. It fails where a call has no row under its crate, has more than one,
+names, `None` of an Option, `false` of nothing else. The many of `Fault`, which commands have, stand once, in the row
+`Fault` of siman_outside; a call that refuses with it has its name. It fails where a call has no row under its crate, has more than one,
 where a row names a call that is not there, or where what a row says of refusals is not what the code says. What stands
 after a refusal is written by hand.
 
@@ -27,6 +28,8 @@ NO_LIBRARIES = {
     "siman_trials",
 }
 NONE = "nothing"
+# The fault of commands, and the crate whose table lists its variants.
+SHARED, LISTED_IN = "Fault", "siman_outside"
 
 
 def crates():
@@ -117,7 +120,7 @@ def refusals(returned, known):
         return "io::Error"
     if match:
         fault = re.split(r"[ ,<(]", last_argument(match.group(2)).strip())[0]
-        return ", ".join(known.get(fault, [fault]))
+        return fault if fault == SHARED else ", ".join(known.get(fault, [fault]))
     return "None" if returned.startswith("Option<") else NONE
 
 
@@ -145,11 +148,15 @@ def wrongs(crate, rows, known):
     """What is wrong with the rows of a crate."""
     calls = calls_of(crate)
     listed = [call for names, _, _ in rows for call in names]
-    yield from (f"{crate}: {call} has no row" for call in calls if call not in listed)
+    needed = [*calls, SHARED] if crate == LISTED_IN else calls
+    yield from (f"{crate}: {call} has no row" for call in needed if call not in listed)
     yield from (f"{crate}: {call} has more than one row" for call in set(listed) if listed.count(call) > 1)
     for names, refused, stands in rows:
         for call in names:
-            if call not in calls:
+            if (call, crate) == (SHARED, LISTED_IN):
+                if refused != ", ".join(known[SHARED]):
+                    yield f"{crate}: {SHARED} is {', '.join(known[SHARED])}, and its row says {refused}"
+            elif call not in calls:
                 yield f"{crate}: there is no public call {call}"
             elif refused != refusals(calls[call], known):
                 yield f"{crate}: {call} refuses with {refusals(calls[call], known)}, and its row says {refused}"

@@ -7,12 +7,13 @@
 What they have to make is computed by an independent reading, tools/pages/. With a PROGRAM, each part runs it too and
 compares what it prints, makes and takes of memory. The parts, all of them but `speed` if none is named:
 
-- cases: import.cases and export.cases of siman_cases, where they are there, are as they are made of the reading;
-  --write makes them.
+- cases: import.cases and export.cases of siman_cases are as they are made of the reading, where siman_cases tries them;
+  --write makes those.
 - words: a program with good and bad words, files under several names, pipes, streams that fail.
 - worked: the captures of examples/captures/, and what has to come of them to the byte.
 - made: captures that are made up by a seed, of both formats, all byte orders and links: what is kept of each frame is
-  what tshark shows with port, host and family, but for what stands below. Recordings that are exported and read back.
+  what tshark shows with port, host and family, but for what stands below. Recordings that are exported and read back, one
+  in ten of them also by tshark.
 - networks: two hosts in namespaces of their own with a wire between them; tcpdump and dumpcap in both, on the interface
   and on `any`, while datagrams go to one, to a group and to all, some in fragments. Needs root, ip, tcpdump, dumpcap.
 - hostile: captures that are made up and spoilt: lengths, options, blocks, fragments; for a program also records and blocks
@@ -63,16 +64,16 @@ def arguments():
 
 
 def made_cases():
-    """The files of cases, and their texts."""
-    return {DATA / name: "\n".join(made()) + "\n" for name, made in CASES.items()}
+    """The files of cases that siman_cases tries, and their texts."""
+    tried = (DATA.parent / "args").read_text(encoding="utf-8").split()
+    return {DATA / name: "\n".join(made()) + "\n" for name, made in CASES.items() if name in tried}
 
 
 def try_cases(trial):
-    for path, text in made_cases().items():
-        if path.is_file():
-            trial.state(f"{path.name} is as it is made", path.read_text(encoding="utf-8") == text)
-        else:
-            trial.skipped.append(f"{path.name}, which siman_cases has not")
+    made = made_cases()
+    for path, text in made.items():
+        trial.state(f"{path.name} is as it is made", path.is_file() and path.read_text(encoding="utf-8") == text)
+    trial.skipped += [f"{name}, which siman_cases has not" for name in CASES if DATA / name not in made]
 
 
 def try_parts(trial, given):

@@ -56,6 +56,8 @@ TYPED = {
     "siman live exercise.script ": "siman live exercise.script later/",
     "siman audit exercise.dsrc exer": "siman audit exercise.dsrc exer",
     "siman mend exercise.dsrc new.dsrc --f": "siman mend exercise.dsrc new.dsrc --force",
+    "siman exp": "siman export",
+    "siman export exercise.dsrc ": "siman export exercise.dsrc later/",
     "siman review exercise.dsrc fate=unh": "siman review exercise.dsrc fate=unheard",
     "siman review exercise.dsrc fate=lost sta": "siman review exercise.dsrc fate=lost station=",
     "siman log exercise.dsrc kind=ev": "siman log exercise.dsrc kind=event-report",

@@ -20,7 +20,7 @@ from pathlib import Path
 sys.dont_write_bytecode = True
 
 from cases import (
-    audits, charts, converts, counts, datagrams, files, folders, histories, joins, lives, logs, memory, mends, reasons, reviews,
+    audits, charts, converts, counts, datagrams, exports, files, folders, histories, joins, lives, logs, memory, mends, reasons, reviews,
     saving, scripts, sizes, sockets, stations, streams, whys, words, worlds,
 )  # fmt: skip
 from cases.examples import TOP, made_examples
@@ -45,7 +45,7 @@ def try_program(program, folder):
     trials = Trials(str(program), folder)
     examples = made_examples(folder)
     parts = (
-        words, datagrams, files, histories, audits, converts, mends, joins, reviews, logs, counts, whys, charts, scripts, worlds, lives,
+        words, datagrams, files, histories, audits, converts, mends, joins, exports, reviews, logs, counts, whys, charts, scripts, worlds, lives,
         sockets, stations, sizes, saving, folders, reasons,
         streams, memory,
     )  # fmt: skip

@@ -1,4 +1,5 @@
 """Captures of the examples and captures that are made up, beside what tshark shows of them."""
+import ipaddress
 import random
 import shutil
 import subprocess
@@ -40,6 +41,7 @@ def try_worked(trial):
             line = said[said.index(f"import setup.script {address} 10.77.0.{number} host{number}.pcap NEW {' '.join(words)}") + 1]
             trial.state(f"the line of {told}", answer.out == f"{line}\n".encode())
     exported(trial, "own.dsrc", bytes_of("own.dsrc.hex"), bytes_of("own.pcapng.hex"))
+    exported_by_tshark(trial, "own.dsrc", bytes_of("own.dsrc.hex"))
     try_verdicts(trial)
     try_rewritten(trial, setup)
 
@@ -101,6 +103,32 @@ def exported(trial, told, recording, wanted=None):
         trial.state(f"{told} back as {name}", back == texts.recording_text(Recording(exercise, [station], log, OPEN)))
 
 
+def shown_of(number, entry, station):
+    """What tshark has to show of the packet of an entry: its frame, and that as it is in the recording."""
+    own, data = ipaddress.ip_address(station.site << 16 | station.application), entry.datagram
+    if entry.kind == SENT:
+        way = own, ipaddress.ip_address(data[18:22] if len(data) >= 24 else b"\xff" * 4)
+    else:
+        way = ipaddress.ip_address(data[12:16] if len(data) >= 24 else bytes(4)), own
+    return (number, entry.stamp, f"{station.site}:{station.application}", 2 if entry.kind == SENT else 1, *way, data)
+
+
+def exported_by_tshark(trial, told, recording):
+    """What tshark shows of the capture of a recording: each datagram, as DIS where it has 12 bytes."""
+    if not sharks.is_there():
+        trial.skipped.append("there is no tshark: captures of recordings are not compared with it")
+        return
+    path = Path(trial.folder) / "exported.pcapng"
+    path.write_bytes(pages.answer_to_export(recording)[1])
+    _, stations, entries, _ = pages.read_recording(recording)
+    packets = [entry for entry in entries if entry.kind != TOLD]
+    wanted = [shown_of(number, entry, stations[entry.station]) for number, entry in enumerate(packets, 1)]
+    came = [(it.frame, it.stamp, it.name, it.direction, it.source, it.target, it.data) for it in sharks.shown(path, 3000)]
+    trial.state(f"{told} exported, by tshark", came == wanted, str([each for each in zip(came, wanted) if each[0] != each[1]][:1]))
+    kinds = {number: entry.datagram[2] for number, entry in enumerate(packets, 1) if len(entry.datagram) >= 12}
+    trial.state(f"{told} exported, as DIS by tshark", sharks.dis_kinds(path) == kinds)
+
+
 def is_left_in(entry, exercise):
     """Whether an entry is none that `other` and `elsewhere` leave out."""
     return entry.kind != TOLD and len(entry.datagram) >= 4 and entry.datagram[3] == 5 and entry.datagram[1] == exercise
@@ -130,6 +158,8 @@ def try_made(trial, seeds):
         words = [ADDRESS, *made.words]
         imported(trial, f"made-up capture {seed}", made.setup, words, made.text)
         exported(trial, f"made-up recording {seed}", made_recording(random.Random(seed)))
+        if seed % 10 == 0:
+            exported_by_tshark(trial, f"made-up recording {seed}", made_recording(random.Random(seed)))
         if sharks.is_there():
             path = Path(trial.folder) / "made.cap"
             path.write_bytes(made.text)

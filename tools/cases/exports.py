@@ -1,10 +1,12 @@
-"""Cases of `export`: recordings that are made captures, and that `import` gives the logs back."""
+"""Recordings that are made captures: the cases of `export`, those of `import` that give the logs back, and tries."""
 import pages
 from cases import texts
 from cases.captured import bytes_of
 from cases.examples import FORMATS_RECORDING
 from cases.failing import hexes
 from cases.small_captures import Imports, answered, order
+from cases.trials import UNWRITTEN
+from cases.worlds import after
 from pages import CLOSED, FIRST, OPEN, RUNNING, STOPPED, Outcome, Recording, Station
 
 STATIONS = [Station(1, 1, []), Station(2, 3, [(5, RUNNING), (9, STOPPED)]), Station(65534, 65534, [])]
@@ -69,18 +71,34 @@ def back(cases):
         cases.warned(answer, warned)
 
 
+def because(cases, why):
+    """The second line of a fault."""
+    cases.lines += ["reason", f"text   {why}"]
+
+
 def faults(cases):
     text = recording(list(logs())[:5])
+    for name, bad, why in (
+        ("an-empty-file", b"", "recording is an empty file"),
+        ("a-torn-recording", text[:60], "siman mend recording NEW keeps its whole entries, where its stations stand whole"),
+        ("a-bad-head", text[:9] + b"\2" + text[10:], "recording: a field of its head is bad"),
+        ("a-script-for-a-recording", b"exercise 7\nstation 1:1\n", "recording is no recording: it looks like a script"),
+    ):
+        cases.exported(f"{name}-and-why", bad)
+        because(cases, why)
     for size in (0, 7, 8, 9, 10, 12, 30, 60, len(text) - 5, len(text) - 1):
         cases.exported(f"a-recording-of-{size}-bytes", text[:size])
     cases.exported("bytes-behind-the-end", text + b"\0")
     cases.exported("a-bad-kind", recording([])[:-5] + b"\4" + bytes(4))
     cases.case("a-recording-that-is-not-there", [("recording", text), ("there", b"what stood before\n")])
     cases.told(["export", "nowhere", "new"], ["nowhere"], pages.unopened("nowhere"))
+    because(cases, "nowhere: is the name right, and its folder?")
     cases.case("a-recording-onto-itself")
     cases.told(["export", "recording", "recording", "--force"], ["recording"], pages.fault("output: same as recording"))
+    because(cases, "recording is read: give the new file another name")
     cases.case("the-new-one-stands")
     cases.told(["export", "recording", "there"], ["recording"], pages.fault("output: exists"))
+    because(cases, "there is there already: give another name, or --force to replace it")
     answer, left = pages.answer_to_export(text)
     cases.case("the-new-one-is-replaced")
     cases.told(["export", "recording", "there", "--force"], ["recording", "make there"], answer, left)
@@ -119,10 +137,90 @@ def failing(cases):
         cases.lines += [f"calls 1 {byte + 1} other", "errors", "text output: write", "discarded", *hexes(left)]
 
 
+HELP = """\
+Writes the datagrams of a recording as a capture, which Wireshark and tshark show as DIS
+
+Usage: siman export <REC> <NEW> [--force]
+
+Arguments:
+  <REC>  The file of the recording
+  <NEW>  The file of the capture, in pcapng; it must not be there yet, or be empty
+
+Options:
+      --force  Replaces a file that has the name of the one that is made
+  -h, --help   Print help
+
+Example:
+  siman export exercise.dsrc exercise.pcapng
+"""
+# What is told of words that ask for no task, behind the line of the fault.
+USAGE = "Usage: siman export <REC> <NEW> [--force]\n\nFor more information, try '--help'.\n"
+
+
+def untaken(cases, name, words, outcome):
+    """Words that are no task: no file is asked for."""
+    cases.case(name)
+    behind = len(cases.lines) + 1
+    cases.told(words, [], outcome)
+    cases.lines.insert(behind, "asked-nothing")
+
+
+def words(cases):
+    for name, call in (("help-by-export-help", ["export", "--help"]), ("help-by-help-export", ["help", "export"])):
+        untaken(cases, name, call, Outcome(0, HELP.encode(), b""))
+    missing = "the following required arguments were not provided:\n"
+    for name, call, why in (
+        ("no-words", [], f"{missing}  <REC>\n  <NEW>"),
+        ("one-word", ["recording"], f"{missing}  <NEW>"),
+        ("three-words", ["recording", "new", "more"], "unexpected argument 'more' found"),
+        ("an-option-of-others", ["recording", "new", "--json"], "unexpected argument '--json' found"),
+        ("an-option-in-the-place-of-a-file", ["-r", "new"], "unexpected argument '-r' found"),
+        ("force-twice", ["--force", "recording", "new", "--force"], "the argument '--force' cannot be used multiple times"),
+    ):
+        untaken(cases, name, ["export", *call], Outcome(2, b"", f"error: {why}\n\n{USAGE}".encode()))
+    twice = USAGE.replace("export <REC> <NEW> [--force]", "[COMMAND]")
+    told = f"error: standard input, '-', can be read once\n\n{twice}"
+    untaken(cases, "standard-input-twice", ["export", "-", "-"], Outcome(2, b"", told.encode()))
+
+
+# ---- tried from outside
+
+
+def try_text(trials, text):
+    """A recording of which a capture is made under a new name, and in the place of a file that stands."""
+    answer, left = pages.answer_to_export(text)
+    name, stood = trials.file(text), b"stays" * 20_000
+    after(trials, ["export", name, f"{name}.new"], (answer,), f"{name}.new", lambda came: came == left)
+    stands, wanted = trials.file(stood), stood if left is None else left
+    after(trials, ["export", name, stands, "--force"], (answer,), stands, lambda came: came == wanted)
+
+
+def try_all(trials, examples):
+    good, certificate, wrong = examples
+    for text in ((trials.folder / good).read_bytes(), (trials.folder / wrong).read_bytes(), bytes_of("own.dsrc.hex"), recording(list(logs()))):
+        try_text(trials, text)
+    for size in range(len(FORMATS_RECORDING)):
+        try_text(trials, FORMATS_RECORDING[:size])
+    for place, byte in enumerate(FORMATS_RECORDING):
+        for value in (byte ^ 1, byte ^ 0xFF):
+            try_text(trials, FORMATS_RECORDING[:place] + bytes([value]) + FORMATS_RECORDING[place + 1 :])
+    try_text(trials, texts.recording_text(texts.told_often(4000)))
+    trials.expect(["export", "examples", "never"], pages.unopened("examples", "is a directory"))
+    trials.expect(["export", certificate, "never"], pages.fault("recording: magic at 0"))
+    for name in ("examples", "none/there.pcapng", "", "/dev/full"):
+        trials.expect(["export", good, name], UNWRITTEN)
+    trials.expect(["export", good, "/dev/null"], pages.answer_to_export((trials.folder / good).read_bytes())[0])
+    for behind in (">/dev/full", ">&-"):
+        name = f"unheard.{len(behind)}.pcapng"
+        after(trials, ["export", good, name], (UNWRITTEN,), name, lambda left: left is None, behind=behind)
+
+
+# ---- the file of cases
+
+
 def cases():
     made = Exports()
-    for part in (whole, back, faults, failing):
+    for part in (whole, faults, failing, words):
         part(made)
-    yield "# Recordings of which a capture is made, for Wireshark and tshark, and the logs that `import` makes of it again. The"
-    yield "# lines were made by tools/cases/exports.py."
+    yield "# Recordings of which a capture is made, for Wireshark and tshark. The lines were made by tools/cases/exports.py."
     yield from made.lines

@@ -11,7 +11,7 @@ LINES = 1000  # of each command
 USUAL = {
     "pdu": ["0701"], "pdus": [], "show": ["REC"], "check": ["REC", "CERT"], "audit": ["REC", "NEW"], "world": ["SCRIPT", "NEW"],
     "live": ["SCRIPT", "NEW"], "station": ["SCRIPT", "1:1", "NEW", "127.0.0.1:0", "127.0.0.1:9"], "convert": ["REC", "NEW"],
-    "mend": ["REC", "NEW"], "join": ["REC", "REC", "NEW"], "review": ["REC", "fate=lost"], "log": ["REC"],
+    "mend": ["REC", "NEW"], "join": ["REC", "REC", "NEW"], "export": ["REC", "NEW"], "review": ["REC", "fate=lost"], "log": ["REC"],
     "count": ["REC", "kind=told"], "why": ["REC", "CERT"], "chart": ["REC", "CERT", "NEW"],
 }  # fmt: skip
 OTHERS = ["--force", "--json", "--force", "form=open", "form=closed", "from=1", "to=2", "from=any", "-", "--", "-x", "", "2:3", "."]

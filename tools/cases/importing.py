@@ -27,11 +27,6 @@ for line in sys.stdin:
 """
 
 
-def told_warnings(warned):
-    """What the warnings of an import have to say, by what is warned of."""
-    return {pages.NOT_WHOLE: "may not be whole", pages.UNOPENED: "opening=assumed"}[warned]
-
-
 def is_told(errors, answer, warned):
     """Whether standard error says what it has to: the fault, or a line for each warning."""
     if answer is None:
@@ -39,9 +34,7 @@ def is_told(errors, answer, warned):
     lines = errors.decode(errors="replace").splitlines()
     warnings = [line for line in lines if line.startswith("warning: ")]
     rest = "".join(f"{line}\n" for line in lines if line not in warnings).encode()
-    if first_lines(rest) != answer.errors or len(warnings) != len(warned):
-        return False
-    return all(any(told_warnings(why) in line for line in warnings) for why in warned)
+    return first_lines(rest) == answer.errors and warnings == [f"warning: {why}" for why in warned]
 
 
 class Batch:

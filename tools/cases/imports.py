@@ -3,12 +3,12 @@ import pages
 from cases import frames, import_formats, texts
 from cases.captured import HOSTS, bytes_of
 from cases.examples import TOP
+from cases.exports import Exports, back
 from cases.failing import hexes
 from cases.frames import ETHERNET
 from cases.made_captures import EXERCISE, SETUP
 from cases.small_captures import (
-    EVERYBODY, GOOD, GROUP_6, MANAGER, MANAGER_6, OTHER, OWN, OWN_6, SECOND, Imports, answered, framed, order, packet, pcap,
-    pcapng,
+    EVERYBODY, GOOD, GROUP_6, MANAGER, MANAGER_6, OTHER, OWN, OWN_6, SECOND, answered, framed, order, packet, pcap, pcapng,
 )  # fmt: skip
 from pages import Outcome
 
@@ -30,7 +30,8 @@ def worked(cases):
         cases.told(["join", *(name for name, _ in names), joined, "form=closed"], [*(name for name, _ in names), f"make {joined}"], answer, keep=joined)
         cases.case(f"{joined}-is-audited")
         verdict = pages.answer_to_audit(text)
-        cases.told(["audit", joined, "steps"], [joined, *(["make steps"] if verdict.status == 0 else [])], verdict, keep="steps" if verdict.status == 0 else None)
+        steps = "-".join(["steps", *words])
+        cases.told(["audit", joined, steps], [joined, *([f"make {steps}"] if verdict.status == 0 else [])], verdict, keep=steps if verdict.status == 0 else None)
 
 
 # ---- rows of the counts
@@ -319,7 +320,7 @@ def files(cases):
     cases.told(["import", "nowhere", *base, "nothing", "new"], ["nowhere"], pages.unopened("nowhere"))
     for name, setup, capture, new, asked, fault in (
         ("a-capture-that-is-not-there", "wrong", "nowhere", "new", ["wrong", "nowhere"], pages.unopened("nowhere")),
-        ("the-new-one-is-the-setup", "wrong", "none", "wrong", ["wrong", "none"], pages.fault("output: same as wrong")),
+        ("the-new-one-is-the-setup", "wrong", "none", "wrong", ["wrong"], pages.fault("output: same as wrong")),
         ("the-new-one-is-the-capture", "wrong", "none", "none", ["wrong", "none"], pages.fault("output: same as none")),
         ("the-new-one-stands", "wrong", "none", "there", ["wrong", "none"], pages.fault("output: exists")),
         ("a-script-before-a-capture", "wrong", "none", "new", ["wrong", "none"], pages.fault("script: bad-line at line 1")),
@@ -379,10 +380,10 @@ def failing(cases):
 
 
 def cases():
-    made = Imports()
+    made = Exports()
     of = import_formats
     formats = (of.links, of.pcaps, of.clocks, of.blocks, of.options, of.drops)
-    for part in (worked, rows, fragments, cut, ways, shared, *formats, openings, words, files, failing):
+    for part in (worked, rows, fragments, cut, ways, shared, *formats, openings, words, files, failing, back):
         part(made)
     yield "# Captures of a station's host, of which a recording is made. The captures of the first cases are real, of an exercise of"
     yield "# three hosts. The lines were made by tools/cases/imports.py."

@@ -86,4 +86,5 @@ def rows(trials):
         (["chart", recording, certificate, "row.svg"], b"", answer_to_chart(RECORDING, CERTIFICATE)[0]),
         (["convert", recording, "converted.row.dsrc"], b"", Outcome(0, b"converted records=4\n", b"")),
         (["mend", recording, "mended.row.dsrc"], b"", Outcome(0, b"whole records=4\n", b"")),
+        (["export", recording, "row.pcapng"], b"", Outcome(0, b"exported packets=4 told=0\n", b"")),
     ]  # fmt: skip

@@ -41,6 +41,7 @@ def makers(trials, examples):
     yield ["audit", recording]
     yield ["convert", recording]
     yield ["mend", recording]
+    yield ["export", recording]
     yield ["join", recording, recording]
     yield ["chart", recording, certificate]
 
@@ -108,7 +109,10 @@ def try_same(trials, examples):
     """No input is ever overwritten, by whatever name, with --force or without."""
     recording = (trials.folder / examples[0]).read_bytes()
     script = (TOP / WORKED_SCRIPT).read_bytes()
-    for command, text in [("world", script), ("live", script), ("audit", recording), ("convert", recording), ("mend", recording), ("join", recording)]:
+    for command, text in [
+        ("world", script), ("live", script), ("audit", recording), ("convert", recording), ("mend", recording), ("join", recording),
+        ("export", recording),
+    ]:  # fmt: skip
         names = names_of(trials, f"same.{command}", text)
         for read in names:
             fault = (pages.fault(f"output: same as {read}"),)

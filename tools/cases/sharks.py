@@ -48,6 +48,13 @@ def shown_line(field, port):
     return Shown(int(field["frame.number"]), stamp, field["frame.interface_name"], direction, for_all, source, target, data[:size])
 
 
+def dis_kinds(path):
+    """The PDU type of each frame that is shown as DIS, by the number of the frame."""
+    words = ["tshark", "-n", "-r", str(path), "-Y", "dis", "-T", "fields", "-E", "occurrence=f", "-e", "frame.number", "-e", "dis.pdu_type"]
+    done = subprocess.run(words, capture_output=True, check=False, timeout=120)
+    return dict(map(int, line.split("\t")) for line in done.stdout.decode().splitlines())
+
+
 def kept_of(datagram, exercise, address, host, asked):
     """The kinds of the entries that a datagram makes."""
     data, goes_to_host = datagram.data, datagram.target == host

@@ -77,6 +77,7 @@ def answers(trials, examples):
         (["live", WORKED_SCRIPT, f"{new}.live"], b"", Outcome(0, b"live records=13\n", b"")),
         (["convert", good, f"{new}.convert"], b"", Outcome(0, b"converted records=9\n", b"")),
         (["mend", good, f"{new}.mend"], b"", Outcome(0, b"whole records=9\n", b"")),
+        (["export", good, f"{new}.export"], b"", Outcome(0, b"exported packets=8 told=1\n", b"")),
         (["join", good, f"{new}.join", "form=closed"], b"", Outcome(0, b"joined pieces=1 stations=2 records=9 form=closed\n", b"")),
     ]
 

@@ -22,6 +22,7 @@ def try_words(trials):
         ["live"], ["live", "a"], ["live", "a", "b", "c"], ["live", "-a", "b"],
         ["convert"], ["convert", "a"], ["convert", "a", "b", "c"], ["convert", "-a", "b"], ["convert", recording, "-a"],
         ["mend"], ["mend", "a"], ["mend", "a", "b", "c"], ["mend", "-a", "b"], ["mend", recording, "-a"],
+        ["export"], ["export", "a"], ["export", "a", "b", "c"], ["export", "-a", "b"], ["export", recording, "-a"],
         ["review"], ["review", "-a"], ["review", "--json"], ["review", recording, "-a"], ["review", recording, "--json", "--json"],
         ["review", recording, "--force"], ["review", "-", "-"], ["show", recording, "--json"], ["check", recording, "--force", certificate],
         ["audit", recording, "a", "--force", "--force"], ["live", "a", "b", "--force"], ["audit", recording, "a", "--json"],

@@ -12,15 +12,14 @@ from .packets import Assembly, LinkFault, Nothing, carried, of_datagram
 from .reviews import addresses, is_answer_to
 from .scripts import ADDRESS, Refused, read_line, read_word, script_fault
 
-__all__ = ["Asked", "Import", "ImportFault", "NOT_WHOLE", "UNOPENED", "answer_to_import", "asked_of", "host_of"]
+__all__ = ["Asked", "Import", "ImportFault", "answer_to_import", "asked_of", "host_of"]
 
 # What the words behind NEW ask for, each by its word.
 Asked = namedtuple("Asked", "port on keep shared echo opening", defaults=(3000, None, False, False, False, None))
 KEYS = {"port": "port", "on": "on", "cut": "keep", "shared": "shared", "echo": "echo", "opening": "opening"}
 ROWS = ["other", "elsewhere", "passing", "shared", "fragments", "cut"]
 FAMILY = 5
-# What is warned of: the log may not be whole; entities should be assumed.
-NOT_WHOLE, UNOPENED = "not whole", "unopened"
+NAMED = 120  # bytes of a warning, behind which no further entity is named
 
 
 class ImportFault(Exception):
@@ -163,12 +162,12 @@ class Import:
         received = not sent and direction != WENT_OUT and (seen.target == self.host or for_all)
         return sent, received, for_all
 
-    def count_line(self, dropped, assumed):
+    def count_line(self, dropped):
         counts = self.counts
         records = counts["sent"] + counts["received"] + counts["echoes"]
         line = f"imported packets={counts['packets']} records={records}"
         line += "".join(f" {name}={counts[name]}" for name in ["sent", "received", "echoes", *ROWS])
-        return f"{line} dropped={dropped} bundled={self.bundled}" + ("" if assumed is None else f" assumed={len(assumed)}")
+        return f"{line} dropped={dropped} bundled={self.bundled}"
 
     # What the log assumes.
 
@@ -244,16 +243,38 @@ def answer_to_import(setup, words, capture_text):
     return made(it, capture, stations[address], opening)
 
 
+def not_whole(dropped, fragments, bundled):
+    """The warnings that the log may not be whole."""
+    said = [
+        (dropped, " the capturing system lost packets (dropped);"),
+        (fragments, " parts of datagrams are missing (fragments);"),
+        (bundled, " datagrams of several PDUs are not read (bundled);"),
+    ]
+    reasons = "".join(words for count, words in said if count)
+    return [f"the log may not be whole:{reasons} the counts say how many"] if reasons else []
+
+
+def unopened(entities):
+    """The warnings about entities that the log assumes: some by their numbers, and how many there are more."""
+    text = "the log assumes entities with which the station does not open:"
+    for place, entity in enumerate(entities):
+        if len(text) > NAMED:
+            text += f" and {len(entities) - place} more"
+            break
+        text += f" {entity}"
+    return [f"{text}; the setup names them, or opening=assumed opens them, stopped"] if entities else []
+
+
 def made(it, capture, told, opening):
     assumed, dropped = it.assumed(told), capture.dropped()
-    warned = [NOT_WHOLE] if dropped or it.counts["fragments"] or it.bundled else []
+    warned = not_whole(dropped, it.counts["fragments"], it.bundled)
     lines = []
     if it.asked.opening == "assumed":
         opening = sorted([*opening, *((entity, STOPPED) for entity in assumed)])
         lines = [f"assumed {identifier_text([*it.address, entity])} stopped" for entity in assumed]
-    elif assumed and it.asked.opening is None:
-        warned.append(UNOPENED)
-    line = it.count_line(dropped, assumed if it.asked.opening == "assumed" else None)
+    elif it.asked.opening is None:
+        warned += unopened(assumed)
+    line = it.count_line(dropped)
     text = it.text(opening)
     if len(text) > LARGEST_RECORDING:
         return fault("import: size"), None, []

@@ -4,7 +4,7 @@ MADE = "Made by tools/manual.py from the program's table of commands: not to be 
 # How the files that a word names mostly end; a word that is not here names no file.
 ENDS = {
     "REC": "dsrc", "OLD": "dsrc", "NEW": "dsrc", "PIECE": "dsrc", "CERT": "dsct", "SCRIPT": "script", "SETUP": "script",
-    "SVG": "svg",
+    "SVG": "svg", "CAPTURE": "pcap",
 }  # fmt: skip
 OPTIONS = {"--help": "Print help", "--version": "Print version"}
 HELP = "Print the help, or that of a command"

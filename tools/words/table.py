@@ -88,6 +88,7 @@ def choices_of(usage, words):
     """The words that may stand behind the others: those of the usage in brackets, and those that a filter may be."""
     behind = [choice for part in re.findall(r"\[([^\]]+)\]", usage) for choice in part.split("|")]
     keys = [key for word in words if word.name == "FILTER" for key in re.findall(r"\b[a-z]+=[A-Z:/]+", word.about)]
+    keys += [key.split()[0] for word in words if word.name == "WORD" for key in re.split("[:;] ", word.about)[1].split(", ")]
     names = {word.name for word in words}
     return keys + [choice for choice in behind if choice.split()[0] not in names]
 

@@ -66,8 +66,8 @@ fn place_of(entities: &[(u16, EntityState)], number: u16) -> Option<usize>
     None
 }
 
-/// Inserts an entity in its place.
-fn insert(
+/// Inserts an entity in its place among entities by rising numbers. After a refusal nothing changed.
+pub fn insert_entity(
     entities: &mut Vec<(u16, EntityState)>,
     number: u16,
     state: EntityState,
@@ -133,7 +133,7 @@ pub(crate) fn carry_out(
     match change.kind {
         Kind::CreateEntity => match change.scope {
             Scope::One(number) => {
-                insert(entities, number, EntityState::Stopped)?;
+                insert_entity(entities, number, EntityState::Stopped)?;
                 Ok(())
             }
             // No request creates all entities.

@@ -22,5 +22,6 @@ mod tables;
 mod taking;
 
 pub use application::Application;
+pub use entity_list::insert_entity;
 pub use fault::AppFault;
 pub use laws::{own_logs_stand, requests_are_told_once};

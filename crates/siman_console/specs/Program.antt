@@ -20,9 +20,11 @@ use Rattle.siman_file_commands.specs.Audit.{SearchesFile, PutsSequence}
 use Rattle.siman_analysis_commands.specs.Chart.{ChartsNamed}
 use Rattle.siman_file_commands.specs.Check.{ChecksCertificate}
 use Rattle.siman_file_commands.specs.Convert.{CarriesFile, PutsConverted}
+use Rattle.siman_file_commands.specs.Export.{ExportsFile, PutsExported}
 use Rattle.siman_outside.specs.Ending.{Ends, fault_in, IsFaultOf}
 use Rattle.siman_outside.specs.Outside.{Has, Stream, Outcome, Deed}
 use Rattle.siman_file_commands.specs.Join.{word_of, JoinsPieces}
+use Rattle.siman_exercise_commands.specs.Import.{ImportsNamed}
 use Rattle.siman_exercise_commands.specs.Live.{EndsLive}
 use Rattle.siman_outside.specs.Making.{Answered, MakesProduct}
 use Rattle.siman_file_commands.specs.Mend.{MendsFile, PutsMended}
@@ -58,6 +60,7 @@ EndsTwo told TwoWords.World script recording force deeds o = EndsAs (MakesOfFile
 EndsTwo told TwoWords.Live script recording force deeds o = EndsLive told script recording deeds o
 EndsTwo told TwoWords.Convert old new force deeds o = EndsAs (MakesOfFile CarriesFile (MakesProduct PutsConverted) force old new deeds) o
 EndsTwo told TwoWords.Mend old new force deeds o = EndsAs (MakesOfFile MendsFile (MakesProduct PutsMended) force old new deeds) o
+EndsTwo told TwoWords.Export recording new force deeds o = EndsAs (MakesOfFile ExportsFile (MakesProduct PutsExported) force recording new deeds) o
 
 -- the ending of a command without words, which reads standard input with these bytes, if they are known
 abbrev pub EndsBare : NoWord → Option (List ℕ) → Outcome → Type 0
@@ -70,6 +73,7 @@ EndsTask told (Bare command) deeds input o = (deeds ≡ []) × EndsBare command 
 EndsTask told (One command word) deeds input o = EndsAs (DoesOne command word deeds) o
 EndsTask told (Two command first second force) deeds input o = EndsTwo told command first second force deeds o
 EndsTask told (asks.Join pieces made form force) deeds input o = EndsAs (JoinsPieces pieces force made (word_of form) deeds) o
+EndsTask told (asks.Import words force) deeds input o = EndsAs (ImportsNamed words force deeds) o
 EndsTask told (asks.Station words) deeds input o = EndsStation told.strangers words deeds input o
 EndsTask told (View view recording filters spelling) deeds input o = EndsAs (ViewsNamed view spelling recording filters deeds) o
 EndsTask told (asks.Why recording certificate spelling) deeds input o = EndsAs (WhyNamed spelling recording certificate deeds) o
@@ -106,9 +110,9 @@ EndsProgram told (Ok words) deeds input o = EndsWords told words deeds input o
 EndsProgram told (Err kind) deeds input o =
     (deeds ≡ []) × (Keeps o.out.old o.out.new × ((fault : Fault) × IsFaultOf kind Words fault × EndsIn (Err fault) o))
 
--- HOW IT ENDS WITH A REASON: after that ending, the second line of a fault is written behind its first line, and the line that mends the recording that the command began; or else a warning
+-- HOW IT ENDS WITH A REASON: after that ending, the second line of a fault is written behind its first line, and the line that mends the recording that the command began; or else warnings
 abbrev pub EndsExplained : (Outcome → Type 0) → Ended → (out errors reasons : Stream) → Type 0
 EndsExplained Ends ended out errors reasons =
-    (fault : Option Fault) × (begun : Option (List ℕ)) × (warning : Option Warning)
+    (fault : Option Fault) × (begun : Option (List ℕ)) × (warning further : Option Warning)
     × (let o : Outcome = record { ended = ended; fault = fault; begun = begun; out = out; errors = errors } in Ends o)
-    × Explains ended.written fault begun warning reasons.old reasons.new
+    × Explains ended.written fault begun warning further reasons.old reasons.new

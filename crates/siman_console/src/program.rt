@@ -10,10 +10,12 @@ ghost use Rattle.siman_lines.specs.AtLines.{Telling};
 
 use crate::usage::end_usage;
 use siman_analysis_commands::{View, chart_named};
-use siman_exercise_commands::{Links, WorldCommand, end_live, end_station, try_input};
+use siman_exercise_commands::{
+    Links, WorldCommand, end_live, end_station, import_named, try_input,
+};
 use siman_file_commands::{
-    AuditCommand, CheckCommand, ConvertCommand, MendCommand, ShowCommand, end_lines, join_pieces,
-    show_word, why_named, word_of,
+    AuditCommand, CheckCommand, ConvertCommand, ExportCommand, MendCommand, ShowCommand, end_lines,
+    join_pieces, show_word, why_named, word_of,
 };
 use siman_outside::{
     Ended, Ending, Fault, NoWord, Notes, OneWord, Outside, Task, TwoWords, ViewWord, asks_help,
@@ -82,6 +84,10 @@ fn end_two<'a, O: Links, W: Write, E: Write>(
             make_of_file(alloc, MendCommand, names, force, outside, out, notes),
             errors,
         ),
+        TwoWords::Export => conclude(
+            make_of_file(alloc, ExportCommand, names, force, outside, out, notes),
+            errors,
+        ),
     }
 }
 
@@ -133,6 +139,10 @@ fn end_task<'a, O: Links, R: Read + Drop, W: Write, E: Write>(
             let word = word_of(form);
             let joined = join_pieces(alloc, pieces, new, force, word, outside, out);
             conclude(joined, errors)
+        }
+        Task::Import(words, force) => {
+            let imported = import_named(alloc, words, force, outside, out, notes);
+            conclude(imported, errors)
         }
         Task::Station(words) => end_station(alloc, words, outside, input, out, errors),
         Task::View(view, recording, words, spelling) => {

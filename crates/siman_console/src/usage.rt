@@ -36,6 +36,7 @@ pub(crate) fn end_usage<W: Write, E: Write>(
             begun: None,
             trouble: None,
             warning: None,
+            further: None,
         };
     }
     match put(out, text.as_bytes()) {

@@ -1,3 +1,5 @@
+mod Decided
+mod Imported
 mod Scripts
 mod Files
 mod Trials

@@ -6,3 +6,5 @@ pub mod ScriptTrial
 pub mod Live
 pub mod Station
 pub mod Warned
+pub mod Assumed
+pub mod Import

@@ -304,6 +304,7 @@ pub fn end_live<'a, O: Links, W: Write, E: Write>(
         begun: incomplete_recording(lived, words.1),
         trouble: lived.trouble,
         warning: notes.warning,
+        further: notes.further,
         ..conclude(lived.answered, errors)
     }
 }

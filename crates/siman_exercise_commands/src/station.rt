@@ -289,5 +289,6 @@ pub fn end_station<'a, O: Links, R: Read + Drop, W: Write, E: Write>(
         begun: None,
         trouble: None,
         warning: None,
+        further: None,
     }
 }

@@ -6,3 +6,4 @@ mod Conversions
 mod JoinedPieces
 mod Searches
 mod Said
+mod Exports

@@ -6,5 +6,6 @@ pub mod Check
 pub mod Convert
 pub mod Mend
 pub mod Join
+pub mod Export
 pub mod Audit
 pub mod Why

@@ -93,6 +93,7 @@ fn end_at<E: Write>(answered: Result<u8, PdusFault>, errors: &mut E) -> Ending<'
             begun: None,
             trouble: None,
             warning: None,
+            further: None,
         },
         Err(PdusFault::Fault(fault)) => conclude(Err(fault), errors),
         Err(PdusFault::Unread(_)) => conclude(Err(Fault::Input), errors),
@@ -105,6 +106,7 @@ fn end_at<E: Write>(answered: Result<u8, PdusFault>, errors: &mut E) -> Ending<'
             begun: None,
             trouble: None,
             warning: None,
+            further: None,
         },
     }
 }

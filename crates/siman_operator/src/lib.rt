@@ -46,7 +46,7 @@ pub use reading::LONGEST_LINE;
 pub use reason::BadReason;
 pub use receiver::gets;
 pub use recorded::{ReadyStation, SessionRecording, attach_station, record_session};
-pub use scripted::{SetUp, SetUpFault, set_up};
+pub use scripted::{SetUp, SetUpFault, set_up, station_at};
 pub use session::play;
 pub use session_report::SessionReport;
 pub use tracing_line::TracingLine;

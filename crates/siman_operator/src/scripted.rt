@@ -65,7 +65,7 @@ fn index_of(stations: &[WorldStation], address: Address) -> Option<usize>
 }
 
 /// The station with this address, if any.
-fn station_at(mut stations: Vec<WorldStation>, address: Address) -> Option<WorldStation>
+pub fn station_at(mut stations: Vec<WorldStation>, address: Address) -> Option<WorldStation>
     ensures { result ≡ station_at address stations.items }
 {
     let index = index_of(&stations, address)?;

@@ -1,3 +1,4 @@
+mod Chosen
 mod Counted
 mod Inputs
 mod Openings

@@ -11,6 +11,9 @@ use Rattle.exercise_recording.specs.declared.format_fault.RecordingFault.TheVari
 use Rattle.exercise_recording.specs.FaultText as recording_texts
 use Rattle.exercise_recording.specs.declared.conversion.ConvertFault.{ConvertFault}
 use Rattle.exercise_recording.specs.declared.conversion.ConvertFault.TheVariants as converts
+use Rattle.exercise_recording.specs.declared.captures.import_fault.ImportFault.{ImportFault}
+use Rattle.exercise_recording.specs.declared.captures.import_fault.ImportFault.TheVariants as imports
+use Rattle.packet_captures.specs.FaultText as capture_texts
 use Rattle.exercise_recording.specs.declared.mending.MendFault.{MendFault}
 use Rattle.exercise_recording.specs.declared.mending.MendFault.TheVariants as mends
 use Rattle.exercise_check.specs.declared.certificate_fault.CertificateFault.{CertificateFault}
@@ -28,7 +31,7 @@ use Rattle.siman_outside.specs.declared.join_limit.JoinLimit.TheVariants as limi
 use Rattle.siman_outside.specs.declared.fault.Fault.{Fault}
 use Rattle.siman_outside.specs.declared.fault.Ended.{Ended}
 use Rattle.siman_outside.specs.declared.fault.Fault.TheVariants as faults
-use Rattle.siman_outside.specs.declared.fault.Fault.TheVariants.{NotBytePairs, HexLine, Input, File, Words, Recording, Already, Piece, OtherExercise, StationTwice, BackInTime, Joined, Certificate, BadLine, UnknownStation, ScriptRead, WorldStations, LineFailed, StationWord, NotInSetup, Filter, Step, OverLimit, ChartOverLimit, Output, SameAs, Exists, Memory}
+use Rattle.siman_outside.specs.declared.fault.Fault.TheVariants.{NotBytePairs, HexLine, Input, File, Words, Recording, Already, Piece, OtherExercise, StationTwice, BackInTime, Joined, Certificate, BadLine, UnknownStation, ScriptRead, WorldStations, LineFailed, StationWord, NotInSetup, ImportAddress, ImportHost, NotInImport, Filter, Step, OverLimit, ChartOverLimit, Output, SameAs, Exists, Memory}
 use Rattle.siman_outside.specs.declared.files_fault.FilesFault.{FilesFault}
 use Rattle.siman_outside.specs.declared.files_fault.FilesFault.TheVariants as files
 use Rattle.siman_outside.specs.declared.input.InputFault.{InputFault}
@@ -94,6 +97,16 @@ reported_as (faults.Move number refusal there) = (codes "world: ", refusal_name 
 reported_as LineFailed = (codes "live: ", codes "line", None)
 reported_as (StationWord word) = (codes "station: address ", word.now, None)
 reported_as NotInSetup = (codes "station: ", codes "not-in-setup", None)
+reported_as (ImportAddress word) = (codes "import: address ", word.now, None)
+reported_as (ImportHost word) = (codes "import: host ", word.now, None)
+reported_as NotInImport = (codes "import: ", codes "not-in-setup", None)
+reported_as (faults.Import (imports.Capture f)) = (codes "capture: ", capture_texts.name_of f, Some (Offset (capture_texts.place_of f)))
+reported_as (faults.Import (imports.LinkType at)) = (codes "capture: ", codes "link-type", Some (Offset at))
+reported_as (faults.Import (imports.Cut at)) = (codes "capture: ", codes "cut", Some (Offset at))
+reported_as (faults.Import imports.Records) = (codes "import: ", codes "records", None)
+reported_as (faults.Import imports.Size) = (codes "import: ", codes "size", None)
+reported_as (faults.Import imports.Read) = (codes "capture: ", codes "read", None)
+reported_as (faults.Import imports.Memory) = (codes "capture: ", codes "memory", None)
 reported_as (Filter word) = (codes "filter: ", word.now, None)
 reported_as (Step word steps) = (codes "filter: ", word.now, None)
 reported_as OverLimit = (codes "view: ", codes "over-limit", None)
@@ -155,6 +168,11 @@ of_convert (converts.Recording fault) = of_recording fault
 of_convert converts.Already = Already
 of_convert converts.Write = Output
 of_convert converts.Memory = Memory
+
+-- the fault of a command for a failed import
+abbrev pub of_import : ImportFault → Fault
+of_import imports.Memory = Memory
+of_import fault = faults.Import fault
 
 -- the fault of a command for a failed mending
 abbrev pub of_mend : MendFault → Fault

@@ -10,6 +10,8 @@ pub mod AnswerText
 pub mod Recorded
 pub mod FileKinds
 pub mod Notes
+pub mod ImportWords
+pub mod Hosts
 pub mod Words
 pub mod Reasons
 pub mod ShortTexts

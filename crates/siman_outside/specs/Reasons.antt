@@ -1,5 +1,5 @@
 -- The second line of a fault, which explains it to a person (profile).
-use Rattle.std.specs.Prelude.{◌≡◌, ◌⊎◌, ⊤, ℕ, zero, suc, ◌-◌, ◌==◌, List, [], ◌++◌, codes, decimal, Option, Some, None, Result, Ok, Err, if◌then◌else◌}
+use Rattle.std.specs.Prelude.{◌≡◌, ◌⊎◌, ⊤, ℕ, Bool, zero, suc, ◌-◌, ◌==◌, List, [], ◌++◌, codes, decimal, Option, Some, None, Result, Ok, Err, if◌then◌else◌}
 use Rattle.std.specs.Io.KnownBytes.{Keeps}
 use Rattle.byte_files.specs.Writing.{Writes}
 use Rattle.byte_files.specs.declared.output.WriteFailed.{WriteFailed}
@@ -97,9 +97,21 @@ abbrev pub nobody_text : (line site application : ℕ) → List ℕ
 nobody_text line site application =
     five (codes "line ") (decimal line) (codes ": the script has no station ") (decimal site ++ (codes ":" ++ decimal application)) (codes ", so nobody gets this order")
 
+-- A log may not be whole, for each of these reasons that holds.
+abbrev pub words_if : (holds : Bool) → (words : List ℕ) → List ℕ
+words_if holds words = if holds then words else []
+
+abbrev pub lacking_text : (dropped fragments bundled : Bool) → List ℕ
+lacking_text dropped fragments bundled =
+    five (codes "the log may not be whole:") (words_if dropped (codes " the capturing system lost packets (dropped);"))
+    (words_if fragments (codes " parts of datagrams are missing (fragments);")) (words_if bundled (codes " datagrams of several PDUs are not read (bundled);"))
+    (codes " the counts say how many")
+
 abbrev pub warning_text : Warning → List ℕ
 warning_text (warnings.NothingMeant datagrams exercise) = meant_text datagrams exercise
 warning_text (warnings.NoSuchStation line site application) = nobody_text line site application
+warning_text (warnings.NotWhole dropped fragments bundled) = lacking_text dropped fragments bundled
+warning_text (warnings.Unopened text) = short_bytes text
 
 -- the line `warning: TEXT`
 abbrev pub warning_line : Warning → List ℕ
@@ -109,9 +121,9 @@ abbrev pub Warns : Option Warning → (old new : Option (List ℕ)) → Type 0
 Warns None old new = Keeps old new
 Warns (Some warning) old new = (wrote : Wrote) × Writes wrote old new (warning_line warning)
 
--- BEHIND THE FIRST LINE OF A FAULT its second line is written, and the line that mends the recording begun before it, or a prefix of both if the writer fails; nothing, if the first line was not written whole. Without a fault, the warning is written, if there is a warning.
-abbrev pub Explains : (first : Wrote) → Option Fault → (begun : Option (List ℕ)) → Option Warning → (old new : Option (List ℕ)) → Type 0
-Explains first None begun warning old new = Warns warning old new
-Explains (Err failed) (Some fault) begun warning old new = Keeps old new
-Explains (Ok x) (Some fault) begun warning old new =
+-- BEHIND THE FIRST LINE OF A FAULT its second line is written, and the line that mends the recording begun before it, or a prefix of both if the writer fails; nothing, if the first line was not written whole. Without a fault, the warnings are written, as far as there are some.
+abbrev pub Explains : (first : Wrote) → Option Fault → (begun : Option (List ℕ)) → (warning further : Option Warning) → (old new : Option (List ℕ)) → Type 0
+Explains first None begun warning further old new = (mid : Option (List ℕ)) × Warns warning old mid × Warns further mid new
+Explains (Err failed) (Some fault) begun warning further old new = Keeps old new
+Explains (Ok x) (Some fault) begun warning further old new =
     (text : List ℕ) × (wrote : Wrote) × IsReason fault text × Writes wrote old new (second_line text ++ mend_line begun)

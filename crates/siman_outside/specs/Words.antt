@@ -9,16 +9,18 @@ use Rattle.siman_outside.specs.declared.commands.NoWord.TheVariants.{Pdus}
 use Rattle.siman_outside.specs.declared.commands.OneWord.{OneWord}
 use Rattle.siman_outside.specs.declared.commands.OneWord.TheVariants.{Pdu, Show}
 use Rattle.siman_outside.specs.declared.commands.TwoWords.{TwoWords}
-use Rattle.siman_outside.specs.declared.commands.TwoWords.TheVariants.{Check, Audit, World, Live, Convert, Mend}
+use Rattle.siman_outside.specs.declared.commands.TwoWords.TheVariants.{Check, Audit, World, Live, Convert, Mend, Export}
 use Rattle.siman_outside.specs.declared.commands.ViewWord.{ViewWord}
 use Rattle.siman_outside.specs.declared.commands.ViewWord.TheVariants.{Review, Log, Count}
 use Rattle.siman_outside.specs.declared.commands.JoinForm.{JoinForm}
 use Rattle.siman_outside.specs.declared.commands.JoinForm.TheVariants.{Open, Closed}
+use Rattle.siman_outside.specs.declared.commands.ImportWords.{ImportWords}
 use Rattle.siman_outside.specs.declared.commands.StationWords.{StationWords}
 use Rattle.siman_outside.specs.declared.commands.Takes.{Takes}
 use Rattle.siman_outside.specs.declared.commands.Takes.TheVariants as shapes
 use Rattle.siman_outside.specs.declared.commands.Task.{Task}
 use Rattle.siman_outside.specs.declared.commands.Task.TheVariants as tasks
+use Rattle.siman_outside.specs.ImportWords.{Choices, choices_by, choices_of}
 
 -- the words of a station: a script, the station's address, its recording, its socket and its peers,
 -- and whether it listens to strangers too
@@ -29,6 +31,16 @@ pub record StationAsked : Type 0 where
   pub bind : List ℕ
   pub peers : List (List ℕ)
   pub anyone : Bool
+
+-- the words of an import: a script, the station's address, that of its host, a capture, the recording to make, and
+-- what the words behind it say
+pub record ImportAsked : Type 0 where
+  pub setup : List ℕ
+  pub address : List ℕ
+  pub host : List ℕ
+  pub capture : List ℕ
+  pub recording : List ℕ
+  pub choices : Choices
 
 -- a task: a command, and the words that it takes
 pub data Asked : Type 0 where
@@ -41,6 +53,8 @@ pub data Asked : Type 0 where
   -- the pieces of an exercise, the file to make, the form that it is to have, if the words give
   -- one, and whether an existing file is replaced
   Join : (pieces : List (List ℕ)) → (made : List ℕ) → Option JoinForm → (force : Bool) → Asked
+  -- the recording of a station out of a capture, and whether an existing file is replaced
+  Import : ImportAsked → (force : Bool) → Asked
   -- a station that runs over the network
   Station : StationAsked → Asked
   -- a view of a recording, the words that choose among its rows, and their spelling
@@ -62,12 +76,23 @@ named_by text words = record {
   anyone = words.anyone;
 }
 
+abbrev pub import_named : ImportWords → ImportAsked
+import_named words = record {
+  setup = words.setup.now;
+  address = words.address.now;
+  host = words.host.now;
+  capture = words.capture.now;
+  recording = words.recording.now;
+  choices = choices_by words.choices;
+}
+
 abbrev pub asked_by : {S : Type 0} → (text : S → List ℕ) → Task S → Asked
 asked_by text tasks.Trial = Trial
 asked_by text (tasks.Bare command) = Bare command
 asked_by text (tasks.One command word) = One command word.now
 asked_by text (tasks.Two command first second force) = Two command first.now second.now force
 asked_by text (tasks.Join pieces made form force) = Join (map text pieces.now) made.now form force
+asked_by text (tasks.Import words force) = Import (import_named words) force
 asked_by text (tasks.Station words) = Station (named_by text words)
 asked_by text (tasks.View view recording filters spelling) = View view recording.now (map text filters.now) spelling
 asked_by text (tasks.Why recording certificate spelling) = Why recording.now (option_map (λ word. word.now) certificate) spelling
@@ -110,7 +135,7 @@ unfoldable pub takes_named : List ℕ → Option Takes
 takes_named = takes_of (
     (codes "pdu", shapes.One Pdu) ∷ (codes "pdus", shapes.Nothing Pdus) ∷ (codes "show", shapes.One Show) ∷ (codes "check", shapes.Two Check)
     ∷ (codes "audit", shapes.Two Audit) ∷ (codes "world", shapes.Two World) ∷ (codes "live", shapes.Two Live) ∷ (codes "station", shapes.Station) ∷ (codes "convert", shapes.Two Convert) ∷ (codes "mend", shapes.Two Mend)
-    ∷ (codes "join", shapes.Pieces) ∷ (codes "review", shapes.View Review) ∷ (codes "log", shapes.View Log) ∷ (codes "count", shapes.View Count) ∷ (codes "why", shapes.PerhapsTwo)
+    ∷ (codes "join", shapes.Pieces) ∷ (codes "import", shapes.Capture) ∷ (codes "export", shapes.Two Export) ∷ (codes "review", shapes.View Review) ∷ (codes "log", shapes.View Log) ∷ (codes "count", shapes.View Count) ∷ (codes "why", shapes.PerhapsTwo)
     ∷ (codes "chart", shapes.Picture) ∷ [])
 
 -- a task of a command: exactly the words that it takes, none of them an option
@@ -173,6 +198,20 @@ pieces_asked form force (Some p) = if nat_le (fewest_pieces form) (length p.0) t
 abbrev pub join_asked : (force : Bool) → List (List ℕ) → Option Asked
 join_asked force words = let p = form_apart words in if are_names p.0 then pieces_asked p.1 force (last_apart p.0) else None
 
+-- the import of these names, if the words behind them say how
+abbrev pub import_of_words : (setup address host capture recording : List ℕ) → (force : Bool) → Option Choices → Option Asked
+import_of_words setup address host capture recording force None = None
+import_of_words setup address host capture recording force (Some choices) =
+    Some (Import (record { setup = setup; address = address; host = host; capture = capture; recording = recording; choices = choices }) force)
+
+-- IMPORT needs a script, an address, a host, a capture and the recording to make; the words behind say how the capture is
+-- read
+abbrev pub import_asked : (force : Bool) → List (List ℕ) → Option Asked
+import_asked force (setup ∷ address ∷ host ∷ capture ∷ recording ∷ words) =
+    if has_option (setup ∷ address ∷ host ∷ capture ∷ recording ∷ words) then None
+    else import_of_words setup address host capture recording force (choices_of words)
+import_asked force words = None
+
 abbrev pub anyone_behind : List (List ℕ) → Option (List (List ℕ) × List ℕ) → List (List ℕ) × Bool
 anyone_behind words None = (words, false)
 anyone_behind words (Some p) = if bytes_eq p.1 (codes "from=any") then (p.0, true) else (words, false)
@@ -232,6 +271,7 @@ makes_file command = true
 abbrev pub takes_force : Takes → Bool
 takes_force (shapes.Two command) = makes_file command
 takes_force shapes.Pieces = true
+takes_force shapes.Capture = true
 takes_force shapes.Picture = true
 takes_force takes = false
 
@@ -256,6 +296,7 @@ taken (shapes.Nothing command) spelling force names = bare_asked command names
 taken (shapes.One command) spelling force names = one_asked command names
 taken (shapes.Two command) spelling force names = two_asked command force names
 taken shapes.Pieces spelling force names = join_asked force names
+taken shapes.Capture spelling force names = import_asked force names
 taken shapes.Station spelling force names = station_asked names
 taken (shapes.View view) spelling force names = view_asked view spelling names
 taken shapes.PerhapsTwo spelling force names = why_asked spelling names

@@ -1,9 +1,12 @@
 //! Reads words by the table of commands: the task that they ask for.
 
 ghost use Rattle.std.specs.Prelude.{◌≡◌, ◌≤◌, length, map, option_map};
-ghost use Rattle.siman_outside.specs.Words.{asked_by, is_option, takes_of, takes_named, bare_asked, one_asked, two_asked, taken, last_apart, has_option, is_form_word, form_named, form_apart, are_names, fewest_pieces, pieces_asked, join_asked, anyone_apart, station_named, station_asked, view_asked, why_asked, chart_asked};
+ghost use Rattle.siman_outside.specs.Words.{asked_by, is_option, takes_of, takes_named, bare_asked, one_asked, two_asked, taken, last_apart, has_option, is_form_word, form_named, form_apart, are_names, fewest_pieces, pieces_asked, join_asked, anyone_apart, import_asked, station_named, station_asked, view_asked, why_asked, chart_asked};
 
-use crate::commands::{JoinForm, NoWord, OneWord, StationWords, Takes, Task, TwoWords, ViewWord};
+use crate::commands::{
+    ImportWords, JoinForm, NoWord, OneWord, StationWords, Takes, Task, TwoWords, ViewWord,
+};
+use crate::import_words::choices_of;
 use crate::rows::CommandRow;
 use crate::table::rows;
 use siman_print::Spelling;
@@ -171,6 +174,27 @@ fn join_words<S: AsStr>(force: bool, words: &[S]) -> Option<Task<'_, S>>
     None
 }
 
+/// The task of `import`: script, address, host, capture, recording, and words that say how the capture
+/// is read.
+fn import_words<S: AsStr>(force: bool, words: &[S]) -> Option<Task<'_, S>>
+    ensures { option_map (asked_by S.text) result ≡ import_asked force (map S.text words.now) }
+{
+    match words {
+        [setup, address, host, capture, recording, choices @ ..] if !has_option(words) => {
+            let words = ImportWords {
+                setup: setup.as_str(),
+                address: address.as_str(),
+                host: host.as_str(),
+                capture: capture.as_str(),
+                recording: recording.as_str(),
+                choices: choices_of(choices)?,
+            };
+            Some(Task::Import(words, force))
+        }
+        _ => None,
+    }
+}
+
 /// The words without `from=any` at the end, and whether it was there.
 fn anyone_apart<S: AsStr>(words: &[S]) -> (&[S], bool)
     ensures { (map S.text result.0.now, result.1) ≡ anyone_apart (map S.text words.now) }
@@ -271,6 +295,7 @@ pub(crate) fn taken<S: AsStr>(
         Takes::One(command) => one_word(command, names),
         Takes::Two(command) => two_words(command, force, names),
         Takes::Pieces => join_words(force, names),
+        Takes::Capture => import_words(force, names),
         Takes::Station => station_words(names),
         Takes::View(view) => view_words(view, spelling, names),
         Takes::PerhapsTwo => why_words(spelling, names),

@@ -3,6 +3,7 @@
 ghost use Rattle.std.specs.Prelude.{◌≡◌};
 ghost use Rattle.siman_outside.specs.Words.{makes_file, takes_json, takes_force};
 
+use crate::import_words::ImportChoices;
 use siman_print::Spelling;
 
 /// A command that takes no words.
@@ -39,6 +40,8 @@ pub enum TwoWords {
     Convert,
     /// Writes the whole entries of the torn recording in the first file to the second.
     Mend,
+    /// Writes the capture of the recording in the first file to the second.
+    Export,
 }
 
 /// A view of a recording: a command that takes its file, and words that choose among its rows.
@@ -78,6 +81,23 @@ pub struct StationWords<'a, S> {
     pub anyone: bool,
 }
 
+/// The words of `import`.
+#[derive(Clone, Copy)]
+pub struct ImportWords<'a> {
+    /// The file of the script that sets the station up.
+    pub setup: &'a str,
+    /// The address of the station in the exercise.
+    pub address: &'a str,
+    /// The address of its host.
+    pub host: &'a str,
+    /// The file of the capture.
+    pub capture: &'a str,
+    /// The file of the recording that is made.
+    pub recording: &'a str,
+    /// What the words behind it say.
+    pub choices: ImportChoices<'a>,
+}
+
 /// The task that the words of a command line ask for.
 #[derive(Drop)]
 pub enum Task<'a, S> {
@@ -94,6 +114,9 @@ pub enum Task<'a, S> {
     /// Joins the pieces of an exercise: their files, the file to make, the form that it is to have,
     /// if the words give one, and whether an existing file is replaced.
     Join(&'a [S], &'a str, Option<JoinForm>, bool),
+    /// Makes the recording of a station of a capture of its host, and whether an existing file is
+    /// replaced.
+    Import(ImportWords<'a>, bool),
     /// Runs a station of a script over the network, by the lines of standard input.
     Station(StationWords<'a, S>),
     /// A view: the file of the recording, the words that choose among the rows, and their spelling.
@@ -115,6 +138,9 @@ pub enum Takes {
     Two(TwoWords),
     /// Files of pieces, the file to make, and perhaps a form.
     Pieces,
+    /// A script, an address, a host, a capture, the file to make, and words that say how the capture
+    /// is read.
+    Capture,
     /// A script, an address, a recording, a socket's address, at least one peer, and perhaps
     /// `from=any`.
     Station,
@@ -134,7 +160,11 @@ impl TwoWords {
     {
         match self {
             TwoWords::Check | TwoWords::Live => false,
-            TwoWords::Audit | TwoWords::World | TwoWords::Convert | TwoWords::Mend => true,
+            TwoWords::Audit
+            | TwoWords::World
+            | TwoWords::Convert
+            | TwoWords::Mend
+            | TwoWords::Export => true,
         }
     }
 }
@@ -153,7 +183,7 @@ impl Takes {
     {
         match self {
             Takes::Two(command) => command.makes_file(),
-            Takes::Pieces | Takes::Picture => true,
+            Takes::Pieces | Takes::Capture | Takes::Picture => true,
             _ => false,
         }
     }

@@ -21,6 +21,8 @@ pub struct Ending<'a> {
     pub trouble: Option<ShortText>,
     /// The warning to print, if any.
     pub warning: Option<Warning>,
+    /// A warning to print behind it, if any.
+    pub further: Option<Warning>,
 }
 
 /// Ends a command: writes the line of its fault, if it has one. The ending has no begun recording,
@@ -36,11 +38,12 @@ pub fn conclude<'a, E: Write>(answered: Result<u8, Fault<'a>>, errors: &mut E) -
         begun: None,
         trouble: None,
         warning: None,
+        further: None,
     }
 }
 
 impl Ending<'_> {
-    /// The ending with the warning of `notes`, unless it has a warning of its own.
+    /// The ending with the warnings of `notes`; it keeps a first one of its own.
     pub fn and_notes(self, notes: Notes) -> Self
         ensures ended { result.ended ≡ self.entry.ended }
         ensures fault { result.fault ≡ self.entry.fault }
@@ -48,6 +51,7 @@ impl Ending<'_> {
     {
         Ending {
             warning: self.warning.or(notes.warning),
+            further: notes.further,
             ..self
         }
     }

@@ -39,7 +39,7 @@ fn ip_of(word: &[u8]) -> Option<(u8, u8, u8, u8)>
 }
 
 /// The port, from 1 to 65535, that a word spells.
-fn port_of(word: &[u8]) -> Option<u16>
+pub(crate) fn port_of(word: &[u8]) -> Option<u16>
     ensures { result ≡ port_of word.now }
 {
     let port = number_16(word)?;

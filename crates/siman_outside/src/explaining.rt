@@ -12,7 +12,7 @@ use crate::known::Known;
 use crate::named::Named;
 use crate::notes::Warning;
 use crate::reason::{Reason, reason_of};
-use crate::warning::warning_pieces;
+use crate::warning::warning_reason;
 use byte_files::{WriteFailed, put, put_both, put_pieces};
 use std::io::Write;
 
@@ -71,7 +71,7 @@ fn put_warning<W: Write>(writer: &mut W, warning: Warning) -> Result<(), WriteFa
     ensures { Writes result (W.contents writer.old) (W.contents writer.new) (warning_line warning) }
 {
     put(writer, b"warning: ")?;
-    put_ended(writer, Reason::Text(warning_pieces(warning)))
+    put_ended(writer, warning_reason(warning))
 }
 
 /// Writes a warning, if there is a warning; a failed write is ignored.
@@ -84,7 +84,7 @@ fn warn<W: Write>(warning: Option<Warning>, reasons: &mut W)
 }
 
 /// Writes the reason of a command's fault, if it has a fault whose first line was written, and the
-/// line that mends the recording that it began; for a command without a fault writes its warning.
+/// line that mends the recording that it began; for a command without a fault writes its warnings.
 /// Failed writes are ignored. Returns the exit status and whether the first line was written, as
 /// they are in `ending`.
 pub fn explained<'a, E: Write>(
@@ -94,12 +94,13 @@ pub fn explained<'a, E: Write>(
     reasons: &mut E,
 ) -> Ended
     ensures ended { result ≡ ending.entry.ended }
-    ensures explains { Explains result.written ending.entry.fault (begun_by ending.entry) ending.entry.warning (E.contents reasons.old) (E.contents reasons.new) }
+    ensures explains { Explains result.written ending.entry.fault (begun_by ending.entry) ending.entry.warning ending.entry.further (E.contents reasons.old) (E.contents reasons.new) }
 {
     let fault = match ending.fault {
         Some(fault) => fault,
         None => {
             warn(ending.warning, reasons);
+            warn(ending.further, reasons);
             return ending.ended;
         }
     };

@@ -4,7 +4,7 @@ ghost use Rattle.std.specs.Prelude.{◌≡◌, Some};
 ghost use Rattle.std.specs.IoError.{error_kind};
 ghost use Rattle.byte_files.specs.Writing.{Writes};
 ghost use Rattle.siman_outside.specs.declared.fault.Fault.TheVariants.{Memory};
-ghost use Rattle.siman_outside.specs.Ending.{reported_as, place_text, fault_text, fault_line, fault_status, IsFaultOf, of_recording, of_convert, of_mend, of_files, of_unread_script, of_certificate, Ends};
+ghost use Rattle.siman_outside.specs.Ending.{reported_as, place_text, fault_text, fault_line, fault_status, IsFaultOf, of_recording, of_convert, of_import, of_mend, of_files, of_unread_script, of_certificate, Ends};
 
 use crate::files_fault::FilesFault;
 use crate::input::{InputFault, Unread};
@@ -15,7 +15,7 @@ use crate::short_texts::ShortText;
 use crate::unopened::OpenFault;
 use byte_files::{WriteFailed, put, put_both};
 use exercise_check::CertificateFault;
-use exercise_recording::{ConvertFault, MendFault, RecordingFault};
+use exercise_recording::{ConvertFault, ImportFault, MendFault, RecordingFault};
 use std::alloc::{AllocError, AllocFailed};
 use std::io::{ErrorKind, Write};
 use std::{fmt, io};
@@ -69,6 +69,14 @@ pub enum Fault<'a> {
     StationWord(&'a str),
     /// The script has no station at the address.
     NotInSetup,
+    /// This word of `import` is no address of a station.
+    ImportAddress(&'a str),
+    /// This word of `import` is no address of a host.
+    ImportHost(&'a str),
+    /// The script of `import` has no station at the address.
+    NotInImport,
+    /// No recording is made of the capture. Lack of memory is `Memory`.
+    Import(ImportFault),
     /// This word is no filter.
     Filter(&'a str),
     /// This word names a step past the last one; the number of steps.
@@ -152,6 +160,22 @@ impl<'a> Fault<'a> {
             Fault::LineFailed => ("live: ", "line", None),
             Fault::StationWord(word) => ("station: address ", word, None),
             Fault::NotInSetup => ("station: ", "not-in-setup", None),
+            Fault::ImportAddress(word) => ("import: address ", word, None),
+            Fault::ImportHost(word) => ("import: host ", word, None),
+            Fault::NotInImport => ("import: ", "not-in-setup", None),
+            Fault::Import(ImportFault::Capture(fault)) => (
+                "capture: ",
+                fault.name(),
+                Some(Place::Offset(fault.place())),
+            ),
+            Fault::Import(ImportFault::LinkType(at)) => {
+                ("capture: ", "link-type", Some(Place::Offset(at)))
+            }
+            Fault::Import(ImportFault::Cut(at)) => ("capture: ", "cut", Some(Place::Offset(at))),
+            Fault::Import(ImportFault::Records) => ("import: ", "records", None),
+            Fault::Import(ImportFault::Size) => ("import: ", "size", None),
+            Fault::Import(ImportFault::Read) => ("capture: ", "read", None),
+            Fault::Import(ImportFault::Memory) => ("capture: ", "memory", None),
             Fault::Filter(word) | Fault::Step(word, _) => ("filter: ", word, None),
             Fault::OverLimit => ("view: ", "over-limit", None),
             Fault::ChartOverLimit => ("chart: ", "over-limit", None),
@@ -258,6 +282,17 @@ impl From<MendFault> for Fault<'_> {
             MendFault::Recording(fault) => Fault::from(fault),
             MendFault::Write => Fault::Output,
             MendFault::Memory => Fault::Memory,
+        }
+    }
+}
+
+impl From<ImportFault> for Fault<'_> {
+    ghost from_gives = { λ fault e. e ≡ of_import fault };
+
+    fn from(fault: ImportFault) -> Self {
+        match fault {
+            ImportFault::Memory => Fault::Memory,
+            _ => Fault::Import(fault),
         }
     }
 }

@@ -83,7 +83,7 @@ fn most_names(takes: Takes, words: usize) -> usize
         Takes::Nothing(_) => 0,
         Takes::One(_) => 1,
         Takes::Two(_) | Takes::PerhapsTwo => 2,
-        Takes::Pieces | Takes::Station | Takes::View(_) | Takes::Picture => words,
+        Takes::Pieces | Takes::Capture | Takes::Station | Takes::View(_) | Takes::Picture => words,
     }
 }
 

@@ -32,6 +32,9 @@ mod file_reason;
 mod files_fault;
 mod filter_reason;
 mod helping;
+mod host;
+mod import_reason;
+mod import_words;
 mod input;
 mod join_limit;
 mod known;
@@ -58,7 +61,9 @@ mod warning;
 
 pub use answer_text::AnswerText;
 pub use command_line::{CommandLine, read_words};
-pub use commands::{JoinForm, NoWord, OneWord, StationWords, Task, TwoWords, ViewWord};
+pub use commands::{
+    ImportWords, JoinForm, NoWord, OneWord, StationWords, Task, TwoWords, ViewWord,
+};
 pub use ending::{Ending, conclude};
 pub use endpoint::{Endpoint, endpoint_of};
 pub use explaining::explained;
@@ -66,6 +71,8 @@ pub use fault::{Ended, Fault, end, of_error, tell};
 pub use file_kind::{FileKind, file_kind_of};
 pub use files_fault::FilesFault;
 pub use helping::asks_help;
+pub use host::host_of;
+pub use import_words::{ImportChoices, ImportOpening};
 pub use input::{InputFault, Unread, read_text};
 pub use join_limit::JoinLimit;
 pub use known::{Known, SystemCall, SystemFault};
@@ -80,6 +87,6 @@ pub use passing::{HELD, pass_on, status_of};
 pub use product::{OfFile, Product, make_of_file, put_of_file};
 pub use recording_command::{OfCertificate, OfRecording, say_of_certificate, say_of_recording};
 pub use saying::{say_of_file, say_of_files};
-pub use short_texts::{ShortText, short_text};
+pub use short_texts::{ShortText, short_of, short_text};
 pub use unopened::OpenFault;
 pub use usage::{terminal_text, usage_text};

@@ -7,12 +7,12 @@ use crate::commands::{Task, TwoWords, ViewWord};
 pub struct Named<'a> {
     /// The file that is read, or read first.
     pub(crate) first: &'a str,
-    /// The file that is read second; the address for `station`.
+    /// The file that is read second; the address for `station` and `import`.
     pub(crate) second: &'a str,
     /// The file that is made.
     pub(crate) made: &'a str,
-    /// The endpoint of the socket for `station`.
-    pub(crate) socket: &'a str,
+    /// What else a fault may be about: the endpoint of the socket for `station`, the capture for `import`.
+    pub(crate) other: &'a str,
     /// Whether the command takes `--force`.
     pub(crate) may_force: bool,
     /// Whether the command is `mend`.
@@ -27,7 +27,7 @@ pub fn nothing_named() -> Named<'static> {
         first: "",
         second: "",
         made: "",
-        socket: "",
+        other: "",
         may_force: false,
         mends: false,
         view: None,
@@ -44,7 +44,7 @@ fn two_named<'a>(command: TwoWords, first: &'a str, second: &'a str) -> Named<'a
         first,
         second: read,
         made,
-        socket: "",
+        other: "",
         may_force: !matches!(command, TwoWords::Check | TwoWords::Live),
         mends: matches!(command, TwoWords::Mend),
         view: None,
@@ -68,11 +68,19 @@ pub fn named_by<'a>(task: &Task<'a, &'a str>) -> Named<'a> {
             may_force: true,
             ..nothing
         },
+        Task::Import(words, _) => Named {
+            first: words.setup,
+            second: words.address,
+            made: words.recording,
+            other: words.capture,
+            may_force: true,
+            ..nothing
+        },
         Task::Station(words) => Named {
             first: words.setup,
             second: words.address,
             made: words.recording,
-            socket: words.bind,
+            other: words.bind,
             ..nothing
         },
         Task::View(view, first, _, _) => Named {

@@ -4,6 +4,7 @@ ghost use Rattle.std.specs.Prelude.{◌≡◌};
 ghost use Rattle.exercise_model.specs.Held.{shown};
 ghost use Rattle.siman_outside.specs.Notes.{datagram_count, entry_count, meaningless_count, meaningless_warning};
 
+use crate::short_texts::ShortText;
 use exercise_model::{EntryView, ExerciseLog, meaning_view};
 
 /// A warning, which changes neither the answer nor the status.
@@ -22,6 +23,18 @@ pub enum Warning {
         site: u16,
         application: u16,
     },
+    /// The log that was made of a capture may not be whole, for each of these that holds.
+    NotWhole {
+        /// The capturing system lost packets.
+        dropped: bool,
+        /// Fragments complete no datagram.
+        fragments: bool,
+        /// Datagrams are of several PDUs, of which none is read.
+        bundled: bool,
+    },
+    /// The log that was made of a capture assumes entities with which its station does not open: the
+    /// whole text, which names some of them.
+    Unopened(ShortText),
 }
 
 /// Notes of a command besides its answer.
@@ -29,6 +42,8 @@ pub enum Warning {
 pub struct Notes {
     /// The first warning that was noted.
     pub warning: Option<Warning>,
+    /// A warning to print behind it.
+    pub further: Option<Warning>,
 }
 
 impl Notes {
@@ -40,7 +55,10 @@ impl Notes {
     pub fn nothing() -> Notes
         ensures { result.warning ≡ None }
     {
-        Notes { warning: None }
+        Notes {
+            warning: None,
+            further: None,
+        }
     }
 
     /// Notes a warning, unless one was noted before.
@@ -50,6 +68,14 @@ impl Notes {
         if self.warning.is_none() {
             self.warning = warning;
         }
+    }
+
+    /// Notes a warning that is printed behind the first one, or alone.
+    pub fn note_further(&mut self, warning: Option<Warning>)
+        ensures first { self.new.warning ≡ self.old.warning }
+        ensures further { self.new.further ≡ warning }
+    {
+        self.further = warning;
     }
 
     /// Notes the warning that a recording has datagrams and none means anything in its exercise, if

@@ -10,6 +10,7 @@ use crate::file_reason::{
     certificate_pieces, file_pieces, kind_words, output_pieces, piece_pieces, recording_pieces,
 };
 use crate::filter_reason::filter_pieces;
+use crate::import_reason::import_pieces;
 use crate::join_limit::JoinLimit;
 use crate::known::{Known, SystemCall, SystemFault};
 use crate::limits::LARGEST_RECORDING;
@@ -140,7 +141,9 @@ fn back_pieces(site: u16, application: u16) -> TextPieces<'static> {
     five_pieces(
         TextPiece::Words("the log of "),
         TextPiece::Address(site, application),
-        TextPiece::Words(" begins there before its end in an earlier piece: give its parts in the order of time, each once"),
+        TextPiece::Words(
+            " begins there before its end in an earlier piece: give its parts in the order of time, each once",
+        ),
         TextPiece::Nothing,
         TextPiece::Nothing,
     )
@@ -154,7 +157,7 @@ fn socket_name<'a>(names: Named<'a>, known: Known) -> &'a str {
                 call: SystemCall::Bind(_),
                 ..
             },
-        ) => names.socket,
+        ) => names.other,
         _ => "a socket of 127.0.0.1",
     }
 }
@@ -218,6 +221,13 @@ fn other_pieces<'a>(fault: Fault<'a>, names: Named<'a>, known: Known) -> TextPie
             ": a station is S:A, each from 1 to 65534; a socket is IP:PORT, as 10.0.0.1:3000",
         ),
         Fault::NotInSetup => two_named(names.first, " has no line station ", names.second),
+        Fault::ImportAddress(word) => named(word, ": a station is S:A, each from 1 to 65534"),
+        Fault::ImportHost(word) => named(
+            word,
+            ": a host is an address of IPv4 or IPv6, as 10.0.0.3, without a zone",
+        ),
+        Fault::NotInImport => two_named(names.first, " has no line station ", names.second),
+        Fault::Import(fault) => import_pieces(fault, names, known),
         Fault::Filter(word) => filter_pieces(word, names.view),
         Fault::Step(_, steps) => step_pieces(steps),
         Fault::OverLimit => words_alone("a view has at most 4194304 lines"),

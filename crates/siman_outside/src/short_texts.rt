@@ -25,7 +25,7 @@ impl ShortText {
 }
 
 /// The text of these bytes, if it has at most 255.
-fn short_of(text: &[u8]) -> Option<ShortText>
+pub fn short_of(text: &[u8]) -> Option<ShortText>
     ensures some { IfSome result (λ short. short_bytes short ≡ text.now) }
     ensures none { result ≡ None → 255 < length text.now }
 {

@@ -35,7 +35,7 @@ const SCRIPT: CommandWord = CommandWord {
 };
 
 /// The table of the commands, in the order of the help.
-pub(crate) const ROWS: [CommandRow; 16] = [
+pub(crate) const ROWS: [CommandRow; 18] = [
     CommandRow {
         name: "pdu",
         takes: Takes::One(OneWord::Pdu),
@@ -194,6 +194,60 @@ pub(crate) const ROWS: [CommandRow; 16] = [
                 name: "NEW",
                 often: Often::Once,
                 about: "The file of the joined recording; it must not be there yet, or be empty. Behind it form=open or form=closed may stand: the form that it is to have. Of one piece a recording is made in such a form alone",
+            },
+        ],
+    },
+    CommandRow {
+        name: "import",
+        takes: Takes::Capture,
+        usage: "siman import <SETUP> <ADDRESS> <HOST> <CAPTURE> <NEW> [WORD]... [--force]",
+        about: "Makes the recording of a station of a capture that tcpdump or Wireshark took on its host",
+        example: "Example:\n  siman import exercise.script 2:3 10.0.0.3 host3.pcap 2_3.dsrc",
+        words: &[
+            CommandWord {
+                name: "SETUP",
+                often: Often::Once,
+                about: "The file of the script that says what the station opens with; its moves are passed over",
+            },
+            CommandWord {
+                name: "ADDRESS",
+                often: Often::Once,
+                about: "The address of the station, S:A",
+            },
+            CommandWord {
+                name: "HOST",
+                often: Often::Once,
+                about: "The address of its host, of IPv4 or IPv6",
+            },
+            CommandWord {
+                name: "CAPTURE",
+                often: Often::Once,
+                about: "The file of the capture, pcap or pcapng, which was taken on that host",
+            },
+            CommandWord {
+                name: "NEW",
+                often: Often::Once,
+                about: "The file of the recording; it must not be there yet, or be empty",
+            },
+            CommandWord {
+                name: "WORD",
+                often: Often::AnyTimes,
+                about: "How the capture is read: port=N (else 3000), on=INTERFACE, cut=keep, shared, echo, opening=none, opening=assumed; each key once",
+            },
+        ],
+    },
+    CommandRow {
+        name: "export",
+        takes: Takes::Two(TwoWords::Export),
+        usage: "siman export <REC> <NEW> [--force]",
+        about: "Writes the datagrams of a recording as a capture, which Wireshark and tshark show as DIS",
+        example: "Example:\n  siman export exercise.dsrc exercise.pcapng",
+        words: &[
+            REC,
+            CommandWord {
+                name: "NEW",
+                often: Often::Once,
+                about: "The file of the capture, in pcapng; it must not be there yet, or be empty",
             },
         ],
     },

@@ -117,6 +117,10 @@ fn join_complaint<S: AsStr>(words: &[S]) -> &'static str {
     }
 }
 
+/// The fault of words of `import` that `clap` accepts.
+const IMPORT_COMPLAINT: &str =
+    "behind <NEW> stand, each at most once, 'port=N' (1 to 65535), 'on=INTERFACE', 'cut=keep', 'shared', 'echo', 'opening=none' or 'opening=assumed'";
+
 /// The fault of words that ask for no task although `clap` accepts them.
 fn complaint<S: AsStr>(words: &[S]) -> &'static str {
     if words.iter().any(|word| word.as_str() == "--") {
@@ -127,6 +131,7 @@ fn complaint<S: AsStr>(words: &[S]) -> &'static str {
     match words {
         _ if twice => "standard input, '-', can be read once",
         [_, name, ..] if name.as_str() == "join" => join_complaint(words),
+        [_, name, ..] if name.as_str() == "import" => IMPORT_COMPLAINT,
         [_, name, rest @ ..] if name.as_str() == "station" => {
             if rest.iter().any(|word| word.as_str() == "-") {
                 "standard input has the lines of the station: '-' names no file here"

@@ -2,9 +2,9 @@ use Rattle.std.proofs.Common.{sym, subst}
 use Rattle.siman_application.proofs.Changes.{Makes, create_makes, remove_makes, each_makes}
 use Rattle.siman_application.proofs.entity_list.carry_out.Goals as goal
 
-pub returns-in_ok-insert-in-One : goal.returns-in_ok-insert-in-One
-returns-in_ok-insert-in-One c =
-    let made = subst (Makes c.args.change c.args.entities.now.items) (sym c.in_ok-insert-in-One.ensures.ok)
+pub returns-in_ok-insert_entity-in-One : goal.returns-in_ok-insert_entity-in-One
+returns-in_ok-insert_entity-in-One c =
+    let made = subst (Makes c.args.change c.args.entities.now.items) (sym c.in_ok-insert_entity-in-One.ensures.ok)
     (create_makes c.args.change c.in-One.number c.args.entities.now.items c.in-CreateEntity.is c.in-One.is c.requires.opening c.requires.possible) in
     record { opening = made.opening; few = made.few; ok = made.states; err = tt }
 

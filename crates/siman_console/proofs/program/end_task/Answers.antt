@@ -57,3 +57,13 @@ returns-in-Chart g c =
 
 pub returns-in-Station : goal.returns-in-Station
 returns-in-Station g c = rw c.in-Station.is c.end_station.ensures
+
+pub returns-in-Import : goal.returns-in-Import
+returns-in-Import g c =
+    let did = c.import_named-imported.ensures in
+    rw c.in-Import.is (
+      did.0,
+      did.1,
+      did.2,
+      (c.import_named-imported.result, did.3, (c.conclude-in-Import.ensures.ends, c.conclude-in-Import.ensures.fault, c.conclude-in-Import.ensures.begun)),
+    )

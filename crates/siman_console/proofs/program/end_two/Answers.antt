@@ -26,5 +26,10 @@ returns-in-Mend g c =
     let did = c.make_of_file-in-Mend.ensures in
     rw c.in-Mend.is (did.0, did.1, did.2, (c.make_of_file-in-Mend.result, did.3, (c.conclude-in-Mend.ensures.ends, c.conclude-in-Mend.ensures.fault, c.conclude-in-Mend.ensures.begun)))
 
+pub returns-in-Export : goal.returns-in-Export
+returns-in-Export g c =
+    let did = c.make_of_file-in-Export.ensures in
+    rw c.in-Export.is (did.0, did.1, did.2, (c.make_of_file-in-Export.result, did.3, (c.conclude-in-Export.ensures.ends, c.conclude-in-Export.ensures.fault, c.conclude-in-Export.ensures.begun)))
+
 pub returns-in-Live : goal.returns-in-Live
 returns-in-Live g c = rw c.in-Live.is c.end_live.ensures

@@ -19,6 +19,7 @@ returns-in-Err g c =
         c.conclude-ending.result.fault,
         begun_by c.conclude-ending.result,
         c.conclude-ending.result.warning,
+        c.conclude-ending.result.further,
         (refl, (Keeps-refl (g.W.Write.contents c.args.out.now), (c.of_error.result, c.of_error.ensures, (ends, c.conclude-ending.ensures.fault, c.conclude-ending.ensures.begun)))),
         c.explained.ensures.explains,
       ),

@@ -1,4 +1,4 @@
-use Rattle.std.proofs.Common.{ℕ, List, [], map, Option, vec_len}
+use Rattle.std.proofs.Common.{ℕ, List, [], map, Option, vec_len, false}
 use Rattle.std.specs.List.{All}
 use Rattle.siman_outside.specs.Outside.{Deed, Found, Adds, WasHeld}
 use Rattle.siman_file_commands.specs.Join.{seen_by}

@@ -9,4 +9,4 @@ returns-in_err-put g c =
     at_error c.from_residual.result _ _ _ c.from_residual.ensures.0 (writes_part _ _ (codes "warning: ") (warning_text c.args.warning ++ line_end) c.in_err-put.ensures)
 
 pub returns : goal.returns
-returns g c = writes_then c.put_ended.result _ _ _ (codes "warning: ") (warning_text c.args.warning ++ line_end) c.in_ok-put.ensures (rw c.warning_pieces.ensures at c.put_ended.ensures)
+returns g c = writes_then c.put_ended.result _ _ _ (codes "warning: ") (warning_text c.args.warning ++ line_end) c.in_ok-put.ensures (rw c.warning_reason.ensures at c.put_ended.ensures)

@@ -7,6 +7,8 @@ from cases.small_captures import (
     EVERYBODY, GOOD, MANAGER, MANAGER_6, OWN, OWN_6, SECOND, answered, framed, order, packet, pcap, pcapng,
 )  # fmt: skip
 
+LARGEST = 1 << 20  # bytes of a record, or of a block that is looked into
+
 
 def links(cases):
     for link in frames.LINKS:
@@ -36,10 +38,9 @@ def links(cases):
             frame = bytearray(frames.on_link(link, packet(answered(), MANAGER, bytes([10, 0, 0, 255]))))
             frame[1 if link == COOKED else 10] = kind
             cases.imported(f"link-{link}-packet-type-{kind}", pcap([bytes(frame)], link))
-    # From its second byte on the protocol is there, and what is left of such a header is `other` by the pages' words; the
-    # program, which reads the header whole, says `cut`.
+    # From its second byte on the protocol is there, by which such a packet is `other`.
     frame = frames.on_link(COOKED_2, bytes(28), True, version=0x0806)
-    for size in (1,):
+    for size in (1, 2, 19):
         text = frames.pcap([(SECOND * 10**9, frame[:size], len(frame))], COOKED_2)
         cases.imported(f"link-{COOKED_2}-another-protocol-cut-at-{size}", text, ["cut=keep"])
     for link in (2, 12, 127, 147, 65535):
@@ -60,7 +61,8 @@ def pcaps(cases):
     cases.imported("pcap-bits-above-the-link", pcap([GOOD], above=0x2400))
     cases.imported("pcap-fractions-above-a-second", pcap([]) + struct.pack("<4I", 5, 0xFFFFFFFF, len(GOOD), len(GOOD)) + GOOD)
     cases.imported("pcap-fractions-above-a-second-nano", pcap([], nano=True) + struct.pack("<4I", 0xFFFFFFFF, 0xFFFFFFFF, len(GOOD), len(GOOD)) + GOOD)
-    cases.imported("pcap-a-record-of-4-gib", pcap([]) + struct.pack("<4I", 5, 0, 0xFFFFFFFF, 0xFFFFFFFF) + GOOD)
+    for kept in (0xFFFFFFFF, LARGEST - 15, LARGEST - 16):
+        cases.imported(f"pcap-a-record-of-{kept}-bytes", pcap([]) + struct.pack("<4I", 5, 0, kept, kept) + GOOD)
     cases.imported("pcap-by-its-modified-magic", b"\x34\xcd\xb2\xa1" + pcap([GOOD])[4:])
     cases.imported("pcap-on-an-interface", pcap([GOOD]), ["on=wire"])
     for text in (b"", b"\xd4", b"\xd4\xc3\xb2", b"none", b"\x1f\x8b\x08\x00" + bytes(30)):
@@ -113,7 +115,11 @@ def other_blocks():
         "a-length-of-0": [wire, struct.pack("<3I", 77, 0, 12), good], "a-length-of-4": [wire, struct.pack("<3I", 77, 4, 4), good],
         "a-length-of-8": [wire, struct.pack("<3I", 77, 8, 8), good], "a-length-of-13": [wire, struct.pack("<4I", 77, 13, 13, 13), good],
         "two-lengths": [wire, good[:-4] + struct.pack("<I", len(good) - 4), good],
-        "a-length-of-4-gib": [wire, struct.pack("<2I", 77, 0xFFFFFFFC), good],
+        **{
+            f"a-length-of-{size}-of-kind-{kind}": [wire, struct.pack("<2I", kind, size), good]
+            for kind in (1, 2, 3, 5, 6, 77) for size in (0xFFFFFFFC, LARGEST + 4, LARGEST)
+        },
+        "a-second-section-of-a-mebibyte-and-more": [wire, good, changed(start, 4, LARGEST + 4)],
         "a-short-interface": [frames.block(1, bytes(4)), good], "a-short-packet": [wire, frames.block(6, bytes(16))],
         "a-short-old-packet": [wire, frames.block(2, bytes(16))],
         "a-short-simple-packet": [wire, frames.block(3, b"")], "short-statistics": [wire, frames.block(5, bytes(8))],
@@ -134,6 +140,8 @@ def blocks(cases):
         cases.imported(f"block-{name}", START + b"".join(some), ["on=wire"] if name == "simple-on" else [])
     old = frames.old(0, 5, GOOD, order=">", pairs=frames.flags(1, ">"))
     cases.imported("block-old-big", frames.section(">") + frames.interface(ETHERNET, ">") + old)
+    for size in (LARGEST, LARGEST + 4):
+        cases.imported(f"first-section-of-{size}-bytes", changed(START, 4, size) + WIRE + STAMPED)
     wrong = {"no-order": changed(START, 8, 0x11223344), "version-0": frames.section(major=0), "version-2": frames.section(major=2)}
     for name, first in wrong.items():
         cases.imported(f"first-section-of-{name}", first + WIRE + STAMPED)

@@ -18,6 +18,7 @@ SECTION, INTERFACE, OLD, SIMPLE, STATISTICS, ENHANCED = 0x0A0D0D0A, 1, 2, 3, 5, 
 BYTE_ORDER = 0x1A2B3C4D
 # How many bytes the body of a block has at least.
 LEAST_BODIES = {SECTION: 16, INTERFACE: 8, OLD: 20, SIMPLE: 4, STATISTICS: 12, ENHANCED: 20}
+LARGEST = 1 << 20  # bytes of a record, or of a block that is looked into
 IF_NAME, IF_TSRESOL, IF_TSOFFSET, FLAGS, IF_DROP = 2, 9, 14, 2, 5
 MICROSECONDS = 1_000_000
 
@@ -74,6 +75,8 @@ class Capture:
                 raise Torn
             seconds, fraction, kept, length = struct.unpack_from(f"{order}4I", self.text, at)
             end = at + 16 + kept
+            if end - at > LARGEST:
+                raise CaptureFault(f"block at {at + 8}")
             if end > len(self.text):
                 raise Torn
             stamp = seconds * MICROSECONDS + fraction // divisor
@@ -94,7 +97,7 @@ class Capture:
             if len(head) < 8 or head[:4] == SECTION.to_bytes(4, "big") and len(head) < 12:
                 raise Torn
             kind, size = struct.unpack_from(f"{order}2I", head)
-            if size < 12 or size % 4:
+            if size < 12 or size % 4 or kind in LEAST_BODIES and size > LARGEST:
                 raise CaptureFault(f"block at {at + 4}")
             end = at + size
             if end > len(self.text):

@@ -131,10 +131,10 @@ def read_ipv4(it, start, first):
     it.want(it.number(1) == UDP)
     it.take(2)
     it.seen["source"], it.seen["target"] = it.take(4), it.take(4)
-    it.take(header - 20)
     if place & 0x3FFF:
-        read_part(it, start + total, identification, (place & 0x1FFF) * 8, not place & 0x2000)
+        read_part(it, start + total, identification, (place & 0x1FFF) * 8, not place & 0x2000, header - 20)
     else:
+        it.take(header - 20)
         read_udp(it, total - header)
 
 
@@ -163,10 +163,11 @@ def read_ipv6(it, start, first):
         read_udp(it, end - it.at)
 
 
-def read_part(it, end, identification, start, is_last):
-    """A fragment; one that was cut has no data."""
+def read_part(it, end, identification, start, is_last, options=0):
+    """A fragment, behind so many bytes of options; one that was cut, in its data or in these, has no data."""
     key = it.seen["source"], it.seen["target"], identification
     it.seen["part"] = Part(key, start, b"", is_last)
+    it.take(options)
     it.seen["part"] = Part(key, start, it.take(end - it.at), is_last)
 
 

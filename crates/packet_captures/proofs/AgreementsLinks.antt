@@ -1,5 +1,5 @@
 -- How what fewer bytes of a frame say agrees with what more of them say, link by link.
-use Rattle.std.proofs.Common.{◌≡◌, ℕ, zero, suc, ◌+◌, ◌-◌, ◌/◌, ◌%◌, ◌≤◌, ◌<◌, Bool, true, false, ◌||◌, List, [], ◌∷◌, length, take, drop, refl, arith}
+use Rattle.std.proofs.Common.{◌≡◌, ℕ, zero, suc, ◌+◌, ◌-◌, ◌/◌, ◌%◌, ◌≤◌, ◌<◌, Bool, true, false, ◌||◌, List, [], ◌∷◌, length, take, drop, refl, sym, subst, ◌∙◌, arith}
 use Rattle.std.proofs.lemmas.Bool.{ltb-false, le-ltb, lt-ltb}
 use Rattle.std.proofs.lemmas.List.{take-take, length-take}
 use Rattle.std.specs.Prelude.{◌==◌, nat_lt, Option, Some, None, if◌then◌else◌}
@@ -9,6 +9,8 @@ use Rattle.packet_captures.specs.declared.link.Link.TheVariants as links
 use Rattle.packet_captures.specs.NetworkOrder.{number_at}
 use Rattle.packet_captures.specs.Ethernet.{ethernet, is_tag, untagged, behind_type, typed}
 use Rattle.packet_captures.specs.Cooked.{cooked, cooked_2, is_group}
+use Rattle.packet_captures.specs.Internet4.{internet_4}
+use Rattle.packet_captures.specs.Internet6.{internet_6}
 use Rattle.packet_captures.specs.Loopback.{loopback, loopback_family, of_family, raw}
 use Rattle.packet_captures.specs.Frame.{behind_link, contents}
 use Rattle.packet_captures.specs.Cutting.{Agrees}
@@ -74,14 +76,52 @@ cooked_agrees c k b =
     rw (le-ltb (length b) 16 kept.1, number_front w16 0 k b h0, number_front w16 14 k b kept.0, drop_front 16 k b)
     (typed_agrees (is_group (number_at w16 0 b)) c (number_at w16 14 b) (k - 16) (drop 16 b)))
 
+-- where nothing is there, it is all the same whether it is for all
+nothing_4 : (to_group : Bool) → internet_4 to_group true [] ≡ internet_4 false true []
+unfolding internet_4
+nothing_4 to_group = refl
+
+nothing_6 : (to_group : Bool) → internet_6 to_group true [] ≡ internet_6 false true []
+unfolding internet_6
+nothing_6 to_group = refl
+
+nothing_typed : (to_group : Bool) (kind : ℕ) → typed to_group true kind [] ≡ typed false true kind []
+unfolding untagged
+nothing_typed to_group kind = by_tag (is_tag kind)
+  where
+    by_tag : (tag : Bool) → behind_type to_group true (if tag then None else Some (kind, [])) ≡ behind_type false true (if tag then None else Some (kind, []))
+    by_tag true = refl
+    by_tag false = rw (nothing_4 to_group, nothing_6 to_group) refl
+
+nothing_agrees : (to_group c : Bool) (kind : ℕ) (b : List ℕ) → Agrees (typed false true kind []) (typed to_group c kind b)
+nothing_agrees to_group c kind b =
+    subst (λ x. Agrees x (typed to_group c kind b)) (nothing_typed to_group kind) (typed_agrees to_group c kind 0 b)
+
+-- behind the protocol of a header
+protocol_agrees : (c : Bool) (k : ℕ) (b : List ℕ) → 2 ≤ k → 2 ≤ length b
+    → Agrees (if nat_lt (length (take k b)) 20 then typed false true (number_at w16 0 (take k b)) [] else typed (is_group (number_at w8 10 (take k b))) true (number_at w16 0 (take k b)) (drop 20 (take k b)))
+    (if nat_lt (length b) 20 then typed false c (number_at w16 0 b) [] else typed (is_group (number_at w8 10 b)) c (number_at w16 0 b) (drop 20 b))
+protocol_agrees c k b kept there = rw (number_front w16 0 k b kept) (by_size (nat_lt (length (take k b)) 20) (nat_lt (length b) 20) refl refl)
+  where
+    kind : ℕ
+    kind = number_at w16 0 b
+
+    by_size : (few less : Bool) → nat_lt (length (take k b)) 20 ≡ few → nat_lt (length b) 20 ≡ less
+        → Agrees (if few then typed false true kind [] else typed (is_group (number_at w8 10 (take k b))) true kind (drop 20 (take k b)))
+        (if less then typed false c kind [] else typed (is_group (number_at w8 10 b)) c kind (drop 20 b))
+    by_size true true short shorter = nothing_agrees false c kind []
+    by_size true false short whole = nothing_agrees (is_group (number_at w8 10 b)) c kind (drop 20 b)
+    by_size false less whole other =
+        let size = front_length 20 k b (ltb-false (length (take k b)) 20 whole) in
+        let h10 : 10 + 1 ≤ k = omega arith in
+        rw (sym other ∙ le-ltb (length b) 20 size.1, number_front w8 10 k b h10, drop_front 20 k b)
+        (typed_agrees (is_group (number_at w8 10 b)) c kind (k - 20) (drop 20 b))
+
 cooked_2_agrees : (c : Bool) (k : ℕ) (b : List ℕ) → Agrees (cooked_2 true (take k b)) (cooked_2 c b)
 cooked_2_agrees c k b =
-    open_first (nat_lt (length (take k b)) 20) _ _ (λ there.
-    let kept = front_length 20 k b (ltb-false (length (take k b)) 20 there) in
-    let h0 : 0 + 2 ≤ k = omega arith in
-    let h10 : 10 + 1 ≤ k = omega arith in
-    rw (le-ltb (length b) 20 kept.1, number_front w8 10 k b h10, number_front w16 0 k b h0, drop_front 20 k b)
-    (typed_agrees (is_group (number_at w8 10 b)) c (number_at w16 0 b) (k - 20) (drop 20 b)))
+    open_first (nat_lt (length (take k b)) 2) _ _ (λ there.
+    let size = front_length 2 k b (ltb-false (length (take k b)) 2 there) in
+    rw (le-ltb (length b) 2 size.1) (protocol_agrees c k b size.0 size.1))
 
 family_agrees : (c : Bool) (family k : ℕ) (b : List ℕ) → Agrees (of_family true family (take k b)) (of_family c family b)
 family_agrees c family k b =

@@ -1,5 +1,5 @@
 -- A file of pcap is read as it is spelled.
-use Rattle.std.proofs.Common.{◌≡◌, ℕ, ◌+◌, ◌*◌, ◌/◌, ◌%◌, ◌^◌, ◌<◌, ◌≤◌, List, [], ◌∷◌, ◌++◌, length, take, drop, Some, None, Bool, true, false, refl, sym, ◌∙◌, ap, cond, rules, tests, append_assoc, length-append, length-drop, arith}
+use Rattle.std.proofs.Common.{◌≡◌, ℕ, ◌+◌, ◌*◌, ◌/◌, ◌%◌, ◌^◌, ◌<◌, ◌≤◌, List, [], ◌∷◌, ◌++◌, length, take, drop, Some, None, Bool, true, false, refl, sym, ◌∙◌, ap, cond, rules, tests, append_assoc, length-append, length-drop, le-ltb, arith}
 use Rattle.std.specs.Prelude.{Result, Ok, Err, nat_lt, ◌==◌, if◌then◌else◌}
 use Rattle.std.specs.Int.{w32, from_be_bytes, from_le_bytes, to_be_bytes, to_le_bytes}
 use Rattle.std.specs.List.{AllByRecursion}
@@ -20,7 +20,8 @@ use Rattle.packet_captures.specs.Packet.{Packet}
 use Rattle.packet_captures.specs.Pcap.{pcap_at, pcap_head, record_at, record_head, record_packet, record_size}
 use Rattle.packet_captures.specs.Spelling.{FitsRecord, PlainRecord, packet_of, pcap_head_text, pcap_text, record_head_text, records_capture, records_text}
 use Rattle.packet_captures.specs.State.{State, pcap_state, start}
-use Rattle.packet_captures.specs.Whole.{whole_at}
+use Rattle.packet_captures.specs.Whole.{whole_at, held_at}
+use Rattle.packet_captures.specs.declared.limits.TheConstants.{LARGEST_BLOCK}
 use Rattle.packet_captures.proofs.Captures.{capture-none, capture-packet, capture-same}
 use Rattle.packet_captures.proofs.Nexts.{after, enough, next-on, next-whole}
 
@@ -55,8 +56,8 @@ fraction-read Big r f = from_be_bytes-to_be_bytes_4 r.fraction f.fraction
 
 kept-read : (order : ByteOrder) (r : PlainRecord) → FitsRecord r → number_at order w32 8 (record_head_text order r) ≡ length r.bytes
 unfolding number_at
-kept-read Little r f = from_le_bytes-to_le_bytes_4 (length r.bytes) f.kept
-kept-read Big r f = from_be_bytes-to_be_bytes_4 (length r.bytes) f.kept
+kept-read Little r f = from_le_bytes-to_le_bytes_4 (length r.bytes) (omega (arith, f.kept))
+kept-read Big r f = from_be_bytes-to_be_bytes_4 (length r.bytes) (omega (arith, f.kept))
 
 original-read : (order : ByteOrder) (r : PlainRecord) → FitsRecord r → number_at order w32 12 (record_head_text order r) ≡ r.original
 unfolding number_at
@@ -80,17 +81,20 @@ head-read p at r f =
     ∙ ap (λ (o : ℕ). head r.seconds r.fraction o) (original-read p.order r f))
 
 -- a record of this size that is there
-record-known : (p : PcapHead) (at : ℕ) (b : List ℕ) (n : ℕ) → 16 ≤ length b → record_size p (take 16 b) ≡ n → n ≤ length b
+record-known : (p : PcapHead) (at : ℕ) (b : List ℕ) (n : ℕ) → 16 ≤ length b → record_size p (take 16 b) ≡ n → n ≤ LARGEST_BLOCK → n ≤ length b
     → record_at p true at b ≡ Ok (n, record_packet p true at (take n b))
 unfolding record_at
-record-known p at b n h e g =
+record-known p at b n h e few g =
     let first : nat_lt (length b) 16 ≡ false = search (rules, tests) in
     let second : nat_lt (length b) n ≡ false = search (rules, tests) in
     let fault : FormatFault = faults.Truncated (at + length b) false in
-    let given : ℕ → Result (ℕ × Packet) FormatFault = λ (m : ℕ). whole_at m false at b >>= λ w. Ok (m, record_packet p true at (take m b)) in
+    let held : nat_lt LARGEST_BLOCK n ≡ false = le-ltb LARGEST_BLOCK n few in
+    let given : ℕ → Result (ℕ × Packet) FormatFault = λ (m : ℕ). held_at m 8 at >>= λ v. whole_at m false at b >>= λ w. Ok (m, record_packet p true at (take m b)) in
     let two : Bool → Result (Unit {0}) FormatFault = λ (t : Bool). cond t (Err fault) (Ok tt) in
+    let long : Bool → Result (Unit {0}) FormatFault = λ (t : Bool). cond t (Err (faults.Block (at + 8))) (Ok tt) in
     ap (λ (t : Bool). two t >>= λ w. given (record_size p (take 16 b))) first
-    ∙ (ap given e ∙ ap (λ (t : Bool). two t >>= λ w. Ok (n, record_packet p true at (take n b))) second)
+    ∙ (ap given e ∙ (ap (λ (t : Bool). long t >>= λ v. whole_at n false at b >>= λ w. Ok (n, record_packet p true at (take n b))) held
+    ∙ ap (λ (t : Bool). two t >>= λ w. Ok (n, record_packet p true at (take n b))) second))
 
 record-read : (p : PcapHead) (at : ℕ) (r : PlainRecord) (rest : List ℕ) → FitsRecord r
     → record_at p true at (record_head_text p.order r ++ (r.bytes ++ rest)) ≡ Ok (16 + length r.bytes, packet_of p at r)
@@ -106,7 +110,7 @@ record-read p at r rest f =
     let told : record_size p (take 16 b) ≡ n = ap (λ (xs : List ℕ). record_size p xs) (head-taken p.order r (r.bytes ++ rest)) ∙ ap (λ (m : ℕ). 16 + m) (kept-read p.order r f) in
     let given : Packet → Result (ℕ × Packet) FormatFault = λ (x : Packet). Ok (n, x) in
     let packet : PacketHead → List ℕ → Packet = λ (a : PacketHead) (c : List ℕ). record { head = a; bytes = c } in
-    record-known p at b n (omega arith) told (omega arith)
+    record-known p at b n (omega arith) told f.kept (omega arith)
     ∙ ap given (ap (λ (xs : List ℕ). record_packet p true at xs) taken
     ∙ (ap (λ (xs : List ℕ). packet (record_head p true at xs) (drop 16 whole)) (head-taken p.order r r.bytes)
     ∙ (ap (λ (a : PacketHead). packet a (drop 16 whole)) (head-read p at r f)

@@ -15,10 +15,10 @@ use Rattle.packet_captures.specs.declared.pcap.PcapHead.{PcapHead}
 use Rattle.packet_captures.specs.Numbers.{number_at}
 use Rattle.packet_captures.specs.Packet.{Packet}
 use Rattle.packet_captures.specs.Pcap.{pcap_at, pcap_head, pcap_kind, record_at, record_size, record_packet}
-use Rattle.packet_captures.specs.Pcapng.{same_at_end, section_at, section_kind, size_in, sized_at, version_in, order_in, block_content}
+use Rattle.packet_captures.specs.Pcapng.{held_in, known_in, same_at_end, section_at, section_kind, size_in, sized_at, version_in, order_in, block_content}
 use Rattle.packet_captures.specs.Capture.{Found, block_found, found_in, front_found, head_found, other_found, pcap_found, record_found, section_found, start_found}
 use Rattle.packet_captures.specs.State.{State, pcap_state, section_state}
-use Rattle.packet_captures.specs.Whole.{whole_at}
+use Rattle.packet_captures.specs.Whole.{held_at, whole_at}
 
 abbrev ok : {A : Type 0} → A → Result A FormatFault
 ok x = Ok x
@@ -85,8 +85,9 @@ unfolding record_found record_at
 record-shorter h name s at b f e =
     let p = bind_ok (record_at h (is_none name) at b) (λ (r : ℕ × Packet). Ok (found_in r.0 at b (Some r.1) s)) f e in
     let n : ℕ = record_size h (take 16 b) in
-    let q = bind_ok (whole_at 16 false at b) (λ (w : Unit {0}). whole_at n false at b >>= λ v. Ok (n, record_packet h (is_none name) at (take n b))) p.0 p.1 in
-    let r = bind_ok (whole_at n false at b) (λ (w : Unit {0}). ok (n, record_packet h (is_none name) at (take n b))) p.0 q.2 in
+    let q = bind_ok (whole_at 16 false at b) (λ (w : Unit {0}). held_at n 8 at >>= λ held. whole_at n false at b >>= λ v. Ok (n, record_packet h (is_none name) at (take n b))) p.0 p.1 in
+    let k = bind_ok (held_at n 8 at) (λ (held : Unit {0}). whole_at n false at b >>= λ v. Ok (n, record_packet h (is_none name) at (take n b))) p.0 q.2 in
+    let r = bind_ok (whole_at n false at b) (λ (w : Unit {0}). ok (n, record_packet h (is_none name) at (take n b))) p.0 k.2 in
     let there : n ≤ length b = whole-ok n false at b r.0 r.1 in
     let pair : (n, record_packet h (is_none name) at (take n b)) ≡ p.0 = cc in
     let size : n ≡ p.0.0 = ap (λ (x : ℕ × Packet). x.0) pair in
@@ -97,9 +98,10 @@ section-shorter : (head : Bool) (s : State) (at : ℕ) (b : List ℕ) (f : Found
 unfolding section_found section_at
 section-shorter head s at b f e =
     let p = bind_ok (section_at head at b) (λ (r : ℕ × ByteOrder). Ok (found_in r.0 at b None (section_state r.1 s))) f e in
-    let q = bind_ok (whole_at 12 head at b) (λ (w : Unit {0}). order_in at (take 12 b) >>= λ order. sized_at order head at b >>= λ n. version_in order at (take n b) >>= λ v. Ok (n, order)) p.0 p.1 in
-    let r = bind_ok (order_in at (take 12 b)) (λ (order : ByteOrder). sized_at order head at b >>= λ n. version_in order at (take n b) >>= λ v. Ok (n, order)) p.0 q.2 in
-    let t = bind_ok (sized_at r.0 head at b) (λ (n : ℕ). version_in r.0 at (take n b) >>= λ v. Ok (n, r.0)) p.0 r.2 in
+    let q = bind_ok (whole_at 12 head at b) (λ (w : Unit {0}). order_in at (take 12 b) >>= λ order. held_in order at (take 8 b) >>= λ held. sized_at order head at b >>= λ n. version_in order at (take n b) >>= λ v. Ok (n, order)) p.0 p.1 in
+    let r = bind_ok (order_in at (take 12 b)) (λ (order : ByteOrder). held_in order at (take 8 b) >>= λ held. sized_at order head at b >>= λ n. version_in order at (take n b) >>= λ v. Ok (n, order)) p.0 q.2 in
+    let k = bind_ok (held_in r.0 at (take 8 b)) (λ (held : Unit {0}). sized_at r.0 head at b >>= λ n. version_in r.0 at (take n b) >>= λ v. Ok (n, r.0)) p.0 r.2 in
+    let t = bind_ok (sized_at r.0 head at b) (λ (n : ℕ). version_in r.0 at (take n b) >>= λ v. Ok (n, r.0)) p.0 k.2 in
     let v = bind_ok (version_in r.0 at (take t.0 b)) (λ (u : Unit {0}). ok (t.0, r.0)) p.0 t.2 in
     let sizes = sized-ok r.0 head at b t.0 t.1 in
     let pair : (t.0, r.0) ≡ p.0 = cc in
@@ -110,7 +112,8 @@ other-shorter : (order : ByteOrder) (name : Option (List ℕ)) (s : State) (at :
 unfolding other_found
 other-shorter order name s at b f e =
     let kind : ℕ = number_at order w32 0 (take 8 b) in
-    let p = bind_ok (sized_at order false at b) (λ (n : ℕ). block_content order name s kind at (take n b) >>= λ content. Ok (found_in n at b content.0 content.1)) f e in
+    let k = bind_ok (known_in order at (take 8 b)) (λ (known : Unit {0}). sized_at order false at b >>= λ n. block_content order name s kind at (take n b) >>= λ content. Ok (found_in n at b content.0 content.1)) f e in
+    let p = bind_ok (sized_at order false at b) (λ (n : ℕ). block_content order name s kind at (take n b) >>= λ content. Ok (found_in n at b content.0 content.1)) f k.2 in
     let q = bind_ok (block_content order name s kind at (take p.0 b)) (λ (content : Option Packet × State). Ok (found_in p.0 at b content.0 content.1)) f p.2 in
     let sizes = sized-ok order false at b p.0 p.1 in
     behind-shorter p.0 at b q.0.0 q.0.1 f q.2 (omega arith) (omega arith)

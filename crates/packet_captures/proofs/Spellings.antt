@@ -1,13 +1,17 @@
 -- What is spelled so is read so.
-use Rattle.std.proofs.Common.{◌≡◌, ℕ, ◌+◌, ◌-◌, ◌%◌, ◌^◌, ◌<◌, ◌≤◌, List, [], ◌++◌, length, take, drop, Bool, true, false, refl, sym, ◌∙◌, ap, rules, tests, eq-eqb, append_assoc, append-nil, length-append, arith}
-use Rattle.std.specs.Prelude.{Ok, nat_lt, ◌==◌}
+use Rattle.std.proofs.Common.{◌≡◌, ℕ, ◌+◌, ◌-◌, ◌%◌, ◌^◌, ◌<◌, ◌≤◌, List, [], ◌++◌, length, take, drop, Bool, true, false, refl, sym, ◌∙◌, ap, cond, rules, tests, eq-eqb, le-ltb, append_assoc, append-nil, length-append, arith}
+use Rattle.std.specs.Prelude.{Result, Ok, Err, nat_lt, ◌==◌, if◌then◌else◌}
 use Rattle.std.specs.Int.{w32, from_be_bytes, from_le_bytes, to_be_bytes, to_le_bytes}
 use Rattle.std.proofs.lemmas.List.{take_at, drop_at}
 use Rattle.std.proofs.lemmas.Nat.{from_le_bytes-to_le_bytes_4, from_be_bytes-to_be_bytes_4}
 use Rattle.packet_captures.specs.declared.byte_order.ByteOrder.{ByteOrder}
 use Rattle.packet_captures.specs.declared.byte_order.ByteOrder.TheVariants.{Little, Big}
+use Rattle.packet_captures.specs.declared.capture_fault.FormatFault.{FormatFault}
+use Rattle.packet_captures.specs.declared.capture_fault.FormatFault.TheVariants as faults
+use Rattle.packet_captures.specs.declared.limits.TheConstants.{LARGEST_BLOCK}
 use Rattle.packet_captures.specs.Numbers.{number_at}
-use Rattle.packet_captures.specs.Pcapng.{same_at_end, size_in, sized_at}
+use Rattle.packet_captures.specs.Pcapng.{held_in, is_looked_into, known_in, same_at_end, size_in, sized_at}
+use Rattle.packet_captures.specs.Whole.{held_at}
 use Rattle.packet_captures.specs.Spelling.{block_text, number_text}
 
 word-length : (order : ByteOrder) (n : ℕ) → length (number_text order w32 n) ≡ 4
@@ -99,3 +103,21 @@ block-sized order head at kind body rest h whole =
     let last : (number_at order w32 (n - 4) (take n b) == n) ≡ true =
     eq-eqb (number_at order w32 (n - 4) (take n b)) n (ap (λ (xs : List ℕ). number_at order w32 (n - 4) xs) (block-taken order kind body rest) ∙ block-end order kind body h) in
     rw (size, there, last) refl
+
+-- it is held at once, where it is no longer than that
+pub block-held : (order : ByteOrder) (at kind : ℕ) (body rest : List ℕ) → 12 + length body ≤ LARGEST_BLOCK → held_in order at (take 8 (block_text order kind body ++ rest)) ≡ Ok tt
+block-held order at kind body rest few =
+    let n : ℕ = 12 + length body in
+    let refused : Bool → Result (Unit {0}) FormatFault = λ (t : Bool). cond t (Err (faults.Block (at + 4))) (Ok tt) in
+    ap (λ (m : ℕ). held_at m 4 at) (block-size order kind body rest (omega (arith, few))) ∙ ap refused (le-ltb LARGEST_BLOCK n few)
+
+-- whatever its kind
+pub block-known : (order : ByteOrder) (at kind : ℕ) (body rest : List ℕ) → 12 + length body ≤ LARGEST_BLOCK → known_in order at (take 8 (block_text order kind body ++ rest)) ≡ Ok tt
+block-known order at kind body rest few = by_kind (is_looked_into (number_at order w32 0 head))
+  where
+    head : List ℕ
+    head = take 8 (block_text order kind body ++ rest)
+
+    by_kind : (t : Bool) → (if t then held_in order at head else Ok tt) ≡ Ok tt
+    by_kind true = block-held order at kind body rest few
+    by_kind false = refl

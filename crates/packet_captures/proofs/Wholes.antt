@@ -1,5 +1,5 @@
 -- Nothing of what a frame carries that was not cut is missing.
-use Rattle.std.proofs.Common.{◌≡◌, ℕ, zero, suc, ◌+◌, ◌-◌, ◌*◌, ◌/◌, ◌%◌, ◌≤◌, Bool, true, false, not, ◌&&◌, ◌||◌, List, length, take, drop, refl, eq-eqb, arith}
+use Rattle.std.proofs.Common.{◌≡◌, ℕ, zero, suc, ◌+◌, ◌-◌, ◌*◌, ◌/◌, ◌%◌, ◌≤◌, Bool, true, false, not, ◌&&◌, ◌||◌, List, [], length, take, drop, refl, eq-eqb, arith}
 use Rattle.std.proofs.lemmas.Bool.{ltb-true, ltb-false, le-ltb, le-leb}
 use Rattle.std.proofs.lemmas.List.{length-take, length-drop}
 use Rattle.std.specs.Prelude.{◌==◌, nat_le, nat_lt, Option, Some, None, if◌then◌else◌}
@@ -150,7 +150,9 @@ link_whole links.Raw b =
 link_whole links.Raw4 b = internet_4_whole false b
 link_whole links.Raw6 b = internet_6_whole false b
 link_whole links.Cooked b = whole_if (nat_lt (length b) 16) Other _ (λ short. tt) (λ there. type_whole (is_group (number_at w16 0 b)) (untagged (number_at w16 14 b) (drop 16 b)))
-link_whole links.Cooked2 b = whole_if (nat_lt (length b) 20) Other _ (λ short. tt) (λ there. type_whole (is_group (number_at w8 10 b)) (untagged (number_at w16 0 b) (drop 20 b)))
+link_whole links.Cooked2 b =
+    whole_if (nat_lt (length b) 2) Other _ (λ short. tt) (λ there.
+    whole_if (nat_lt (length b) 20) _ _ (λ ended. type_whole false (untagged (number_at w16 0 b) [])) (λ whole. type_whole (is_group (number_at w8 10 b)) (untagged (number_at w16 0 b) (drop 20 b))))
 
 pub contents_whole : (link : Link) (original : ℕ) (b : List ℕ) → original ≤ length b → IsWhole (contents link original b)
 unfolding contents

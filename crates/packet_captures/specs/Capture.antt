@@ -13,7 +13,7 @@ use Rattle.packet_captures.specs.declared.pcap.PcapHead.{PcapHead}
 use Rattle.packet_captures.specs.Numbers.{number_at}
 use Rattle.packet_captures.specs.Packet.{Packet}
 use Rattle.packet_captures.specs.Pcap.{pcap_kind, pcap_at, record_at}
-use Rattle.packet_captures.specs.Pcapng.{section_kind, section_at, sized_at, block_content}
+use Rattle.packet_captures.specs.Pcapng.{section_kind, section_at, known_in, sized_at, block_content}
 use Rattle.packet_captures.specs.State.{State, start, section_state, pcap_state, lost_of}
 use Rattle.packet_captures.specs.Whole.{whole_at}
 
@@ -42,7 +42,7 @@ section_found head s at b = section_at head at b >>= λ r. Ok (found_in r.0 at b
 
 -- another block of pcapng
 unfoldable pub other_found : ByteOrder → (name : Option (List ℕ)) → State → (at : ℕ) → List ℕ → Result Found FormatFault
-other_found order name s at b = sized_at order false at b >>= λ n.
+other_found order name s at b = known_in order at (take 8 b) >>= λ known. sized_at order false at b >>= λ n.
     block_content order name s (number_at order w32 0 (take 8 b)) at (take n b) >>= λ content. Ok (found_in n at b content.0 content.1)
 
 -- a block of pcapng

@@ -11,7 +11,7 @@ use Rattle.packet_captures.specs.declared.packet.Direction.TheVariants.{Unknown}
 use Rattle.packet_captures.specs.declared.pcap.PcapHead.{PcapHead}
 use Rattle.packet_captures.specs.Numbers.{number_at}
 use Rattle.packet_captures.specs.Packet.{Packet}
-use Rattle.packet_captures.specs.Whole.{whole_at}
+use Rattle.packet_captures.specs.Whole.{whole_at, held_at}
 
 -- the byte order, and whether fractions are nanoseconds, by the magic as a little-endian number
 abbrev pub pcap_kind : ℕ → Option (ByteOrder × Bool)
@@ -60,5 +60,6 @@ record_packet p wanted at whole = record { head = record_head p wanted at (take 
 unfoldable pub record_at : PcapHead → (wanted : Bool) → (at : ℕ) → List ℕ → Result (ℕ × Packet) FormatFault
 record_at p wanted at b =
     whole_at 16 false at b >>= λ head.
+    held_at (record_size p (take 16 b)) 8 at >>= λ held.
     whole_at (record_size p (take 16 b)) false at b >>= λ whole.
     Ok (record_size p (take 16 b), record_packet p wanted at (take (record_size p (take 16 b)) b))

@@ -12,13 +12,17 @@ use Rattle.packet_captures.specs.Interface.{interface_of}
 use Rattle.packet_captures.specs.Numbers.{number_at}
 use Rattle.packet_captures.specs.Packet.{Packet}
 use Rattle.packet_captures.specs.State.{State, with_interface, with_stamp, with_lost}
-use Rattle.packet_captures.specs.Whole.{whole_at}
+use Rattle.packet_captures.specs.Whole.{whole_at, held_at}
 
 -- the total length of a block, in its first eight bytes: at least 12, and a multiple of 4
 unfoldable pub size_in : ByteOrder → (at : ℕ) → List ℕ → Result ℕ FormatFault
 size_in order at h =
     if nat_lt (number_at order w32 4 h) 12 || not (number_at order w32 4 h % 4 == 0) then Err (faults.Block (at + 4))
     else Ok (number_at order w32 4 h)
+
+-- a block of this total length is held at once
+abbrev pub held_in : ByteOrder → (at : ℕ) → List ℕ → Result (Unit {0}) FormatFault
+held_in order at h = held_at (number_at order w32 4 h) 4 at
 
 -- the total length stands again at the end of a block of this size
 unfoldable pub same_at_end : ByteOrder → (size at : ℕ) → List ℕ → Result ℕ FormatFault
@@ -39,6 +43,10 @@ section_kind = 0x0A0D0D0A
 abbrev pub is_looked_into : ℕ → Bool
 is_looked_into kind = (kind == 1) || (kind == 2) || (kind == 3) || (kind == 5) || (kind == 6)
 
+-- a block that is looked into is held at once; another one is passed over, whatever its size
+abbrev pub known_in : ByteOrder → (at : ℕ) → List ℕ → Result (Unit {0}) FormatFault
+known_in order at h = if is_looked_into (number_at order w32 0 h) then held_in order at h else Ok tt
+
 -- the byte order of a section, by the number 0x1A2B3C4D in its bytes 8 to 11
 unfoldable pub order_in : (at : ℕ) → List ℕ → Result ByteOrder FormatFault
 order_in at h =
@@ -56,6 +64,7 @@ unfoldable pub section_at : (head : Bool) → (at : ℕ) → List ℕ → Result
 section_at head at b = do
   whole ← whole_at 12 head at b
   order ← order_in at (take 12 b)
+  held ← held_in order at (take 8 b)
   n ← sized_at order head at b
   version ← version_in order at (take n b)
   Ok (n, order)

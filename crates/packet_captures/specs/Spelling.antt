@@ -1,9 +1,10 @@
 -- How files of pcap and blocks of pcapng are spelled (draft-ietf-opsawg-pcap, draft-ietf-opsawg-pcapng): the laws say that
 -- what is spelled so is read so.
-use Rattle.std.specs.Prelude.{ℕ, ◌+◌, ◌*◌, ◌/◌, ◌^◌, ◌<◌, Bool, true, List, [], ◌∷◌, ◌++◌, length, None, if◌then◌else◌}
+use Rattle.std.specs.Prelude.{ℕ, ◌+◌, ◌*◌, ◌/◌, ◌^◌, ◌<◌, ◌≤◌, Bool, true, List, [], ◌∷◌, ◌++◌, length, None, if◌then◌else◌}
 use Rattle.std.specs.Int.{Width, w16, w32, to_be_bytes, to_le_bytes}
 use Rattle.packet_captures.specs.declared.byte_order.ByteOrder.{ByteOrder}
 use Rattle.packet_captures.specs.declared.byte_order.ByteOrder.TheVariants.{Little, Big}
+use Rattle.packet_captures.specs.declared.limits.TheConstants.{LARGEST_BLOCK}
 use Rattle.packet_captures.specs.declared.packet.Direction.TheVariants.{Unknown}
 use Rattle.packet_captures.specs.declared.pcap.PcapHead.{PcapHead}
 use Rattle.packet_captures.specs.Capture.{PlainCapture}
@@ -21,12 +22,12 @@ pub record PlainRecord : Type 0 where
   pub original : ℕ
   pub bytes : List ℕ
 
--- its numbers have 32 bits
+-- its numbers have 32 bits, and it is held at once
 pub record FitsRecord (r : PlainRecord) : Type 0 where
   pub seconds : r.seconds < 2 ^ 32
   pub fraction : r.fraction < 2 ^ 32
   pub original : r.original < 2 ^ 32
-  pub kept : length r.bytes < 2 ^ 32
+  pub kept : 16 + length r.bytes ≤ LARGEST_BLOCK
 
 -- the head of a record
 abbrev pub record_head_text : ByteOrder → PlainRecord → List ℕ

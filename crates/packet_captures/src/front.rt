@@ -1,6 +1,6 @@
 //! The head, record or block at the front of the bytes of a capture.
 
-ghost use Rattle.std.specs.Prelude.{◌≡◌, ◌≤◌, length, take, false, None, IfSome, IfOk, IfErr, OnOk, OnErr};
+ghost use Rattle.std.specs.Prelude.{◌≡◌, ◌≤◌, length, take, true, false, None, IfSome, IfOk, IfErr, OnOk, OnErr};
 ghost use Rattle.packet_captures.specs.Faults.{format_of};
 ghost use Rattle.packet_captures.specs.declared.byte_order.ByteOrder.TheVariants.{Little};
 ghost use Rattle.std.specs.Int.{w32};
@@ -17,7 +17,9 @@ use crate::form::Form;
 use crate::packet::PacketHead;
 use crate::pcap::{PcapHead, pcap_kind};
 use crate::pcapng::{BLOCK_HEAD, SECTION, block_content, is_looked_into};
-use crate::reading::{hold_block, hold_whole, next_pcap, next_record, next_section, pass_block};
+use crate::reading::{
+    check_block, hold_block, hold_whole, next_pcap, next_record, next_section, pass_block,
+};
 use crate::state::CaptureState;
 use crate::window::Window;
 use std::io::Read;
@@ -112,11 +114,13 @@ fn known_block<R: Read>(
     name: Option<&[u8]>,
     kind: u32,
 ) -> Result<Option<PacketHead>, CaptureFault>
-    requires { 8 ≤ length window.old.held }
+    requires head { 8 ≤ length window.old.held }
+    requires kind { is_looked_into kind ≡ true }
     ensures found { IfSome (bytes_ahead window.old) (λ b. kind ≡ number_at order w32 0 (take 8 b) →
         Finds result window.new state.new (other_found order (option_map (λ n. n.now) name.entry) state.old window.old.at b)) }
     ensures failed { OnErr result (state.new ≡ state.old) }
 {
+    check_block(window, order)?;
     let size = hold_block(window, order, false)?;
     take_block(window, state, order, name, kind, size)
 }

@@ -13,6 +13,9 @@ pub(crate) const PCAP_HEAD: usize = 24;
 /// Size in bytes of the head of a record.
 pub(crate) const RECORD_HEAD: usize = 16;
 
+/// Offset in a record of the number of bytes that were kept.
+pub(crate) const RECORD_LENGTH: usize = 8;
+
 /// What the head of a file of pcap says of its records.
 #[derive(Clone, Copy, Debug, PartialEq, Eq)]
 pub struct PcapHead {

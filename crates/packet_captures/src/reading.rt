@@ -7,14 +7,15 @@ ghost use Rattle.byte_files.specs.Fields.{tested};
 ghost use Rattle.packet_captures.specs.Pcap.{pcap_at, pcap_head, record_at, record_packet, record_size};
 ghost use Rattle.packet_captures.specs.declared.capture_fault.FormatFault.TheVariants as faults;
 ghost use Rattle.packet_captures.specs.Numbers.{number_at};
-ghost use Rattle.packet_captures.specs.Pcapng.{order_in, same_at_end, section_at, size_in, sized_at, version_in};
-ghost use Rattle.packet_captures.specs.Whole.{whole_at};
+ghost use Rattle.packet_captures.specs.Pcapng.{held_in, order_in, same_at_end, section_at, size_in, sized_at, version_in};
+ghost use Rattle.packet_captures.specs.Whole.{held_at, whole_at};
 ghost use Rattle.packet_captures.specs.Window.{Passes, SameAhead, bytes_ahead};
 
 use crate::byte_order::{ByteOrder, u32_at};
 use crate::capture_fault::{CaptureFault, FormatFault};
+use crate::limits::LARGEST_BLOCK;
 use crate::packet::PacketHead;
-use crate::pcap::{PCAP_HEAD, PcapHead, RECORD_HEAD, pcap_head};
+use crate::pcap::{PCAP_HEAD, PcapHead, RECORD_HEAD, RECORD_LENGTH, pcap_head};
 use crate::pcapng::{BLOCK_HEAD, SECTION_HEAD, order_in, same_at_end, size_in, version_in};
 use crate::window::Window;
 use std::io::Read;
@@ -34,6 +35,27 @@ pub(crate) fn hold_whole<R: Read>(
         return Err(CaptureFault::Format(FormatFault::Truncated { at, head }));
     }
     Ok(())
+}
+
+/// Checks that a record or block of this size is held at once; else the fault is at its length, which
+/// has this offset in it.
+fn check_held<R: Read>(window: &Window<R>, size: usize, field: usize) -> Result<(), FormatFault>
+    requires { field ≤ length window.now.held }
+    ensures { result ≡ held_at size field window.now.at }
+{
+    if size > LARGEST_BLOCK {
+        return Err(FormatFault::Block(window.offset(field)));
+    }
+    Ok(())
+}
+
+/// Checks that the block whose head is held is held at once.
+pub(crate) fn check_block<R: Read>(window: &Window<R>, order: ByteOrder) -> Result<(), FormatFault>
+    requires { 8 ≤ length window.now.held }
+    ensures { IfSome (bytes_ahead window.now) (λ b. result ≡ held_in order window.now.at (take 8 b)) }
+{
+    let size = u32_at(order, &window.held()[..BLOCK_HEAD], 4);
+    check_held(window, size as usize, 4)
 }
 
 /// Total length of the block whose head is held.
@@ -161,6 +183,7 @@ pub(crate) fn next_record<R: Read>(
 {
     hold_whole(window, RECORD_HEAD, false)?;
     let size = record_size(window, head);
+    check_held(window, size, RECORD_LENGTH)?;
     hold_whole(window, size, false)?;
     Ok(take_record(window, head, wanted, size))
 }
@@ -222,6 +245,7 @@ pub(crate) fn next_section<R: Read>(
 {
     hold_whole(window, SECTION_HEAD, head)?;
     let order = held_order(window)?;
+    check_block(window, order)?;
     let size = hold_block(window, order, head)?;
     check_version(window, order, size)?;
     window.pass(size);

@@ -254,17 +254,20 @@ fn a_fault_of_pcap_has_its_place(rt: HostRuntime) {
         let fault = FormatFault::Truncated { at, head };
         assert!(rt; has_fault(alloc, &LITTLE_MICRO[..size], 0, 0xD4, fault));
     }
+    // A record that is longer than the file, up to a mebibyte and above.
     let longer = FormatFault::Truncated {
         at: 45,
         head: false,
     };
-    assert!(rt; has_fault(alloc, &LITTLE_MICRO, 35, 0xFF, longer));
+    assert!(rt; has_fault(alloc, &LITTLE_MICRO, 34, 0x0F, longer));
+    assert!(rt; has_fault(alloc, &LITTLE_MICRO, 34, 0x10, FormatFault::Block(32)));
+    assert!(rt; has_fault(alloc, &LITTLE_MICRO, 35, 0xFF, FormatFault::Block(32)));
 }
 
 #[test]
 fn a_fault_of_pcapng_has_its_place(rt: HostRuntime) {
     // The offset of a byte, what it becomes, and the fault of the file.
-    let faults: [(usize, u8, FormatFault); 20] = [
+    let faults: [(usize, u8, FormatFault); 22] = [
         (0, 0x0B, FormatFault::Magic(0)),
         (8, 0x4E, FormatFault::Magic(8)),
         (344, 0x1B, FormatFault::Magic(344)),
@@ -284,10 +287,13 @@ fn a_fault_of_pcapng_has_its_place(rt: HostRuntime) {
         (367, 9, FormatFault::Interface(412)),
         (418, 0, FormatFault::Time(416)),
         (416, 0xFF, FormatFault::Time(416)),
-        // A length of almost 4 GiB, of which the rest of the file is there.
+        // A length of almost 4 GiB, one of a mebibyte and more, and one of less, of each of which the
+        // rest of the file is there.
+        (103, 0xFF, FormatFault::Block(100)),
+        (102, 0x10, FormatFault::Block(100)),
         (
-            103,
-            0xFF,
+            102,
+            0x0F,
             FormatFault::Truncated {
                 at: 492,
                 head: false,

@@ -20,17 +20,18 @@ use Rattle.packet_captures.specs.declared.byte_order.ByteOrder.TheVariants.{Litt
 use Rattle.packet_captures.specs.declared.capture_fault.FormatFault.{FormatFault}
 use Rattle.packet_captures.specs.declared.form.Form.TheVariants.{Section}
 use Rattle.packet_captures.specs.declared.interface.Interface.{Interface}
+use Rattle.packet_captures.specs.declared.limits.TheConstants.{LARGEST_BLOCK}
 use Rattle.packet_captures.specs.declared.packet.Direction.{Direction}
 use Rattle.packet_captures.specs.declared.packet.Direction.TheVariants.{Inbound, Outbound}
 use Rattle.packet_captures.specs.Capture.{Found, PlainCapture, capture_from, capture_of, front_found, block_found, other_found, section_found, start_found, is_whole, preceded, stopped}
 use Rattle.packet_captures.specs.Numbers.{number_at}
 use Rattle.packet_captures.specs.Packet.{Packet}
-use Rattle.packet_captures.specs.Pcapng.{section_kind, section_at, sized_at, order_in, version_in, block_content, packet_in_block, state_after}
+use Rattle.packet_captures.specs.Pcapng.{section_kind, section_at, held_in, known_in, sized_at, order_in, version_in, block_content, packet_in_block, state_after}
 use Rattle.packet_captures.specs.Spelling.{number_text, block_text}
 use Rattle.packet_captures.specs.State.{State, start, lost_of}
 use Rattle.packet_captures.proofs.Captures.{capture-none, capture-packet, capture-same}
 use Rattle.packet_captures.proofs.Nexts.{after, enough, next-on, next-whole}
-use Rattle.packet_captures.proofs.Spellings.{block-kind, block-sized, block-taken, block-dropped}
+use Rattle.packet_captures.proofs.Spellings.{block-kind, block-held, block-known, block-sized, block-taken, block-dropped}
 use Rattle.exercise_recording.specs.Captures.Blocks.{section_text, interface_body, interface_text, packet_body, packet_text}
 use Rattle.exercise_recording.specs.Captures.Datagram.{datagram_headers, internet_text, source_of, target_of}
 use Rattle.exercise_recording.specs.Captures.Export.{station_interface, entry_packet, capture_head, exported_text}
@@ -78,19 +79,20 @@ block-size kind body rest =
 
 -- a block of a section that is no section header
 pub block-found : (name : Option (List ℕ)) (s : State) (at kind : ℕ) (body rest : List ℕ) (packet : Option Packet) (new : State)
-    → kind < 2 ^ 32 → (kind == section_kind) ≡ false → 12 + length body < 2 ^ 32 → length body % 4 ≡ 0
+    → kind < 2 ^ 32 → (kind == section_kind) ≡ false → 12 + length body ≤ LARGEST_BLOCK → length body % 4 ≡ 0
     → block_content Little name s kind at (block_text Little kind body) ≡ Ok (packet, new)
     → front_found (Section Little) name s at (block_text Little kind body ++ rest) ≡ Ok (found packet new (at + (12 + length body)) rest)
 unfolding front_found block_found other_found found
-block-found name s at kind body rest packet new fits other short whole content =
+block-found name s at kind body rest packet new fits other few whole content =
     let b : List ℕ = block_text Little kind body ++ rest in
     let n : ℕ = 12 + length body in
     let eight : nat_lt (length b) 8 ≡ false = let size = block-size kind body rest in search (rules, tests) in
-    let sized : sized_at Little false at b ≡ Ok n = block-sized Little false at kind body rest short whole in
+    let sized : sized_at Little false at b ≡ Ok n = block-sized Little false at kind body rest (omega (arith, few)) whole in
+    let known : known_in Little at (take 8 b) ≡ Ok tt = block-known Little at kind body rest few in
     let kind_is : number_at Little w32 0 (take 8 b) ≡ kind = block-kind Little kind body rest fits in
     let taken : take n b ≡ block_text Little kind body = block-taken Little kind body rest in
     let dropped : drop n b ≡ rest = block-dropped Little kind body rest in
-    rw (eight, kind_is, other, sized, taken, content, dropped) refl
+    rw (eight, known, kind_is, other, sized, taken, content, dropped) refl
 
 -- ---- the section header
 
@@ -107,7 +109,8 @@ section-read name rest =
     let four : nat_lt (length b) 4 ≡ false = search (rules, tests) in
     let twelve : nat_lt (length b) 12 ≡ false = search (rules, tests) in
     let sized : sized_at Little true 0 b ≡ Ok 28 = block-sized Little true 0 section_kind body rest (omega arith) refl in
-    rw (four, twelve, sized) refl
+    let held : held_in Little 0 (take 8 b) ≡ Ok tt = block-held Little 0 section_kind body rest (omega arith) in
+    rw (four, twelve, held, sized) refl
 
 -- ---- interfaces
 

@@ -25,7 +25,7 @@ use Rattle.exercise_recording.proofs.Captured.BlockOptions.{options-of, option-p
 pub record FitsPacket (s n : ℕ) (bytes : List ℕ) : Type 0 where
   pub interface : s < 2 ^ 32
   pub stamp : n < 2 ^ 64
-  pub size : length bytes < 2 ^ 31
+  pub size : length bytes < 2 ^ 16
 
 -- its fields
 interface-read : (s stamp direction : ℕ) (bytes : List ℕ) → FitsPacket s stamp bytes → number_at Little w32 8 (packet_text s stamp direction bytes) ≡ s

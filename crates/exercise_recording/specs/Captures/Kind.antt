@@ -1,5 +1,5 @@
 -- What a packet of a capture is to a station: an entry of its log, or what else (profile).
-use Rattle.std.specs.Prelude.{ℕ, Bool, true, false, not, ◌==◌, ◌&&◌, ◌||◌, nat_le, nat_lt, List, slice_get, Option, Some, None, if◌then◌else◌}
+use Rattle.std.specs.Prelude.{ℕ, Bool, true, false, not, ◌==◌, ◌&&◌, ◌||◌, nat_le, nat_lt, List, slice_get, Option, if◌then◌else◌}
 use Rattle.std.specs.Int.{w16}
 use Rattle.std.specs.Option.{option_map_or}
 use Rattle.dis_records.specs.declared.header.TheConstants.{LARGEST_DATAGRAM}

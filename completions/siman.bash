@@ -81,7 +81,7 @@ _siman() {
         mend:0) _siman_files dsrc ;;
         mend:1) _siman_folders ;;
         mend:*) _siman_words '--force' ;;
-        join:*) _siman_others dsrc; _siman_words 'form=open form=closed --force' ;;
+        join:*) _siman_others dsrc; _siman_words 'form=open form=closed parts=yes --force' ;;
         import:0) _siman_files script ;;
         import:3) _siman_files pcap ;;
         import:4) _siman_folders ;;

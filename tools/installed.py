@@ -79,6 +79,7 @@ TYPED = {
     "siman join later/2.dsrc later/1.dsrc later/": "siman join later/2.dsrc later/1.dsrc later/",
     "siman join later/2.dsrc later/1.dsrc later/n": "siman join later/2.dsrc later/1.dsrc later/n",
     "siman join a.dsrc b.dsrc form=o": "siman join a.dsrc b.dsrc form=open",
+    "siman join a.dsrc b.dsrc form=open p": "siman join a.dsrc b.dsrc form=open parts=yes",
     "siman pdu ": "siman pdu",
 }
 COMPLETIONS = TOP / "completions"

@@ -14,7 +14,7 @@ USUAL = {
     "mend": ["REC", "NEW"], "join": ["REC", "REC", "NEW"], "export": ["REC", "NEW"], "review": ["REC", "fate=lost"], "log": ["REC"],
     "count": ["REC", "kind=told"], "why": ["REC", "CERT"], "chart": ["REC", "CERT", "NEW"],
 }  # fmt: skip
-OTHERS = ["--force", "--json", "--force", "form=open", "form=closed", "from=1", "to=2", "from=any", "-", "--", "-x", "", "2:3", "."]
+OTHERS = ["--force", "--json", "--force", "form=open", "form=closed", "parts=yes", "from=1", "to=2", "from=any", "-", "--", "-x", "", "2:3", "."]
 
 
 def filled(trials, examples):

@@ -10,11 +10,12 @@ use Rattle.dis_records.specs.declared.entity_state.EntityState.{EntityState}
 use Rattle.dis_records.specs.declared.entity_state.EntityState.TheVariants.{Absent}
 use Rattle.exercise_model.specs.Station.{is_entity, is_absent}
 use Rattle.exercise_model.specs.Recording.{PlainRecording}
-use Rattle.exercise_model.specs.History.{log_of, station_at}
-use Rattle.exercise_model.specs.State.{state_after, present_below}
+use Rattle.exercise_model.specs.History.{station_at}
+use Rattle.exercise_model.specs.State.{state_after, entities_after, present_below}
 use Rattle.exercise_model.specs.Place.{log_before}
 use Rattle.exercise_model.specs.Account.{entities_of}
 use Rattle.exercise_model.proofs.Offered.{change_steps, log_before-all, present_below-all}
+use Rattle.exercise_findings.specs.State.{entities_before}
 use Rattle.exercise_findings.specs.declared.states.SingleState.{SingleState}
 use Rattle.exercise_findings.specs.declared.states.States.{States}
 use Rattle.exercise_findings.specs.States.{held_at, state_by, has_page, state_in, state_or_absent, AreStatesOf, AreStates}
@@ -95,15 +96,18 @@ present-same y z same (suc n) =
     ∙ ap (λ x. present_below z n ++ (if is_absent x then [] else (n, x) ∷ [])) (same n)
 
 -- all numbers: those above the last entity are none
-pub present-all : (r : PlainRecording) (s : ℕ) (t : States) → AreStatesOf r (length r.entries) s t → present_below (state_or_absent t) 65536 ≡ entities_of r s
-present-all r s t states =
+pub present-before : (r : PlainRecording) (n s : ℕ) (t : States) → AreStatesOf r n s t → present_below (state_or_absent t) 65536 ≡ entities_before r s n
+present-before r n s t states =
     present-absent (state_or_absent t) 65534 2 (λ e from to. ap (λ b. is_absent (if b then state_in t e else Absent)) (past e from))
-    ∙ present-same (state_or_absent t) (state_after r.setting.exercise (station_at r s) (log_of r s))
-    (λ e. known r (length r.entries) s t states e ∙ ap (λ log. state_after r.setting.exercise (station_at r s) log e) (log_before-all r s)) 65534
-    ∙ present_below-all r.setting.exercise (station_at r s) (log_of r s) 65534 refl
+    ∙ present-same (state_or_absent t) (state_after r.setting.exercise (station_at r s) (log_before r s n)) (known r n s t states) 65534
+    ∙ present_below-all r.setting.exercise (station_at r s) (log_before r s n) 65534 refl
   where
     past : (e : ℕ) → 65534 ≤ e → is_entity e ≡ false
     past e from = grind (arith, nat_tests)
+
+-- after the whole log
+pub present-all : (r : PlainRecording) (s : ℕ) (t : States) → AreStatesOf r (length r.entries) s t → present_below (state_or_absent t) 65536 ≡ entities_of r s
+present-all r s t states = present-before r (length r.entries) s t states ∙ ap (entities_after r.setting.exercise (station_at r s)) (log_before-all r s)
 
 pub if_ok : {A E : Type 0} {P Q : A → Type 0} (result : Result A E) → ((a : A) → P a → Q a) → IfOk result P → IfOk result Q
 if_ok (Ok a) f p = f a p

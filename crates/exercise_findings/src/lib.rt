@@ -1,7 +1,8 @@
 //! Findings of a recording, from one pass over it: for each entry the first cause that its own
 //! station's log shows against it, the request that it takes up, the state change that it makes and
 //! the send that it was received from; the state of an entity at any entry; and the [`Account`] of
-//! the whole recording ([`Findings`]).
+//! the whole recording ([`Findings`]). [`StatesBefore`] gives the entities of each station before one
+//! entry after the other.
 //!
 //! The crate never uses a certificate or an order between stations: each log is read by itself,
 //! logs are joined only where bytes are equal, and so no certificate can change a finding. Its
@@ -41,6 +42,7 @@ mod senders;
 mod slots;
 mod state;
 mod states;
+mod states_before;
 mod table;
 mod tables;
 mod tagged;
@@ -50,3 +52,4 @@ pub use column::{number_at, put_number, replace};
 pub use findings::Findings;
 pub use hint::StridePredictor;
 pub use missing::Missing;
+pub use states_before::StatesBefore;

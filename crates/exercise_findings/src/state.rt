@@ -101,7 +101,7 @@ fn push_page(
 }
 
 /// The entities that are not Absent, by rising numbers.
-fn present(alloc: Global, states: &States) -> Result<Vec<(u16, EntityState)>, AllocError>
+pub(crate) fn present(alloc: Global, states: &States) -> Result<Vec<(u16, EntityState)>, AllocError>
     ensures { IfOk result (λ entities. entities.items ≡ present_below (state_or_absent states.now) 65536) }
 {
     let mut entities = Vec::new(alloc);

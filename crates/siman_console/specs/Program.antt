@@ -23,7 +23,7 @@ use Rattle.siman_file_commands.specs.Convert.{CarriesFile, PutsConverted}
 use Rattle.siman_file_commands.specs.Export.{ExportsFile, PutsExported}
 use Rattle.siman_outside.specs.Ending.{Ends, fault_in, IsFaultOf}
 use Rattle.siman_outside.specs.Outside.{Has, Stream, Outcome, Deed}
-use Rattle.siman_file_commands.specs.Join.{word_of, JoinsPieces}
+use Rattle.siman_file_commands.specs.Join.{JoinsPieces}
 use Rattle.siman_exercise_commands.specs.Import.{ImportsNamed}
 use Rattle.siman_exercise_commands.specs.Live.{EndsLive}
 use Rattle.siman_outside.specs.Making.{Answered, MakesProduct}
@@ -72,7 +72,7 @@ EndsTask told Trial deeds input o = (deeds ≡ []) × EndsAs (TriesInput input) 
 EndsTask told (Bare command) deeds input o = (deeds ≡ []) × EndsBare command input o
 EndsTask told (One command word) deeds input o = EndsAs (DoesOne command word deeds) o
 EndsTask told (Two command first second force) deeds input o = EndsTwo told command first second force deeds o
-EndsTask told (asks.Join pieces made form force) deeds input o = EndsAs (JoinsPieces pieces force made (word_of form) deeds) o
+EndsTask told (asks.Join pieces made choices force) deeds input o = EndsAs (JoinsPieces pieces force made choices deeds) o
 EndsTask told (asks.Import words force) deeds input o = EndsAs (ImportsNamed words force deeds) o
 EndsTask told (asks.Station words) deeds input o = EndsStation told.strangers words deeds input o
 EndsTask told (View view recording filters spelling) deeds input o = EndsAs (ViewsNamed view spelling recording filters deeds) o

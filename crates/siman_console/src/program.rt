@@ -15,7 +15,7 @@ use siman_exercise_commands::{
 };
 use siman_file_commands::{
     AuditCommand, CheckCommand, ConvertCommand, ExportCommand, MendCommand, ShowCommand, end_lines,
-    join_pieces, show_word, why_named, word_of,
+    join_pieces, show_word, why_named,
 };
 use siman_outside::{
     Ended, Ending, Fault, NoWord, Notes, OneWord, Outside, Task, TwoWords, ViewWord, asks_help,
@@ -135,9 +135,8 @@ fn end_task<'a, O: Links, R: Read + Drop, W: Write, E: Write>(
             let words = (first, second, force);
             end_two(alloc, command, words, outside, out, errors, notes)
         }
-        Task::Join(pieces, new, form, force) => {
-            let word = word_of(form);
-            let joined = join_pieces(alloc, pieces, new, force, word, outside, out);
+        Task::Join(pieces, new, choices, force) => {
+            let joined = join_pieces(alloc, pieces, new, force, choices, outside, out);
             conclude(joined, errors)
         }
         Task::Import(words, force) => {

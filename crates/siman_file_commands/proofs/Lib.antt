@@ -4,6 +4,7 @@ mod Shown
 mod Verdicts
 mod Conversions
 mod JoinedPieces
+mod LaterOpenings
 mod Searches
 mod Said
 mod Exports

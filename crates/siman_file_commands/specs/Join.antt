@@ -11,8 +11,9 @@ use Rattle.exercise_recording.specs.declared.joined.FormWord.{FormWord}
 use Rattle.exercise_recording.specs.declared.joined.FormWord.TheVariants.{Unsaid, Open, Closed}
 use Rattle.exercise_recording.specs.declared.joined.Joined.{Joined}
 use Rattle.exercise_recording.specs.FaultText.{join_fault_text}
-use Rattle.exercise_recording.specs.Joining.{JoiningData, Recorded, Takes, Ends}
+use Rattle.exercise_recording.specs.Joining.{JoiningData, JointData, Recorded, Takes, Ends}
 use Rattle.exercise_recording.specs.Reading.{recording_at}
+use Rattle.siman_outside.specs.declared.commands.JoinChoices.{JoinChoices}
 use Rattle.siman_outside.specs.declared.commands.JoinForm.{JoinForm}
 use Rattle.siman_outside.specs.declared.commands.JoinForm.TheVariants as asked
 use Rattle.siman_print.specs.Line.{Line, Number, Word, Keyed, named_line}
@@ -25,6 +26,7 @@ use Rattle.siman_outside.specs.declared.limits.TheConstants.{LARGEST_RECORDING}
 use Rattle.siman_outside.specs.Ending.{fault_text}
 use Rattle.siman_outside.specs.Making.{Answered, MakesFile, PutsBoth}
 use Rattle.siman_outside.specs.Opening.{OpensInput, OpensSparing}
+use Rattle.siman_file_commands.specs.Openings.{GoesOn, IsOther}
 use Rattle.siman_outside.specs.Outside.{Has, Stream, Deed, Opens, Compares, Reads}
 
 -- the form that the words ask for, if they do
@@ -32,6 +34,10 @@ abbrev pub word_of : Option JoinForm → FormWord
 word_of None = Unsaid
 word_of (Some asked.Open) = Open
 word_of (Some asked.Closed) = Closed
+
+-- the joining without pieces, as the words say
+abbrev pub start_of : JoinChoices → JoiningData
+start_of choices = record { word = word_of choices.form; parts = choices.parts; pieces = [] }
 
 -- ---- lines and faults
 
@@ -115,26 +121,29 @@ ReadsBehind j (piece ∷ pieces) deeds result =
     ⊎ ((fault : Fault) × (next : JoiningData) × TakesPiece piece j deeds (Err fault) next × (result ≡ Err fault))
 
 -- PIECES ARE READ in the order of the words
-abbrev pub ReadsPieces : FormWord → List Seen → List Deed → Result JoiningData Fault → Type 0
-ReadsPieces word pieces deeds result = ReadsBehind (record { word = word; parts = false; pieces = [] }) pieces deeds result
+abbrev pub ReadsPieces : JoinChoices → List Seen → List Deed → Result JoiningData Fault → Type 0
+ReadsPieces choices pieces deeds result = ReadsBehind (start_of choices) pieces deeds result
 
 -- ---- the made file
 
--- THE JOINED FILE OF PIECES, with its line, or the fault
-abbrev pub Gives : JoiningData → Result JoinedFile Fault → Type 0
-Gives j (Ok file) = Ends LARGEST_RECORDING j (Ok file.joint) × (string_bytes file.line ≡ joined_text file.joint.told)
-Gives j (Err fault) = (why : JoinFault) × Ends LARGEST_RECORDING j (Err why) × IsJoinFault why [] fault
+-- THE JOINED FILE OF PIECES with these names, with its line; or the first limit that they break together, or the first
+-- opening list of a part that does not agree with the log before it
+abbrev pub Gives : (names : List (List ℕ)) → JoiningData → Result JoinedFile Fault → Type 0
+Gives names j (Ok file) = Ends LARGEST_RECORDING j (Ok file.joint) × GoesOn file.joint × (string_bytes file.line ≡ joined_text file.joint.told)
+Gives names j (Err fault) =
+    ((why : JoinFault) × Ends LARGEST_RECORDING j (Err why) × IsJoinFault why [] fault)
+    ⊎ ((d : JointData) × Ends LARGEST_RECORDING j (Ok d) × IsOther names d fault)
 
-abbrev pub ReadsAndGives : FormWord → List Seen → List Deed → Result JoinedFile Fault → Type 0
-ReadsAndGives word pieces deeds result =
-    ((fault : Fault) × ReadsPieces word pieces deeds (Err fault) × (result ≡ Err fault))
-    ⊎ ((j : JoiningData) × ReadsPieces word pieces deeds (Ok j) × Gives j result)
+abbrev pub ReadsAndGives : (names : List (List ℕ)) → JoinChoices → List Seen → List Deed → Result JoinedFile Fault → Type 0
+ReadsAndGives names choices pieces deeds result =
+    ((fault : Fault) × ReadsPieces choices pieces deeds (Err fault) × (result ≡ Err fault))
+    ⊎ ((j : JoiningData) × ReadsPieces choices pieces deeds (Ok j) × Gives names j result)
 
 -- WHAT `join` DOES: all pieces are opened before any is read, and the file is made after all are read: its text, whole, and then the line, with status 0
-abbrev pub JoinsPieces : (names : List (List ℕ)) → (force : Bool) → (made : List ℕ) → FormWord → List Deed → Answered → Stream → Type 0
-JoinsPieces names force made word deeds answered out =
+abbrev pub JoinsPieces : (names : List (List ℕ)) → (force : Bool) → (made : List ℕ) → JoinChoices → List Deed → Answered → Stream → Type 0
+JoinsPieces names force made choices deeds answered out =
     ((fault : Fault) × OpensPiecesSpared names force made deeds (Err fault) × (answered ≡ Err fault) × Keeps out.old out.new)
-    ⊎ ((pieces : List Seen) × (opened read : List Deed) × (fault : Fault) × OpensPiecesSpared names force made opened (Ok pieces) × ReadsAndGives word pieces read (Err fault)
+    ⊎ ((pieces : List Seen) × (opened read : List Deed) × (fault : Fault) × OpensPiecesSpared names force made opened (Ok pieces) × ReadsAndGives names choices pieces read (Err fault)
     × (deeds ≡ opened ++ read) × (answered ≡ Err fault) × Keeps out.old out.new)
-    ⊎ ((pieces : List Seen) × (opened read rest : List Deed) × (file : JoinedFile) × OpensPiecesSpared names force made opened (Ok pieces) × ReadsAndGives word pieces read (Ok file)
+    ⊎ ((pieces : List Seen) × (opened read rest : List Deed) × (file : JoinedFile) × OpensPiecesSpared names force made opened (Ok pieces) × ReadsAndGives names choices pieces read (Ok file)
     × (deeds ≡ opened ++ read ++ rest) × MakesFile (PutsBoth file.joint.text (string_bytes file.line)) force made rest answered out)

@@ -5,6 +5,7 @@ pub mod Show
 pub mod Check
 pub mod Convert
 pub mod Mend
+pub mod Openings
 pub mod Join
 pub mod Export
 pub mod Audit

@@ -3,13 +3,14 @@
 ghost use Rattle.std.specs.Prelude.{◌≡◌, Option, IfOk, map, string_bytes};
 ghost use Rattle.siman_outside.specs.Opening.{seen_as};
 ghost use Rattle.siman_outside.specs.Outside.{Did, DidMake, stream};
-ghost use Rattle.siman_file_commands.specs.Join.{word_of, all_seen, seen_by, form_word, joined_text, IsJoinFault, OpensPieces, TakesPiece, ReadsPieces, Gives, ReadsAndGives, JoinsPieces};
+ghost use Rattle.siman_file_commands.specs.Join.{word_of, start_of, all_seen, seen_by, form_word, joined_text, IsJoinFault, OpensPieces, TakesPiece, ReadsPieces, Gives, ReadsAndGives, JoinsPieces};
 
+use crate::openings::judge_openings;
 use exercise_model::Form;
 use exercise_recording::{FormWord, JoinFault, Joined, Joining, Joint};
 use siman_outside::{
-    Fault, JoinForm, JoinLimit, LARGEST_RECORDING, Making, Outside, if_free, make_file, open_input,
-    put_settled,
+    Fault, JoinChoices, JoinForm, JoinLimit, LARGEST_RECORDING, Making, Outside, if_free,
+    make_file, open_input, put_settled,
 };
 use siman_print::{Field, Value, named_line};
 use std::alloc::{AllocError, Global};
@@ -32,7 +33,7 @@ pub(crate) struct JoinedFile {
 }
 
 /// The form that the words ask for, if they do.
-pub fn word_of(form: Option<JoinForm>) -> FormWord
+fn word_of(form: Option<JoinForm>) -> FormWord
     ensures { result ≡ word_of form }
 {
     match form {
@@ -123,17 +124,29 @@ fn take_piece<'a, O: Outside>(
     }
 }
 
+/// Starts joining, as the words say.
+fn start_of(alloc: Global, choices: JoinChoices) -> Joining
+    ensures { result ≡ start_of choices }
+{
+    let word = word_of(choices.form);
+    if choices.parts {
+        Joining::of_parts(alloc, word)
+    } else {
+        Joining::start(alloc, word)
+    }
+}
+
 /// Reads opened pieces one after the other and joins them.
 fn read_pieces<'a, O: Outside>(
     alloc: Global,
-    word: FormWord,
+    choices: JoinChoices,
     pieces: Vec<OpenPiece<'a, O::Opened>>,
     outside: &mut O,
 ) -> Result<Joining, Fault<'a>>
-    ensures { DidMake O.deeds outside.old outside.new (λ deeds. ReadsPieces word (map (seen_by O.bytes) pieces.entry.items) deeds result) }
+    ensures { DidMake O.deeds outside.old outside.new (λ deeds. ReadsPieces choices (map (seen_by O.bytes) pieces.entry.items) deeds result) }
 {
     let mut pieces = pieces;
-    let mut joining = Joining::start(alloc, word);
+    let mut joining = start_of(alloc, choices);
     while !pieces.is_empty() {
         let piece = pieces.remove(0);
         take_piece(alloc, &mut joining, piece, outside)?;
@@ -141,14 +154,19 @@ fn read_pieces<'a, O: Outside>(
     Ok(joining)
 }
 
-/// The joined file of all pieces, with the line of the answer.
-fn give(alloc: Global, joining: Joining) -> Result<JoinedFile, Fault<'static>>
-    ensures { Gives joining result }
+/// The joined file of all pieces, which have these names, with the line of the answer.
+fn give<'a, S: AsStr>(
+    alloc: Global,
+    names: &'a [S],
+    joining: Joining,
+) -> Result<JoinedFile, Fault<'a>>
+    ensures { Gives (map S.text names.now) joining result }
 {
     let joint = match joining.end(alloc, LARGEST_RECORDING) {
         Ok(joint) => joint,
         Err(fault) => return Err(result_of(fault, "")),
     };
+    judge_openings(alloc, names, &joint)?;
     let line = joined_line(alloc, joint.told())?;
     Ok(JoinedFile { joint, line })
 }
@@ -174,34 +192,34 @@ impl Making for JoinedFile {
 }
 
 /// Reads the opened pieces and joins them.
-fn read_and_give<'a, O: Outside>(
+fn read_and_give<'a, S: AsStr, O: Outside>(
     alloc: Global,
-    word: FormWord,
+    names: &'a [S],
+    choices: JoinChoices,
     pieces: Vec<OpenPiece<'a, O::Opened>>,
     outside: &mut O,
 ) -> Result<JoinedFile, Fault<'a>>
-    ensures { DidMake O.deeds outside.old outside.new (λ deeds. ReadsAndGives word (map (seen_by O.bytes) pieces.entry.items) deeds result) }
+    ensures { DidMake O.deeds outside.old outside.new (λ deeds. ReadsAndGives (map S.text names.now) choices (map (seen_by O.bytes) pieces.entry.items) deeds result) }
 {
-    let joining = read_pieces(alloc, word, pieces, outside)?;
-    give(alloc, joining)
+    let joining = read_pieces(alloc, choices, pieces, outside)?;
+    give(alloc, names, joining)
 }
 
 /// Opens pieces in the order of their names, reads them one after the other, and makes a file of
-/// all of them, in the form that the word asks for; the file replaces an existing one (`force`) or
-/// not.
+/// all of them, joined as the words say; the file replaces an existing one (`force`) or not.
 pub fn join_pieces<'a, S: AsStr, O: Outside, W: Write>(
     alloc: Global,
     names: &'a [S],
     new: &'a str,
     force: bool,
-    word: FormWord,
+    choices: JoinChoices,
     outside: &mut O,
     out: &mut W,
 ) -> Result<u8, Fault<'a>>
-    ensures { Did O.deeds O.holds outside.old outside.new (λ deeds. JoinsPieces (map S.text names.now) force new.now word deeds result (stream (W.contents out.old) (W.contents out.new))) }
+    ensures { Did O.deeds O.holds outside.old outside.new (λ deeds. JoinsPieces (map S.text names.now) force new.now choices deeds result (stream (W.contents out.old) (W.contents out.new))) }
 {
     let opened = open_pieces(alloc, names, new, outside);
     let pieces = if_free(opened, new, force, outside)?;
-    let joined = read_and_give(alloc, word, pieces, outside)?;
+    let joined = read_and_give(alloc, names, choices, pieces, outside)?;
     make_file(alloc, &joined, new, force, outside, out)
 }

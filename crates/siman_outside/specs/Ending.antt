@@ -21,7 +21,7 @@ use Rattle.exercise_check.specs.declared.certificate_fault.CertificateFault.TheV
 use Rattle.exercise_check.specs.FaultText as certificate_texts
 use Rattle.siman_outside.specs.declared.place.Place.{Place}
 use Rattle.siman_outside.specs.declared.place.Place.TheVariants as places
-use Rattle.siman_outside.specs.declared.place.Place.TheVariants.{Offset, Line, Move, PieceOffset, PieceStation, Unopened}
+use Rattle.siman_outside.specs.declared.place.Place.TheVariants.{Offset, Line, Move, PieceOffset, PieceStation, PieceEntity, Unopened}
 use Rattle.siman_outside.specs.declared.unopened.OpenFault.{OpenFault}
 use Rattle.siman_outside.specs.declared.unopened.OpenFault.TheVariants.{Missing, Denied, Directory, Other}
 use Rattle.siman_outside.specs.declared.move_refusal.MoveRefusal.{MoveRefusal}
@@ -31,7 +31,7 @@ use Rattle.siman_outside.specs.declared.join_limit.JoinLimit.TheVariants as limi
 use Rattle.siman_outside.specs.declared.fault.Fault.{Fault}
 use Rattle.siman_outside.specs.declared.fault.Ended.{Ended}
 use Rattle.siman_outside.specs.declared.fault.Fault.TheVariants as faults
-use Rattle.siman_outside.specs.declared.fault.Fault.TheVariants.{NotBytePairs, HexLine, Input, File, Words, Recording, Already, Piece, OtherExercise, StationTwice, BackInTime, Joined, Certificate, BadLine, UnknownStation, ScriptRead, WorldStations, LineFailed, StationWord, NotInSetup, ImportAddress, ImportHost, NotInImport, Filter, Step, OverLimit, ChartOverLimit, Output, SameAs, Exists, Memory}
+use Rattle.siman_outside.specs.declared.fault.Fault.TheVariants.{NotBytePairs, HexLine, Input, File, Words, Recording, Already, Piece, OtherExercise, StationTwice, BackInTime, OtherOpening, Joined, Certificate, BadLine, UnknownStation, ScriptRead, WorldStations, LineFailed, StationWord, NotInSetup, ImportAddress, ImportHost, NotInImport, Filter, Step, OverLimit, ChartOverLimit, Output, SameAs, Exists, Memory}
 use Rattle.siman_outside.specs.declared.files_fault.FilesFault.{FilesFault}
 use Rattle.siman_outside.specs.declared.files_fault.FilesFault.TheVariants as files
 use Rattle.siman_outside.specs.declared.input.InputFault.{InputFault}
@@ -85,6 +85,7 @@ reported_as (Piece recordings.Memory name) = (codes "recording: ", codes "memory
 reported_as (OtherExercise name) = (codes "join: ", codes "exercise", Some (places.Piece name))
 reported_as (StationTwice site application name) = (codes "join: ", codes "station", Some (PieceStation site application name))
 reported_as (BackInTime site application name) = (codes "join: ", codes "time", Some (PieceStation site application name))
+reported_as (OtherOpening site application entity name) = (codes "join: ", codes "opening", Some (PieceEntity site application entity name))
 reported_as (Joined limit) = (codes "join: ", limit_name limit, None)
 reported_as (Certificate (certificates.Format f)) = (codes "certificate: ", certificate_texts.name_of f, Some (Offset (certificate_texts.place_of f)))
 reported_as (Certificate certificates.Read) = (codes "certificate: ", codes "read", None)
@@ -124,6 +125,13 @@ piece_words name = codes " in " ++ name
 abbrev pub station_words : (site application : ℕ) → (name : List ℕ) → List ℕ
 station_words site application name = (codes " " ++ decimal site) ++ ((codes ":" ++ decimal application) ++ piece_words name)
 
+-- an entity of a station, and the name of its piece
+abbrev pub words_under_site : (application entity : ℕ) → (name : List ℕ) → List ℕ
+words_under_site application entity name = (codes ":" ++ decimal application) ++ ((codes ":" ++ decimal entity) ++ piece_words name)
+
+abbrev pub entity_words : (site application entity : ℕ) → (name : List ℕ) → List ℕ
+entity_words site application entity name = (codes " " ++ decimal site) ++ words_under_site application entity name
+
 abbrev pub place_words : Place → List ℕ
 place_words (Offset at) = codes " at " ++ decimal at
 place_words (Line number) = codes " at line " ++ decimal number
@@ -131,6 +139,7 @@ place_words (Move number) = codes " at move " ++ decimal number
 place_words (places.Piece name) = piece_words name.now
 place_words (PieceOffset at name) = (codes " at " ++ decimal at) ++ piece_words name.now
 place_words (PieceStation site application name) = station_words site application name.now
+place_words (PieceEntity site application entity name) = entity_words site application entity name.now
 place_words (Unopened reason) = codes ": " ++ reason_text reason
 
 abbrev pub place_text : Option Place → List ℕ

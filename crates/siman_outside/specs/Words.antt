@@ -12,6 +12,7 @@ use Rattle.siman_outside.specs.declared.commands.TwoWords.{TwoWords}
 use Rattle.siman_outside.specs.declared.commands.TwoWords.TheVariants.{Check, Audit, World, Live, Convert, Mend, Export}
 use Rattle.siman_outside.specs.declared.commands.ViewWord.{ViewWord}
 use Rattle.siman_outside.specs.declared.commands.ViewWord.TheVariants.{Review, Log, Count}
+use Rattle.siman_outside.specs.declared.commands.JoinChoices.{JoinChoices}
 use Rattle.siman_outside.specs.declared.commands.JoinForm.{JoinForm}
 use Rattle.siman_outside.specs.declared.commands.JoinForm.TheVariants.{Open, Closed}
 use Rattle.siman_outside.specs.declared.commands.ImportWords.{ImportWords}
@@ -52,7 +53,7 @@ pub data Asked : Type 0 where
   Two : TwoWords → (first second : List ℕ) → (force : Bool) → Asked
   -- the pieces of an exercise, the file to make, the form that it is to have, if the words give
   -- one, and whether an existing file is replaced
-  Join : (pieces : List (List ℕ)) → (made : List ℕ) → Option JoinForm → (force : Bool) → Asked
+  Join : (pieces : List (List ℕ)) → (made : List ℕ) → JoinChoices → (force : Bool) → Asked
   -- the recording of a station out of a capture, and whether an existing file is replaced
   Import : ImportAsked → (force : Bool) → Asked
   -- a station that runs over the network
@@ -91,7 +92,7 @@ asked_by text tasks.Trial = Trial
 asked_by text (tasks.Bare command) = Bare command
 asked_by text (tasks.One command word) = One command word.now
 asked_by text (tasks.Two command first second force) = Two command first.now second.now force
-asked_by text (tasks.Join pieces made form force) = Join (map text pieces.now) made.now form force
+asked_by text (tasks.Join pieces made choices force) = Join (map text pieces.now) made.now choices force
 asked_by text (tasks.Import words force) = Import (import_named words) force
 asked_by text (tasks.Station words) = Station (named_by text words)
 asked_by text (tasks.View view recording filters spelling) = View view recording.now (map text filters.now) spelling
@@ -165,10 +166,11 @@ abbrev pub has_option : List (List ℕ) → Bool
 has_option [] = false
 has_option (word ∷ words) = is_option word || has_option words
 
--- a word that begins with `form=`, and the form that it names, if it names one
-abbrev pub is_form_word : List ℕ → Bool
-is_form_word word = starts_with (◌==◌) word (codes "form=")
+-- a word that begins with `form=` or `parts=`
+abbrev pub is_join_word : List ℕ → Bool
+is_join_word word = starts_with (◌==◌) word (codes "form=") || starts_with (◌==◌) word (codes "parts=")
 
+-- the form that a word names, if it names one
 abbrev pub form_named : List ℕ → Option JoinForm
 form_named word = if bytes_eq word (codes "form=open") then Some Open else if bytes_eq word (codes "form=closed") then Some Closed else None
 
@@ -180,23 +182,40 @@ form_behind words (Some p) = if is_some (form_named p.1) then (p.0, form_named p
 abbrev pub form_apart : List (List ℕ) → List (List ℕ) × Option JoinForm
 form_apart words = form_behind words (last_apart words)
 
--- words without an option and without `form=`
+abbrev pub parts_behind : List (List ℕ) → Option (List (List ℕ) × List ℕ) → List (List ℕ) × Bool
+parts_behind words None = (words, false)
+parts_behind words (Some p) = if bytes_eq p.1 (codes "parts=yes") then (p.0, true) else (words, false)
+
+-- the words without `parts=yes` at the end, and whether it was there
+abbrev pub parts_apart : List (List ℕ) → List (List ℕ) × Bool
+parts_apart words = parts_behind words (last_apart words)
+
+-- the words before a form, or without one, and whether `parts=yes` is behind it or before it
+abbrev pub choices_behind_form : (parts : Bool) → List (List ℕ) × Option JoinForm → List (List ℕ) × JoinChoices
+choices_behind_form true p = (p.0, record { form = p.1; parts = true })
+choices_behind_form false p = ((parts_apart p.0).0, record { form = p.1; parts = (parts_apart p.0).1 })
+
+-- the words without a form and `parts=yes` at the end, in either order, and what these say
+abbrev pub join_choices_apart : List (List ℕ) → List (List ℕ) × JoinChoices
+join_choices_apart words = choices_behind_form (parts_apart words).1 (form_apart (parts_apart words).0)
+
+-- words without an option, without `form=` and `parts=`
 abbrev pub are_names : List (List ℕ) → Bool
 are_names [] = true
-are_names (word ∷ words) = not (is_option word || is_form_word word) && are_names words
+are_names (word ∷ words) = not (is_option word || is_join_word word) && are_names words
 
 -- the smallest number of pieces: two, or one if a form is given
 abbrev pub fewest_pieces : Option JoinForm → ℕ
 fewest_pieces None = 2
 fewest_pieces (Some form) = 1
 
--- JOIN needs enough pieces before the file to make, and a form nowhere but at the end
-abbrev pub pieces_asked : Option JoinForm → (force : Bool) → Option (List (List ℕ) × List ℕ) → Option Asked
-pieces_asked form force None = None
-pieces_asked form force (Some p) = if nat_le (fewest_pieces form) (length p.0) then Some (Join p.0 p.1 form force) else None
+-- JOIN needs enough pieces before the file to make, and a form and `parts=yes` nowhere but at the end
+abbrev pub pieces_asked : JoinChoices → (force : Bool) → Option (List (List ℕ) × List ℕ) → Option Asked
+pieces_asked choices force None = None
+pieces_asked choices force (Some p) = if nat_le (fewest_pieces choices.form) (length p.0) then Some (Join p.0 p.1 choices force) else None
 
 abbrev pub join_asked : (force : Bool) → List (List ℕ) → Option Asked
-join_asked force words = let p = form_apart words in if are_names p.0 then pieces_asked p.1 force (last_apart p.0) else None
+join_asked force words = let p = join_choices_apart words in if are_names p.0 then pieces_asked p.1 force (last_apart p.0) else None
 
 -- the import of these names, if the words behind them say how
 abbrev pub import_of_words : (setup address host capture recording : List ℕ) → (force : Bool) → Option Choices → Option Asked

@@ -1,10 +1,11 @@
 //! Reads words by the table of commands: the task that they ask for.
 
 ghost use Rattle.std.specs.Prelude.{◌≡◌, ◌≤◌, length, map, option_map};
-ghost use Rattle.siman_outside.specs.Words.{asked_by, is_option, takes_of, takes_named, bare_asked, one_asked, two_asked, taken, last_apart, has_option, is_form_word, form_named, form_apart, are_names, fewest_pieces, pieces_asked, join_asked, anyone_apart, import_asked, station_named, station_asked, view_asked, why_asked, chart_asked};
+ghost use Rattle.siman_outside.specs.Words.{asked_by, is_option, takes_of, takes_named, bare_asked, one_asked, two_asked, taken, last_apart, has_option, is_join_word, form_named, form_apart, parts_apart, join_choices_apart, are_names, fewest_pieces, pieces_asked, join_asked, anyone_apart, import_asked, station_named, station_asked, view_asked, why_asked, chart_asked};
 
 use crate::commands::{
-    ImportWords, JoinForm, NoWord, OneWord, StationWords, Takes, Task, TwoWords, ViewWord,
+    ImportWords, JoinChoices, JoinForm, NoWord, OneWord, StationWords, Takes, Task, TwoWords,
+    ViewWord,
 };
 use crate::import_words::choices_of;
 use crate::rows::CommandRow;
@@ -94,11 +95,11 @@ fn has_option<S: AsStr>(words: &[S]) -> bool
     false
 }
 
-/// Whether a word begins with `form=`.
-fn is_form_word(word: &str) -> bool
-    ensures { result ≡ is_form_word word.now }
+/// Whether a word begins with `form=` or `parts=`.
+fn is_join_word(word: &str) -> bool
+    ensures { result ≡ is_join_word word.now }
 {
-    word.as_bytes().starts_with(b"form=")
+    word.as_bytes().starts_with(b"form=") || word.as_bytes().starts_with(b"parts=")
 }
 
 /// The form that a word names, if it names one.
@@ -127,14 +128,38 @@ fn form_apart<S: AsStr>(words: &[S]) -> (&[S], Option<JoinForm>)
     }
 }
 
-/// Whether all words may be file names of `join`: no option, and nothing that begins with `form=`.
+/// The words without `parts=yes` at the end, and whether it was there.
+fn parts_apart<S: AsStr>(words: &[S]) -> (&[S], bool)
+    ensures { (map S.text result.0.now, result.1) ≡ parts_apart (map S.text words.now) }
+{
+    match last_apart(words) {
+        Some((before, last)) if last == "parts=yes" => (before, true),
+        _ => (words, false),
+    }
+}
+
+/// The words without a form and `parts=yes` at the end, in either order, and what these say.
+fn join_choices_apart<S: AsStr>(words: &[S]) -> (&[S], JoinChoices)
+    ensures { (map S.text result.0.now, result.1) ≡ join_choices_apart (map S.text words.now) }
+{
+    let (before, behind_form) = parts_apart(words);
+    let (names, form) = form_apart(before);
+    if behind_form {
+        return (names, JoinChoices { form, parts: true });
+    }
+    let (names, parts) = parts_apart(names);
+    (names, JoinChoices { form, parts })
+}
+
+/// Whether all words may be file names of `join`: no option, and nothing that begins with `form=` or
+/// `parts=`.
 fn are_names<S: AsStr>(words: &[S]) -> bool
     ensures { result ≡ are_names (map S.text words.now) }
 {
     let mut others = words;
     while let [word, rest @ ..] = others {
         let word = word.as_str();
-        if is_option(word) || is_form_word(word) {
+        if is_option(word) || is_join_word(word) {
             return false;
         }
         others = rest;
@@ -153,12 +178,12 @@ fn fewest_pieces(form: Option<JoinForm>) -> usize
 }
 
 /// The task of `join`, if there are enough pieces before the file to be made.
-fn pieces<S: AsStr>(form: Option<JoinForm>, force: bool, words: &[S]) -> Option<Task<'_, S>>
-    ensures { option_map (asked_by S.text) result ≡ pieces_asked form force (last_apart (map S.text words.now)) }
+fn pieces<S: AsStr>(choices: JoinChoices, force: bool, words: &[S]) -> Option<Task<'_, S>>
+    ensures { option_map (asked_by S.text) result ≡ pieces_asked choices force (last_apart (map S.text words.now)) }
 {
     match last_apart(words) {
-        Some((pieces, made)) if pieces.len() >= fewest_pieces(form) => {
-            Some(Task::Join(pieces, made, form, force))
+        Some((pieces, made)) if pieces.len() >= fewest_pieces(choices.form) => {
+            Some(Task::Join(pieces, made, choices, force))
         }
         _ => None,
     }
@@ -167,9 +192,9 @@ fn pieces<S: AsStr>(form: Option<JoinForm>, force: bool, words: &[S]) -> Option<
 fn join_words<S: AsStr>(force: bool, words: &[S]) -> Option<Task<'_, S>>
     ensures { option_map (asked_by S.text) result ≡ join_asked force (map S.text words.now) }
 {
-    let (names, form) = form_apart(words);
+    let (names, choices) = join_choices_apart(words);
     if are_names(names) {
-        return pieces(form, force, names);
+        return pieces(choices, force, names);
     }
     None
 }

@@ -64,6 +64,15 @@ pub enum JoinForm {
     Closed,
 }
 
+/// How pieces are joined, as the words behind them say.
+#[derive(Clone, Copy)]
+pub struct JoinChoices {
+    /// The form of the joined recording, if a word gives one.
+    pub form: Option<JoinForm>,
+    /// Whether pieces may be parts of one log.
+    pub parts: bool,
+}
+
 /// The words of `station`.
 #[derive(Drop)]
 pub struct StationWords<'a, S> {
@@ -111,9 +120,9 @@ pub enum Task<'a, S> {
     /// A command, its two words, and whether an existing file with the second name is replaced, for
     /// a command that makes one.
     Two(TwoWords, &'a str, &'a str, bool),
-    /// Joins the pieces of an exercise: their files, the file to make, the form that it is to have,
-    /// if the words give one, and whether an existing file is replaced.
-    Join(&'a [S], &'a str, Option<JoinForm>, bool),
+    /// Joins the pieces of an exercise: their files, the file to make, how they are joined, and
+    /// whether an existing file is replaced.
+    Join(&'a [S], &'a str, JoinChoices, bool),
     /// Makes the recording of a station of a capture of its host, and whether an existing file is
     /// replaced.
     Import(ImportWords<'a>, bool),

@@ -47,6 +47,9 @@ pub enum Fault<'a> {
     /// The log of the station of this site and application begins in the piece of this name before
     /// its last stamp in the earlier pieces.
     BackInTime(u16, u16, &'a str),
+    /// The station of this site and application opens in the piece of this name with another state
+    /// of this entity than its log ends with in the earlier pieces.
+    OtherOpening(u16, u16, u16, &'a str),
     /// The recording joined from the pieces passes a limit.
     Joined(JoinLimit),
     /// The certificate could not be read. Lack of memory is `Memory`.
@@ -139,6 +142,11 @@ impl<'a> Fault<'a> {
                 "join: ",
                 "time",
                 Some(Place::PieceStation(site, application, piece)),
+            ),
+            Fault::OtherOpening(site, application, entity, piece) => (
+                "join: ",
+                "opening",
+                Some(Place::PieceEntity(site, application, entity, piece)),
             ),
             Fault::Joined(limit) => ("join: ", limit.name(), None),
             Fault::Certificate(CertificateFault::Format(fault)) => (

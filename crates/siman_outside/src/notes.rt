@@ -53,7 +53,8 @@ impl Notes {
 
     /// No notes.
     pub fn nothing() -> Notes
-        ensures { result.warning ≡ None }
+        ensures warning { result.warning ≡ None }
+        ensures further { result.further ≡ None }
     {
         Notes {
             warning: None,
@@ -63,7 +64,8 @@ impl Notes {
 
     /// Notes a warning, unless one was noted before.
     pub fn note(&mut self, warning: Option<Warning>)
-        ensures { self.new.warning ≡ option_or self.old.warning warning }
+        ensures warning { self.new.warning ≡ option_or self.old.warning warning }
+        ensures further { self.new.further ≡ self.old.further }
     {
         if self.warning.is_none() {
             self.warning = warning;
@@ -81,7 +83,8 @@ impl Notes {
     /// Notes the warning that a recording has datagrams and none means anything in its exercise, if
     /// that is so.
     pub fn note_recording<L: ExerciseLog>(&mut self, log: &L)
-        ensures { self.new.warning ≡ option_or self.old.warning (meaningless_warning (L.recording log.now)) }
+        ensures warning { self.new.warning ≡ option_or self.old.warning (meaningless_warning (L.recording log.now)) }
+        ensures further { self.new.further ≡ self.old.further }
     {
         self.note(meaningless_warning(log));
     }

@@ -2,7 +2,7 @@
 
 ghost use Rattle.std.specs.Prelude.{◌++◌, decimal, Some};
 ghost use Rattle.byte_files.specs.Writing.{Writes};
-ghost use Rattle.siman_outside.specs.Ending.{piece_words, station_words, place_words};
+ghost use Rattle.siman_outside.specs.Ending.{piece_words, station_words, words_under_site, entity_words, place_words};
 
 use crate::unopened::OpenFault;
 use byte_files::{WriteFailed, put_both};
@@ -25,12 +25,15 @@ pub(crate) enum Place<'a> {
     PieceOffset(u64, &'a str),
     /// The station of this site and application, in the piece of this name.
     PieceStation(u16, u16, &'a str),
+    /// The entity of this site, application and number, in the piece of this name.
+    PieceEntity(u16, u16, u16, &'a str),
     /// No place, but the reason why a file could not be opened.
     Unopened(OpenFault),
 }
 
 /// ` at OFFSET`, ` at line N` or ` at move N`; of a piece ` in NAME`, ` at OFFSET in NAME` or
-/// ` SITE:APPLICATION in NAME`; of a file that could not be opened `: REASON`.
+/// ` SITE:APPLICATION in NAME`, with `:ENTITY` behind the application; of a file that could not be
+/// opened `: REASON`.
 impl fmt::Display for Place<'_> {
     ghost output = { λ place. Some (place_words place) };
 
@@ -43,6 +46,9 @@ impl fmt::Display for Place<'_> {
             Place::PieceOffset(at, name) => write!(f, " at {at} in {name}"),
             Place::PieceStation(site, application, name) => {
                 write!(f, " {site}:{application} in {name}")
+            }
+            Place::PieceEntity(site, application, entity, name) => {
+                write!(f, " {site}:{application}:{entity} in {name}")
             }
             Place::Unopened(reason) => {
                 let reason = reason.name();
@@ -86,6 +92,33 @@ fn put_station<W: Write>(
     put_in_piece(writer, ":", application as u64, name)
 }
 
+/// Writes an application and an entity of it, and ` in ` with the name of the piece.
+fn put_under_site<W: Write>(
+    writer: &mut W,
+    application: u16,
+    entity: u16,
+    name: &str,
+) -> Result<(), WriteFailed>
+    ensures { Writes result (W.contents writer.old) (W.contents writer.new) (words_under_site application entity name.now) }
+{
+    put_number(writer, ":", application as u64)?;
+    put_in_piece(writer, ":", entity as u64, name)
+}
+
+/// Writes an entity of a station, and ` in ` with the name of the piece.
+fn put_entity<W: Write>(
+    writer: &mut W,
+    site: u16,
+    application: u16,
+    entity: u16,
+    name: &str,
+) -> Result<(), WriteFailed>
+    ensures { Writes result (W.contents writer.old) (W.contents writer.new) (entity_words site application entity name.now) }
+{
+    put_number(writer, " ", site as u64)?;
+    put_under_site(writer, application, entity, name)
+}
+
 /// Writes a place, as its `Display` does.
 pub(crate) fn put_place<W: Write>(writer: &mut W, place: Place<'_>) -> Result<(), WriteFailed>
     ensures { Writes result (W.contents writer.old) (W.contents writer.new) (place_words place.entry) }
@@ -98,6 +131,9 @@ pub(crate) fn put_place<W: Write>(writer: &mut W, place: Place<'_>) -> Result<()
         Place::PieceOffset(at, name) => put_in_piece(writer, " at ", at, name),
         Place::PieceStation(site, application, name) => {
             put_station(writer, site, application, name)
+        }
+        Place::PieceEntity(site, application, entity, name) => {
+            put_entity(writer, site, application, entity, name)
         }
         Place::Unopened(reason) => put_both(writer, b": ", reason.name().as_bytes()),
     }

@@ -149,6 +149,17 @@ fn back_pieces(site: u16, application: u16) -> TextPieces<'static> {
     )
 }
 
+/// The reason for a part whose station opens otherwise than its log ends in the earlier pieces.
+fn opening_pieces(site: u16, application: u16, entity: u16) -> TextPieces<'static> {
+    five_pieces(
+        TextPiece::Words("the log of "),
+        TextPiece::Address(site, application),
+        TextPiece::Words(" ends in the earlier pieces with another state of entity "),
+        TextPiece::Number(u64::from(entity)),
+        TextPiece::Words(" than it opens with there"),
+    )
+}
+
 /// Name of the socket on which a call failed: as the command line has it, or one of the loopback.
 fn socket_name<'a>(names: Named<'a>, known: Known) -> &'a str {
     match known.failed {
@@ -209,6 +220,9 @@ fn other_pieces<'a>(fault: Fault<'a>, names: Named<'a>, known: Known) -> TextPie
         }
         Fault::StationTwice(site, application, _) => twice_pieces(site, application),
         Fault::BackInTime(site, application, _) => back_pieces(site, application),
+        Fault::OtherOpening(site, application, entity, _) => {
+            opening_pieces(site, application, entity)
+        }
         Fault::Joined(limit) => limit_pieces(limit),
         Fault::Certificate(fault) => certificate_pieces(fault, names, known),
         Fault::BadLine(..) | Fault::UnknownStation(..) => words_alone("the text is no script"),

@@ -181,7 +181,7 @@ pub(crate) const ROWS: [CommandRow; 18] = [
     CommandRow {
         name: "join",
         takes: Takes::Pieces,
-        usage: "siman join <PIECE>... <NEW> [form=open|form=closed] [--force]",
+        usage: "siman join <PIECE>... <NEW> [form=open|form=closed] [parts=yes] [--force]",
         about: "Joins the recordings of one exercise that several recorders made",
         example: "Example:\n  siman join manager.dsrc simulator.dsrc exercise.dsrc",
         words: &[
@@ -193,7 +193,7 @@ pub(crate) const ROWS: [CommandRow; 18] = [
             CommandWord {
                 name: "NEW",
                 often: Often::Once,
-                about: "The file of the joined recording; it must not be there yet, or be empty. Behind it form=open or form=closed may stand: the form that it is to have. Of one piece a recording is made in such a form alone",
+                about: "The file of the joined recording; it must not be there yet, or be empty. Behind it form=open or form=closed may stand: the form that it is to have. Of one piece a recording is made in such a form alone. With parts=yes, too, pieces may be parts of one log, in the order of time",
             },
         ],
     },

@@ -108,9 +108,12 @@ fn siman<'a>(alloc: Global, ending: &'a str) -> Result<Command<'a>, AllocError> 
 const AT_TERMINAL: &str =
     "no command is named, and standard input is a terminal: a script is read from a file or a pipe";
 
-/// The fault of words of `join` that `clap` accepts: a wrong form, or one piece without a form.
+/// The fault of words of `join` that `clap` accepts: a wrong word behind the names, or one piece
+/// without a form.
 fn join_complaint<S: AsStr>(words: &[S]) -> &'static str {
-    if words.iter().any(|word| word.as_str().starts_with("form=")) {
+    if words.iter().any(|word| word.as_str().starts_with("parts=")) {
+        "behind <NEW> stand, each at most once, 'form=open' or 'form=closed', and 'parts=yes'"
+    } else if words.iter().any(|word| word.as_str().starts_with("form=")) {
         "the form is 'form=open' or 'form=closed', and stands behind <NEW>"
     } else {
         "one piece alone is no exercise to join: name another one, or 'form=open' or 'form=closed' behind <NEW>"

@@ -77,7 +77,10 @@ pub use manager::sends_nothing_too_often;
 pub use order::{change_carried_out, fate_at_party, is_known_to_its_maker};
 pub use part::may_be_blamed_alone;
 pub use picture::{has_a_row_for_each_step, points_no_arrow_upwards, shows_each_state};
-pub use pieces::{are_blamed_one_by_one, come_in_any_order, lose_no_entry, may_be_one};
+pub use pieces::{
+    are_blamed_log_by_log, are_blamed_one_by_one, come_in_any_order, come_station_by_station,
+    lose_no_entry, may_be_cut, may_be_one, may_be_parts,
+};
 pub use post::{is_judged_alone, leaves_what_can_be_mended};
 pub use reason::{
     every_other_is_counted, is_always_given, is_given_for_each_line, is_given_for_each_typed_line,

@@ -1,4 +1,4 @@
-use Rattle.std.proofs.Common.{◌≡◌, ◌<◌, ℕ, List, [], ◌∷◌, ◌++◌, length, take, get_or, sym, ap, ◌∙◌, subst, arith}
+use Rattle.std.proofs.Common.{◌≡◌, ◌<◌, ℕ, List, [], ◌∷◌, ◌++◌, length, take, get_or, sym, ap, ◌∙◌, subst}
 use Rattle.std.proofs.lemmas.List.{take_more, take_all}
 use Rattle.std.proofs.lemmas.List.Elements.{All-get_or}
 use Rattle.exercise_findings.specs.Column.{IsShortColumn}
@@ -7,7 +7,6 @@ use Rattle.exercise_findings.specs.Firsts.{first_under}
 use Rattle.exercise_findings.proofs.Ables.{change_among, among_none, among_more, among_still, among_all}
 use Rattle.exercise_findings.proofs.behind.changes_behind.Goals.{in-Some+in_ok-put_number, in_default}
 use Rattle.exercise_findings.proofs.behind.changes_behind.Goals as goal
-use Rattle.std.proofs.lemmas.Grind.{common_steps}
 
 pub loop-able-preserved : goal.loop-able-preserved
 loop-able-preserved g c =

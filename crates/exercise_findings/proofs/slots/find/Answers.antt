@@ -1,6 +1,6 @@
 use Rattle.std.proofs.Common.{◌≡◌, true, false, length, sym, ap, ◌∙◌, subst, arith}
 use Rattle.std.specs.Prelude.{slice_get}
-use Rattle.exercise_findings.specs.Slots.{home, slot_behind, HasEntry, HasSlot}
+use Rattle.exercise_findings.specs.Slots.{home, slot_behind, HasSlot}
 use Rattle.exercise_findings.proofs.Standing.{slot_there, slot_on-none, slot_on-next, passed_none, passed_more, absent_free}
 use Rattle.exercise_findings.proofs.slots.find.Goals as goal
 use Rattle.exercise_findings.proofs.slots.find.Goals.{in-Under+else-is_sought, in-Other}

@@ -1,8 +1,7 @@
-use Rattle.std.proofs.Common.{◌<◌, set, sym, subst}
+use Rattle.std.proofs.Common.{sym, subst}
 use Rattle.exercise_findings.specs.Slots.{IsReached, HasSlot}
 use Rattle.exercise_findings.specs.declared.slots.Slot.{Slot}
-use Rattle.std.specs.Prelude.{◌⊎◌}
-use Rattle.std.proofs.Common.{List, ◌≡◌}
+use Rattle.std.proofs.Common.{List}
 use Rattle.exercise_findings.proofs.Standing.{reached_put, reached_kept, stands_put}
 use Rattle.exercise_findings.proofs.slots.put.Goals as goal
 

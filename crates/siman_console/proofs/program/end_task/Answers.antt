@@ -37,7 +37,7 @@ returns-in-Bare-Pdus g c =
 
 pub returns-in-Join : goal.returns-in-Join
 returns-in-Join g c =
-    let did = rw c.word_of-word.ensures at c.join_pieces-joined.ensures in
+    let did = c.join_pieces-joined.ensures in
     rw c.in-Join.is (did.0, did.1, did.2, (c.join_pieces-joined.result, did.3, (c.conclude-in-Join.ensures.ends, c.conclude-in-Join.ensures.fault, c.conclude-in-Join.ensures.begun)))
 
 pub returns-in-View : goal.returns-in-View

@@ -14,7 +14,7 @@ returns-in_err-pieces g c =
     let names = map g.S.AsStr.text c.args.names.now in
     let kept = g.W.Write.contents c.args.out.now in
     let opened = opened_sparing d h _ _ _ (all_seen g.O.Outside.bytes) (OpensPieces names c.args.new.now) c.args.force c.args.new.now _ _ c.open_pieces-opened.ensures c.in_err-pieces.ensures in
-    did_so d h _ _ _ _ (λ deeds opens. at_fault (λ answered. JoinsPieces names c.args.force c.args.new.now c.args.word deeds answered (stream kept kept)) _ _ c.from_residual.ensures.1
+    did_so d h _ _ _ _ (λ deeds opens. at_fault (λ answered. JoinsPieces names c.args.force c.args.new.now c.args.choices deeds answered (stream kept kept)) _ _ c.from_residual.ensures.1
     (inl (c.in_err-pieces.field-0.0, opens, refl, Keeps-refl kept))) opened
 
 pub returns-in_err-joined : goal.returns-in_err-joined
@@ -24,7 +24,7 @@ returns-in_err-joined g c =
     let names = map g.S.AsStr.text c.args.names.now in
     let kept = g.W.Write.contents c.args.out.now in
     let opened = opened_sparing d h _ _ _ (all_seen g.O.Outside.bytes) (OpensPieces names c.args.new.now) c.args.force c.args.new.now _ _ c.open_pieces-opened.ensures c.in_ok-pieces.ensures in
-    did_then d h _ _ _ _ _ _ (λ xs ys opens read. at_fault (λ answered. JoinsPieces names c.args.force c.args.new.now c.args.word (xs ++ ys) answered (stream kept kept)) _ _
+    did_then d h _ _ _ _ _ _ (λ xs ys opens read. at_fault (λ answered. JoinsPieces names c.args.force c.args.new.now c.args.choices (xs ++ ys) answered (stream kept kept)) _ _
     c.from_residual-in_err-joined.ensures.1 (inr (inl (_, xs, ys, c.in_err-joined.field-0.0, opens, read, refl, refl, Keeps-refl kept)))) opened c.in_err-joined.ensures
 
 pub returns : goal.returns

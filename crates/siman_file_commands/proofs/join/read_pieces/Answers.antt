@@ -1,21 +1,21 @@
 -- One piece after the other.
-use Rattle.std.proofs.Common.{◌≡◌, ◌<◌, [], ◌∷◌, ◌++◌, length, map, false, ap, arith, rules}
+use Rattle.std.proofs.Common.{◌≡◌, ◌<◌, [], ◌∷◌, ◌++◌, length, map, ap, arith, rules}
 use Rattle.std.proofs.lemmas.List.Elements.{All-append, All-nil}
 use Rattle.exercise_recording.specs.Joining.{JoiningData}
 use Rattle.siman_outside.specs.Outside.{WasHeld}
-use Rattle.siman_file_commands.specs.Join.{seen_by}
+use Rattle.siman_file_commands.specs.Join.{start_of, seen_by}
 use Rattle.siman_file_commands.proofs.JoinedPieces.{first_taken, none_there, none_read, one_read, one_refused, all_read}
 use Rattle.siman_outside.proofs.Offered.{adds_none, adds_then}
 use Rattle.siman_file_commands.proofs.join.read_pieces.Goals as goal
 
 pub loop-alloc-init : goal.loop-alloc-init
 loop-alloc-init g c =
-    let start : JoiningData = record { word = c.args.word; parts = false; pieces = [] } in
-    ([], adds_none _, λ holds. All-nil (WasHeld holds), none_read start c.start-joining.result (map (seen_by g.O.Outside.bytes) c.args.pieces.items) c.start-joining.ensures)
+    let start : JoiningData = start_of c.args.choices in
+    ([], adds_none _, λ holds. All-nil (WasHeld holds), none_read start c.start_of-joining.result (map (seen_by g.O.Outside.bytes) c.args.pieces.items) c.start_of-joining.ensures)
 
 pub loop-alloc-preserved : goal.loop-alloc-preserved
 loop-alloc-preserved g c =
-    let start : JoiningData = record { word = c.args.word; parts = false; pieces = [] } in
+    let start : JoiningData = start_of c.args.choices in
     let seen = map (seen_by g.O.Outside.bytes) in
     let xs = c.loop-alloc.pieces in
     let rest = c.remove-piece.new.self.items in
@@ -32,7 +32,7 @@ loop-alloc-preserved g c =
 
 pub returns-in_err-take_piece : goal.returns-in_err-take_piece
 returns-in_err-take_piece g c =
-    let start : JoiningData = record { word = c.args.word; parts = false; pieces = [] } in
+    let start : JoiningData = start_of c.args.choices in
     let seen = map (seen_by g.O.Outside.bytes) in
     let xs = c.loop-alloc.pieces in
     let rest = c.remove-piece.new.self.items in
@@ -50,7 +50,7 @@ returns-in_err-take_piece g c =
 
 pub returns : goal.returns
 returns g c =
-    let start : JoiningData = record { word = c.args.word; parts = false; pieces = [] } in
+    let start : JoiningData = start_of c.args.choices in
     let seen = map (seen_by g.O.Outside.bytes) in
     let xs = c.loop-alloc.pieces in
     let none : length xs.items ≡ 0 = search rules in

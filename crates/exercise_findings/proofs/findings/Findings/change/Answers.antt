@@ -1,4 +1,4 @@
-use Rattle.std.proofs.Common.{refl, sym, ap, ◌∙◌, length}
+use Rattle.std.proofs.Common.{refl, ap, ◌∙◌, length}
 use Rattle.std.specs.Prelude.{slice_index_or}
 use Rattle.exercise_model.specs.Account.{change_at}
 use Rattle.exercise_findings.specs.ChangeNumber.{change_in}

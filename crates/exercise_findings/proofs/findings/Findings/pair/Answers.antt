@@ -1,4 +1,4 @@
-use Rattle.std.proofs.Common.{refl, sym, ap, ◌∙◌, length}
+use Rattle.std.proofs.Common.{refl, ap, ◌∙◌, length}
 use Rattle.std.specs.Prelude.{slice_index_or}
 use Rattle.exercise_model.specs.Account.{pair_of}
 use Rattle.exercise_findings.specs.Earlier.{request_in}

@@ -15,8 +15,8 @@ LATER = 1 << 40  # later than the last allocation of any run
 
 
 # Commands that make a file; `live` makes none where one stands, and takes no --force.
-MAKING = (["world"], ["live"], ["audit"], ["convert"], ["mend"], ["join"], ["export"], ["chart"])
-BEHIND = ("form=", "from=", "to=", "--")  # how words begin that may stand behind the name of the new file
+MAKING = (["world"], ["live"], ["audit"], ["convert"], ["mend"], ["join"], ["import"], ["export"], ["chart"])
+BEHIND = ("form=", "parts=", "from=", "to=", "--")  # how words begin that may stand behind the name of the new file
 
 
 def new_at(words):

@@ -11,6 +11,10 @@ from cases.trials import UNWRITTEN, Case, Some, Verdict, told
 from pages import Outcome
 from pages.drawings import answer_to_chart
 
+CAPTURES = TOP / "examples" / "captures"
+# What `import` says of host3.pcap there, for 2:3 at 10.77.0.3.
+IMPORTED = b"imported packets=32 records=12 sent=3 received=9 echoes=0 other=20 elsewhere=0 passing=0 shared=0 fragments=0 cut=0 dropped=0 bundled=0\n"
+
 
 def try_opening(trials, examples):
     good, certificate, _ = examples
@@ -52,6 +56,7 @@ def answers(trials, examples):
     text, steps, wrong_text = ((trials.folder / name).read_bytes() for name in (good, certificate, wrong))
     shown, reviewed = pages.answer_to_show(text), pages.answer_to_review(text)
     in_json = pages.answer_to_review(text, ["fate=done"], pages.json_of)
+    capture = trials.file(bytes.fromhex((CAPTURES / "host3.pcap.hex").read_text(encoding="ascii")))
     # What one call makes no other call makes: it would find it locked.
     new = f"{trials.file(b'')}.new"
     drawn = answer_to_chart(text, steps)[0]
@@ -78,6 +83,7 @@ def answers(trials, examples):
         (["convert", good, f"{new}.convert"], b"", Outcome(0, b"converted records=9\n", b"")),
         (["mend", good, f"{new}.mend"], b"", Outcome(0, b"whole records=9\n", b"")),
         (["export", good, f"{new}.export"], b"", Outcome(0, b"exported packets=8 told=1\n", b"")),
+        (["import", str(CAPTURES / "setup.script"), "2:3", "10.77.0.3", capture, f"{new}.import"], b"", Outcome(0, IMPORTED, b"")),
         (["join", good, f"{new}.join", "form=closed"], b"", Outcome(0, b"joined pieces=1 stations=2 records=9 form=closed\n", b"")),
     ]
 

@@ -7,6 +7,7 @@
 #![tactic(auto)]
 
 mod call;
+mod captures;
 mod conflicts;
 mod datagrams;
 mod full;
@@ -19,11 +20,12 @@ mod reviews;
 mod scripts;
 mod stations;
 
+use crate::captures::{EndingParts, FollowingStates, Importing};
 use crate::conflicts::{Contradicting, FindingConflict, FindingRefusal, RING};
 use crate::datagrams::{COMMENT, Copying, Decoding, Encoding, Showing, pdu_of, to_encode};
 use crate::machines::{Beginning, CREATION, FIXED, Ordering, Taking, VARIABLE, manager, to_take};
 use crate::pictures::Drawing;
-use crate::pieces::{Adding, Bringing, EndingJoin, to_add};
+use crate::pieces::{Adding, Bringing, EndingJoin, no_pieces, to_add};
 use crate::recordings::{
     APART, Carrying, Checking, Explaining, FetchingSteps, Pushing, Reading, ReadingSteps,
     Searching, Seeing, recording_of, station, to_check,
@@ -40,7 +42,7 @@ use std::io;
 use std::io::Write;
 
 /// Names of the calls, in order.
-static CALLS: [&str; 31] = [
+static CALLS: [&str; 34] = [
     "decode",
     "encode",
     "to_pdu",
@@ -64,6 +66,9 @@ static CALLS: [&str; 31] = [
     "join",
     "add",
     "end",
+    "end, of parts",
+    "import_log",
+    "entities",
     "begin",
     "take, of fixed datums",
     "take, of variable datums",
@@ -75,7 +80,7 @@ static CALLS: [&str; 31] = [
 ];
 
 /// Outcome of each call, in the order of [`CALLS`].
-fn call_outcomes(alloc: Global) -> [&'static str; 31] {
+fn call_outcomes(alloc: Global) -> [&'static str; 34] {
     [
         result_of::<Decoding, _>(alloc, Ok(())),
         result_of::<Encoding, _>(alloc, to_encode(alloc)),
@@ -98,8 +103,11 @@ fn call_outcomes(alloc: Global) -> [&'static str; 31] {
         result_of::<FetchingSteps, _>(alloc, Ok(())),
         result_of::<Carrying, _>(alloc, room(alloc)),
         result_of::<Bringing, _>(alloc, room(alloc)),
-        result_of::<Adding, _>(alloc, to_add(alloc)),
+        result_of::<Adding, _>(alloc, to_add(no_pieces(alloc), alloc)),
         result_of::<EndingJoin, _>(alloc, Ok(())),
+        result_of::<EndingParts, _>(alloc, Ok(())),
+        result_of::<Importing, _>(alloc, Ok(())),
+        result_of::<FollowingStates, _>(alloc, recording_of(alloc, &RECORDING)),
         result_of::<Beginning, _>(alloc, station(alloc, 2, 3)),
         result_of::<Taking, _>(alloc, to_take(alloc, FIXED)),
         result_of::<Taking, _>(alloc, to_take(alloc, VARIABLE)),
@@ -114,7 +122,7 @@ fn call_outcomes(alloc: Global) -> [&'static str; 31] {
 /// Makes each call, and prints its outcome.
 pub fn put_library_calls<W: Write>(alloc: Global, out: &mut W) -> io::Result<()> {
     let told = call_outcomes(alloc);
-    for place in 0..31 {
+    for place in 0..34 {
         writeln!(out, "{}: {}", CALLS[place], told[place])?;
     }
     Ok(())

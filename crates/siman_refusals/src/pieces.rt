@@ -62,9 +62,14 @@ impl LibraryCall<Vec<u8>> for Bringing {
 /// Adds a second log to a joining.
 pub(crate) struct Adding;
 
-/// A joining with the log of 2:3.
-pub(crate) fn to_add(alloc: Global) -> io::Result<Joining> {
-    let mut joining = Joining::start(alloc, FormWord::Unsaid);
+/// A joining of pieces without any.
+pub(crate) fn no_pieces(alloc: Global) -> Joining {
+    Joining::start(alloc, FormWord::Unsaid)
+}
+
+/// A joining with the log of 2:3, given one without pieces.
+pub(crate) fn to_add(none: Joining, alloc: Global) -> io::Result<Joining> {
+    let mut joining = none;
     match joining.add(alloc, SIMULATOR.as_slice(), 1000) {
         Ok(()) => Ok(joining),
         Err(_) => Err(unmade()),
@@ -93,7 +98,7 @@ fn is_written(alloc: Global, joint: &Joint) -> bool {
 
 impl LibraryCall<()> for EndingJoin {
     fn make(alloc: Global, _lent: &mut ()) -> Said {
-        let mut joining = match to_add(alloc) {
+        let mut joining = match to_add(no_pieces(alloc), alloc) {
             Ok(joining) => joining,
             Err(_) => return Said::Memory,
         };

@@ -4,7 +4,7 @@
 use crate::input::RandomInput;
 
 /// Words that may replace others.
-const WORDS: [&str; 81] = [
+const WORDS: [&str; 93] = [
     "pdu",
     "pdus",
     "show",
@@ -16,6 +16,8 @@ const WORDS: [&str; 81] = [
     "convert",
     "mend",
     "join",
+    "import",
+    "export",
     "review",
     "log",
     "count",
@@ -86,13 +88,23 @@ const WORDS: [&str; 81] = [
     "0:1",
     "127.0.0.1:3000",
     "127.0.0.1:0",
+    "127.0.0.1",
+    "::1",
+    "opening=none",
+    "opening=assumed",
+    "port=3001",
+    "on=eth0",
+    "cut=keep",
+    "shared",
+    "echo",
+    "parts=yes",
 ];
 
 /// Largest number of words in a command line.
 const MOST: usize = 10;
 
 /// Correct command lines, of every command.
-const LINES: [&[&str]; 25] = [
+const LINES: [&[&str]; 28] = [
     &[],
     &[
         "pdu",
@@ -113,6 +125,18 @@ const LINES: [&[&str]; 25] = [
     &["mend", "--force", "torn", "done"],
     &["join", "done", "new", "form=open"],
     &["join", "rec", "done", "new"],
+    &["import", "script", "2:3", "127.0.0.1", "capture", "new"],
+    &[
+        "import",
+        "script",
+        "1:1",
+        "::1",
+        "capture",
+        "new",
+        "opening=assumed",
+        "cut=keep",
+    ],
+    &["export", "done", "new"],
     &["review", "done", "fate=done", "--json"],
     &["log", "--json", "done", "request=1:1/1", "entity=2:3:7"],
     &["count", "done", "station=2:3", "--json"],
@@ -155,7 +179,7 @@ impl RandomCommandLine {
 
 /// A random word.
 fn word(input: &mut RandomInput) -> &'static str {
-    WORDS[input.random.below(81) % 81]
+    WORDS[input.random.below(93) % 93]
 }
 
 /// Inserts a word at a place among the first `count` words, and moves those behind it up.
@@ -172,7 +196,7 @@ fn insert(words: &mut [&'static str; MOST], count: usize, place: usize, word: &'
 /// at a random number.
 pub fn random_command_line(input: &mut RandomInput) -> RandomCommandLine {
     let mut words = [""; MOST];
-    let line = LINES[input.random.below(25) % 25];
+    let line = LINES[input.random.below(28) % 28];
     let mut count = line.len().min(MOST);
     words[..count].copy_from_slice(&line[..count]);
     if input.random.one_in(2) {

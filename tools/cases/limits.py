@@ -69,6 +69,9 @@ def script_of_size(size):
     return text + b"#" * (size - len(text))
 
 
+MADE = ("new.dsct", "new.dsrc", "made.dsrc")
+
+
 class Measured:
     """Runs of the program, with what they took."""
 
@@ -92,7 +95,9 @@ class Measured:
         return "-" if kept == "-" else str(int(kept) // MEBIBYTE)
 
     def run(self, limit, where, words, expected, given=b""):
-        """One run. Output goes to files, so nothing of this script counts."""
+        """One run, which finds none of the files that it may make. Output goes to files, so nothing of this script counts."""
+        for made in MADE:
+            (self.folder / made).unlink(missing_ok=True)
         out, errors = (self.folder / name for name in ("limit.out", "limit.errors"))
         (self.folder / "limit.in").write_bytes(given)
         started = time.monotonic()

@@ -112,7 +112,7 @@ const AT_TERMINAL: &str =
 /// without a form.
 fn join_complaint<S: AsStr>(words: &[S]) -> &'static str {
     if words.iter().any(|word| word.as_str().starts_with("parts=")) {
-        "behind <NEW> stand, each at most once, 'form=open' or 'form=closed', and 'parts=yes'"
+        "behind <NEW> stand, each at most once, 'form=open' or 'form=closed', and 'parts=yes'; one piece alone needs a form"
     } else if words.iter().any(|word| word.as_str().starts_with("form=")) {
         "the form is 'form=open' or 'form=closed', and stands behind <NEW>"
     } else {

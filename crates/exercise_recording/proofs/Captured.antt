@@ -7,3 +7,8 @@ pub mod ReadDatagrams
 pub mod Shorts
 pub mod Follows
 pub mod EntryLaws
+pub mod Names
+pub mod LogBack
+pub mod PacketsBack
+pub mod EntriesBack
+pub mod Picked

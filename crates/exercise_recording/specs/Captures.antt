@@ -3,6 +3,7 @@ pub mod Datagram
 pub mod Blocks
 pub mod Export
 pub mod ReadBack
+pub mod LogBack
 pub mod Kind
 pub mod Counts
 pub mod Faults

@@ -12,8 +12,9 @@
 //! (`specs/Captures/Export.antt`, over the blocks of `specs/Captures/Blocks.antt` and the datagrams of
 //! `specs/Captures/Datagram.antt`): an interface for each station, and a packet for each datagram that one
 //! sent or received. [`put_capture_head`] and [`put_entry_packet`] write its parts, for callers that
-//! assemble it. What is written is read back as it was ([`exports_are_read_back`]), and the checksum
-//! of each IPv4 header is right ([`headers_add_up`]).
+//! assemble it. What is written is read back as it was ([`exports_are_read_back`]), the log of each
+//! station is imported of it again ([`exported_logs_come_back`]), and the checksum of each IPv4
+//! header is right ([`headers_add_up`]).
 //!
 //! Only [`import_log`] takes memory: for the recording, and for the fragments that are held. It does
 //! not grow with what is passed over.
@@ -38,6 +39,6 @@ pub use exported_capture::{export, put_capture_head, put_entry_packet, told_coun
 pub use import::{Import, import_log};
 pub use import_fault::ImportFault;
 pub use import_laws::kept_packets_are_entries;
-pub use laws::exports_are_read_back;
+pub use laws::{exported_logs_come_back, exports_are_read_back};
 pub use packet_counts::PacketCounts;
 pub use packet_rule::PacketRule;

@@ -144,7 +144,7 @@ interface-found name xs n at a rest fits =
     (omega (arith, size, short)) (omega (arith, size)) (interface-content name xs n at a fits)
 
 -- the address of a station within the limits
-station-fits : (o : StationData) → is_station o ≡ true → FitsAddress o.address
+pub station-fits : (o : StationData) → is_station o ≡ true → FitsAddress o.address
 station-fits o limits =
     let address = (and_parts (is_address o.address) (is_opening o.opening) limits).0 in
     let parts = and_parts (is_address_part o.address.site) (is_address_part o.address.application) address in

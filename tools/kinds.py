@@ -15,11 +15,16 @@ The kinds:
   colliding   Set Data that a hasher which multiplies by a known number can't tell apart, sent and received
   repeated    requests that are each sent and received 8 times, with other timestamps, and answered each time
   broadcasts  256 stations: the first stops and starts all entities of all, and each of the others answers
+  few         an open recording of one station: 1,000 askers whose requests have 16 identifiers, and their answers, Able
+              and Unable, all of them over and over
+  mixed       two stations: requests of all kinds, answers, repeats, losses, reports, others and told states as they come
+  opened      the states of one station with 65,533 entities, told over and over
 
 Kinds, numbers and orders are the same each time. A file ends at 1,048,576 entries, or at 268,435,456 bytes, which a
 recording of 'large' would pass at 33,000 and so ends before.
 """
 import argparse
+import random
 import struct
 import sys
 from array import array
@@ -28,15 +33,16 @@ NO_LINK = 0xFFFFFFFF
 MOST_ENTRIES = 1_048_576
 MOST_LARGE = 33_000  # entries of 'large' that a file holds
 MULTIPLIER = 0x9E3779B97F4A7C15
-CREATE, REMOVE, START, STOP, ACKNOWLEDGE, DATA_QUERY, SET_DATA, DATA, COMMENT = 11, 12, 13, 14, 15, 18, 19, 20, 22
+CREATE, REMOVE, START, STOP, ACKNOWLEDGE, ACTION, ACTED = 11, 12, 13, 14, 15, 16, 17
+DATA_QUERY, SET_DATA, DATA, EVENT, COMMENT = 18, 19, 20, 21, 22
 ALL = 0xFFFF
 
 
 class Run:
     """Events in the order in which they happen: each one's station, its text, and the event that its step links with."""
 
-    def __init__(self, stations, openings=None):
-        self.stations, self.openings = stations, openings or {}
+    def __init__(self, stations, openings=None, is_open=False):
+        self.stations, self.openings, self.is_open = stations, openings or {}, is_open
         self.at, self.texts, self.links = [], [], []
 
     def add(self, station, text, link):
@@ -199,6 +205,110 @@ def broadcasts(count):
     return run
 
 
+def few(count):
+    run = Run(1, {0: [(entity, 1) for entity in range(1, 1001)]}, is_open=True)
+    for turn in range(count // 2):
+        number = turn * 7_919 % 16_000
+        asker, identifier, entity = number // 16, number % 16, 1 + number % 1000
+        origin, kind = (1000 + asker // 100, 1 + asker % 100), STOP if identifier % 2 else START
+        body = {START: bytes(16), STOP: bytes(12)}[kind] + struct.pack(">I", identifier)
+        received = run.receive(0, pdu(kind, (*origin, 0), (*address(0), entity), body), -1)
+        answer = struct.pack(">HHI", kind - 10, 2 if number % 5 == 0 else 1, identifier)
+        run.send(0, pdu(ACKNOWLEDGE, (*address(0), entity), (*origin, 0), answer), received)
+    return run
+
+
+class Asked:
+    """A request: its kind, its entity, its datagram, its answer, and the first events that sent and received both."""
+
+    def __init__(self, kind, entity, datagram, answer):
+        self.kind, self.entity, self.datagram, self.answer = kind, entity, datagram, answer
+        self.sent = self.received = self.answered = None
+
+
+class Mixed:
+    """Two stations as they come: the first asks, the second has entities and answers."""
+
+    def __init__(self, count):
+        self.run, self.count, self.chance = Run(2, {1: [(entity, 1) for entity in range(1, 41)]}), count, random.Random(1)
+        self.states, self.asked = {entity: 1 for entity in range(1, 41)}, []
+
+    def is_lost(self):
+        return self.chance.random() < 0.1
+
+    def acknowledged(self, kind, entity, identifier):
+        """Able, where the entity is in a state in which the request is obeyed, and what it is then; else Unable."""
+        there = self.states.get(entity, 0) != 0
+        response = 1 if there != (kind == CREATE) else 2
+        if response == 1:
+            self.states[entity] = {CREATE: 1, REMOVE: 0, START: 2, STOP: 1}[kind]
+        return pdu(ACKNOWLEDGE, (*address(1), entity), (*address(0), 0), struct.pack(">HHI", kind - 10, response, identifier))
+
+    def new_request(self):
+        kind, entity = self.chance.choice([CREATE, REMOVE, START, STOP, ACTION, DATA_QUERY, SET_DATA]), self.chance.randrange(1, 61)
+        identifier, here, there = len(self.asked), (*address(0), 0), (*address(1), entity)
+        if kind in (CREATE, REMOVE, START, STOP):
+            asked = request(kind, 0, address(1), entity, identifier)
+            answer = None
+        else:
+            body = struct.pack(">IIII", identifier, 0, 0, 0)
+            asked = pdu(kind, here, there, body)
+            answer = pdu({ACTION: ACTED, DATA_QUERY: DATA, SET_DATA: DATA}[kind], there, here, body)
+        self.asked.append(Asked(kind, entity, asked, answer))
+        return self.asked[-1]
+
+    def exchange(self):
+        again = self.asked and self.chance.random() < 0.2
+        asked = self.asked[-self.chance.randrange(1, min(20, len(self.asked)) + 1)] if again else self.new_request()
+        sent = self.run.send(0, asked.datagram)
+        if asked.sent is None:
+            asked.sent = sent
+        if self.is_lost():
+            return
+        received = self.run.receive(1, asked.datagram, asked.sent)
+        if asked.received is None:
+            asked.received = received
+        if asked.answer is None:
+            identifier, = struct.unpack(">I", asked.datagram[-4:])
+            asked.answer = self.acknowledged(asked.kind, asked.entity, identifier)
+        answered = self.run.send(1, asked.answer, asked.received)
+        if asked.answered is None:
+            asked.answered = answered
+        if not self.is_lost():
+            self.run.receive(0, asked.answer, asked.answered)
+
+    def go_on(self):
+        kind = self.chance.random()
+        if kind < 0.7:
+            self.exchange()
+        elif kind < 0.8:
+            entity = self.chance.randrange(1, 61)
+            self.run.tell(1, entity, self.states.get(entity, 0))
+        elif kind < 0.9:
+            self.run.receive(self.chance.randrange(2), struct.pack(">BBBB", 7, 1, 1, 1) + bytes(140), -1)
+        else:
+            body = struct.pack(">IIII", len(self.run.at), 0, 0, 0) if kind < 0.95 else struct.pack(">II", 0, 0)
+            report = pdu(EVENT if kind < 0.95 else COMMENT, (*address(1), 1), (*address(0), 0), body, len(self.run.at))
+            sent = self.run.send(1, report)
+            if not self.is_lost():
+                self.run.receive(0, report, sent)
+
+
+def mixed(count):
+    mix = Mixed(count)
+    while len(mix.run.at) + 4 <= count:
+        mix.go_on()
+    return mix.run
+
+
+def opened(count):
+    run = Run(1, {0: [(entity, 1 + entity % 2) for entity in range(1, 65_534)]})
+    for number in range(count):
+        entity = 1 + number % 65_533
+        run.tell(0, entity, 1 + entity % 2)
+    return run
+
+
 def reversed_logs(count):
     return stations(count)
 
@@ -206,12 +316,13 @@ def reversed_logs(count):
 KINDS = {
     "stations": stations, "alone": alone, "reversed": reversed_logs, "waits": waits, "keys": keys, "scopes": scopes,
     "told": told, "large": large, "records": records, "colliding": colliding, "repeated": repeated,
-    "broadcasts": broadcasts,
+    "broadcasts": broadcasts, "few": few, "mixed": mixed, "opened": opened,
 }
 
 
 def recording_head(run):
-    parts = [b"DSRC0001", struct.pack(">BH", 1, run.stations)]
+    head = b"DSRC0002\x01\x01" if run.is_open else b"DSRC0001\x01"
+    parts = [head + struct.pack(">H", run.stations)]
     for station in range(run.stations):
         opening = run.openings.get(station, [])
         parts.append(struct.pack(">HHH", *address(station), len(opening)))

@@ -253,6 +253,29 @@ def searched(recording):
     return course, [(station, index) for station, index in blocks if index is not None]
 
 
+def stamps_of(recording):
+    """The stamp of each entry: a state told has that of the entry before it that was sent or received, or 0."""
+    stamps, last = [], 0
+    for entry in recording.entries:
+        last = last if entry.kind == TOLD else entry.stamp
+        stamps.append(last)
+    return stamps
+
+
+def timely(recording):
+    """The steps of the sequence of time: each takes of the entries that may happen next the one with the least stamp, and
+    of these the first in the file. It ends where no entry may happen."""
+    course, stamps, steps = Course(recording), stamps_of(recording), []
+    while True:
+        heads = [next_entry(course, station) for station in range(len(course.stations))]
+        heads = sorted((stamps[index], index) for index in heads if index is not None)
+        place = next((index for _, index in heads if not course.cause_of_event(index)), None)
+        if place is None:
+            return steps
+        steps.append((place, course.link_of(place)))
+        course.take(place)
+
+
 def search(recording):
     """What audit says of a recording."""
     course, blocks = searched(recording)

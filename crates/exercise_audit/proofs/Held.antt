@@ -22,7 +22,7 @@ pub held_done : (r : PlainRecording) (h : History) (s : ℕ) → log_at s h ≡ 
 held_done r h s done v next e = absurd (omega (arith, beginning_length _ _ next, ap length done))
 
 -- a station whose next event has a cause against it
-held_cause : (r : PlainRecording) (h : History) (s i : ℕ) (w : Event) (cause : Cause) → own_event r s i ≡ Some w
+pub held_cause : (r : PlainRecording) (h : History) (s i : ℕ) (w : Event) (cause : Cause) → own_event r s i ≡ Some w
     → length (log_before r s i) ≡ length (log_at s h) → cause_of r.setting h w ≡ Some cause → IsHeld r h s
 held_cause r h s i w cause own lengths bad v next e =
     let same : v ∷ log_at s h ≡ w ∷ log_before r s i = same_beginnings _ _ (log_of r s) next (log_before-next r s i w own) (ap suc (sym lengths)) in
@@ -44,7 +44,7 @@ stuck_from_held r limits h covers held = record {
 }
 
 -- the event of an entry of station s, as its own
-own_from : (r : PlainRecording) (s i : ℕ) (e : Entry) → slice_get r.entries i ≡ Some e → station_of (event_of e) ≡ s
+pub own_from : (r : PlainRecording) (s i : ℕ) (e : Entry) → slice_get r.entries i ≡ Some e → station_of (event_of e) ≡ s
     → own_event r s i ≡ Some (event_of e)
 unfolding own_event
 own_from r s i e at here =

@@ -31,7 +31,7 @@ use Rattle.exercise_audit.specs.Written.{written_below, IsRunAsWritten, is_sent_
 
 -- ---- one entry more
 
-more : (r : PlainRecording) (n : ℕ) (e : Entry) → slice_get r.entries n ≡ Some e → written_below r (n + 1) ≡ event_of e ∷ written_below r n
+pub more : (r : PlainRecording) (n : ℕ) (e : Entry) → slice_get r.entries n ≡ Some e → written_below r (n + 1) ≡ event_of e ∷ written_below r n
 more r n e at =
     ap past (take_more r.entries n e (slice_get_within r.entries n e at) ∙ ap (λ x. take n r.entries ++ x ∷ []) (get_or_from_slice_get r.entries n e e at))
     ∙ past-snoc (take n r.entries) e

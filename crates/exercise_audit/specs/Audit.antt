@@ -1,23 +1,15 @@
 -- Result of a search for a sequence (profile).
-use Rattle.std.specs.Prelude.{◌≡◌, ◌≢◌, ◌⊎◌, ℕ, zero, suc, List, [], ◌∷◌, ◌++◌, length, Some, None, Bool, true, false}
+use Rattle.std.specs.Prelude.{◌≡◌, ◌⊎◌, ℕ, zero, suc, List, [], ◌∷◌, ◌++◌, length, Some, Bool, true, false}
 use Rattle.exercise_model.specs.Recording.{PlainRecording}
-use Rattle.exercise_model.specs.History.{Event, History, log_at, log_of}
+use Rattle.exercise_model.specs.History.{Event, History}
 use Rattle.exercise_model.specs.Cause.{cause_of}
-use Rattle.exercise_model.specs.Place.{log_before, own_event}
-use Rattle.exercise_model.specs.Run.{Explains, IsBeginning, IsStuck}
+use Rattle.exercise_model.specs.Run.{Explains, IsStuck}
 use Rattle.exercise_check.specs.Goodness.{IsGood}
+pub use Rattle.exercise_audit.specs.Next.{IsNextEntry, IsDone, IsHeld}
+use Rattle.exercise_audit.specs.Time.{IsTimely}
 use Rattle.exercise_audit.specs.declared.blocks.Block.{Block}
 use Rattle.exercise_audit.specs.declared.blocks.Audit.{Audit}
 use Rattle.exercise_audit.specs.declared.blocks.Audit.TheVariants.{Explained, Blocked}
-
--- the event v of entry i is the next of its station after h
-pub record IsNextEntry (r : PlainRecording) (h : History) (s i : ℕ) (v : Event) : Type 0 where
-  pub own : own_event r s i ≡ Some v
-  pub place : length (log_before r s i) ≡ length (log_at s h)
-
--- the station did all entries of its log
-abbrev pub IsDone : PlainRecording → History → ℕ → Type 0
-IsDone r h s = log_at s h ≡ log_of r s
 
 -- the block has the next entry of its station after h and the first cause against it
 pub record IsBlock (r : PlainRecording) (h : History) (s : ℕ) (b : Block) : Type 0 where
@@ -44,10 +36,7 @@ abbrev pub IsExplained : PlainRecording → (explained : Bool) → Type 0
 IsExplained r true = (h : History) × Explains r h
 IsExplained r false = (h : History) → Explains r h → ⊥
 
+-- THE RESULT: a good certificate in the sequence of time, or the blocks where no run explains the recording
 abbrev pub IsAuditOf : PlainRecording → Audit → Type 0
-IsAuditOf r (Explained certificate) = IsGood r certificate.steps.items
+IsAuditOf r (Explained certificate) = IsGood r certificate.steps.items × IsTimely r certificate.steps.items
 IsAuditOf r (Blocked blocks) = IsBlocked r blocks.items
-
--- no next event of the station is allowed after h
-abbrev pub IsHeld : PlainRecording → History → ℕ → Type 0
-IsHeld r h s = (v : Event) → IsBeginning (v ∷ log_at s h) (log_of r s) → cause_of r.setting h v ≢ None

@@ -1,25 +1,53 @@
--- Effect of the search by waiting lists on its lists (profile).
-use Rattle.std.specs.Prelude.{◌≡◌, ◌≢◌, ◌⊎◌, ◌+◌, ◌<◌, ℕ, List, ◌++◌, length, slice_get, slice_index_or, Option, Some, None, IfSome}
+-- What the search knows of each station (profile).
+use Rattle.std.specs.Prelude.{◌≡◌, ◌≢◌, ◌<◌, ◌⊎◌, ℕ, List, length, Contains, Option, Some, None, IfSome}
 use Rattle.exercise_model.specs.declared.cause.Cause.{Cause}
 use Rattle.exercise_model.specs.declared.cause.Cause.TheVariants.{NeverSent}
 use Rattle.exercise_model.specs.Recording.{PlainRecording}
-use Rattle.exercise_model.specs.History.{event_of, station_of}
+use Rattle.exercise_model.specs.History.{Event}
 use Rattle.exercise_findings.specs.Source.{source_of}
-use Rattle.exercise_check.specs.Course.{CourseData, with_step, so_far}
+use Rattle.exercise_check.specs.Course.{CourseData, IsCourse, so_far}
 use Rattle.exercise_audit.specs.declared.blocks.Block.{Block}
-use Rattle.exercise_audit.specs.Audit.{IsBlock, IsDone}
-use Rattle.exercise_audit.specs.Waiting.{Waiting, waiting_for, Joins, Leaves}
+use Rattle.exercise_audit.specs.declared.turns.Moment.{Moment}
+use Rattle.exercise_audit.specs.Next.{IsNextEntry, IsDone}
+use Rattle.exercise_audit.specs.Time.{stamp_of, IsTimely}
+use Rattle.exercise_audit.specs.Audit.{IsBlock}
+use Rattle.exercise_audit.specs.Turns.{turn_of}
+use Rattle.exercise_audit.specs.Waiting.{Waiting, waiting_for, Joins}
 
--- the stations s to n - 1, the last one first
-pub record AreFromLast (n s : ℕ) (stations : List ℕ) : Type 0 where
-  pub count : length stations + s ≡ n
-  pub each : (j : ℕ) → j < length stations → slice_index_or stations j 0 + j + 1 ≡ n
+-- the moment of the next entry of a station
+pub record IsNextMoment (c : CourseData) (s : ℕ) (m : Moment) : Type 0 where
+  pub event : Event
+  pub next : IsNextEntry c.recording (so_far c) s m.entry event
+  pub stamp : m.stamp ≡ stamp_of c.recording m.entry
 
--- once entry i is taken, the stations that waited for it are ready, and none waits for it any more; all others wait
--- as before
-pub record IsWoken (i : ℕ) (old new : Waiting) (was ready : List ℕ) : Type 0 where
-  pub woken : ready ≡ was ++ waiting_for old i
-  pub waits : Leaves old new i
+-- THE TURN OF A STATION is the moment of its next entry, and it has none if all its entries are taken
+abbrev pub IsTurn : CourseData → ℕ → Option Moment → Type 0
+IsTurn c s (Some m) = IsNextMoment c s m
+IsTurn c s None = IsDone c.recording (so_far c) s
+
+-- A STATION IS HELD UP: its next entry has this block; and if the datagram that it receives there was not sent, it
+-- waits for the source, where there is one
+pub record IsHeldUp (c : CourseData) (waiting : Waiting) (s : ℕ) : Type 0 where
+  pub block : Block
+  pub stands : IsBlock c.recording (so_far c) s block
+  pub waits : block.cause ≡ NeverSent → IfSome (source_of c.recording block.entry) (λ source. Contains (waiting_for waiting source) s)
+
+-- a station has its turn, or is held up and has none
+abbrev pub Stands : CourseData → Waiting → ℕ → Option Moment → Type 0
+Stands c waiting s (Some m) = IsNextMoment c s m
+Stands c waiting s None = IsDone c.recording (so_far c) s ⊎ IsHeldUp c waiting s
+
+-- WHAT THE SEARCH KNOWS: the steps so far are good and in the sequence of time, and where each station stands
+pub record IsSearch (c : CourseData) (waiting : Waiting) (turns : List (Option Moment)) : Type 0 where
+  pub count : length turns ≡ length c.recording.setting.stations
+  pub course : IsCourse c
+  pub timely : IsTimely c.recording c.steps
+  pub each : (s : ℕ) → s < length turns → Stands c waiting s (turn_of turns s)
+
+-- the stations of a list have their turns; the turns of all others are unchanged
+pub record HaveTurns (c : CourseData) (stations : List ℕ) (was turns : List (Option Moment)) : Type 0 where
+  pub count : length turns ≡ length was
+  pub each : (s : ℕ) → s < length was → IsTurn c s (turn_of turns s) ⊎ ((turn_of turns s ≡ turn_of was s) × (Contains stations s → ⊥))
 
 -- a station that cannot go on waits for this entry, if there is any; all others wait as before
 abbrev pub Waits : ℕ → Waiting → Waiting → Option ℕ → Type 0
@@ -31,21 +59,3 @@ Waits station old new None = new ≡ old
 pub record WaitsFor (r : PlainRecording) (i station : ℕ) (cause : Cause) (old new : Waiting) : Type 0 where
   pub unsent : cause ≡ NeverSent → Waits station old new (source_of r i)
   pub other : cause ≢ NeverSent → new ≡ old
-
--- A STATION GOES ON: it takes one of its entries, and the stations that waited for this entry are ready
-pub record TakesEntry (old new : CourseData) (station : ℕ) (waited waits : Waiting) (was ready : List ℕ) : Type 0 where
-  pub place : ℕ
-  pub link : ℕ
-  pub own : IfSome (slice_get old.recording.entries place) (λ e. station_of (event_of e) ≡ station)
-  pub step : new ≡ with_step old (record { place = place; link = link })
-  pub woken : IsWoken place waited waits was ready
-
--- A STATION IS HELD UP: it has this block, and waits for the source of its receipt, if that was not sent
-pub record IsHeldUp (c : CourseData) (station : ℕ) (waited waits : Waiting) : Type 0 where
-  pub block : Block
-  pub stands : IsBlock c.recording (so_far c) station block
-  pub waiting : WaitsFor c.recording block.entry station block.cause waited waits
-
--- a station does not go on: it is done, or held up
-abbrev pub Stays : CourseData → ℕ → Waiting → Waiting → Type 0
-Stays c station waited waits = (IsDone c.recording (so_far c) station × (waits ≡ waited)) ⊎ IsHeldUp c station waited waits

@@ -6,7 +6,7 @@ ghost use Rattle.exercise_audit.specs.Audit.{IsAuditOf, IsExplained};
 ghost use Rattle.exercise_audit.specs.Written.{IsRunAsWritten, is_sent_before};
 
 use crate::blocks::Audit;
-use crate::sweeps::{Searched, audit_found};
+use crate::searched::{Searched, audit_found};
 use exercise_findings::Findings;
 use exercise_model::{Cause, ExerciseLog};
 use std::alloc::{AllocError, Global};

@@ -1,6 +1,6 @@
 //! Laws of searches. Each function is a theorem: it has no body, and its contract is the law.
 
-ghost use Rattle.std.specs.Prelude.{◌≡◌, ◌↔◌, List};
+ghost use Rattle.std.specs.Prelude.{◌≡◌, ◌↔◌, List, length};
 ghost use Rattle.exercise_model.specs.declared.form.Form.TheVariants.{First};
 ghost use Rattle.exercise_model.specs.Recording.{PlainRecording, IsRecording};
 ghost use Rattle.exercise_model.specs.Conversion.{converted};
@@ -9,6 +9,8 @@ ghost use Rattle.exercise_check.specs.Goodness.{IsGood};
 ghost use Rattle.exercise_audit.specs.declared.blocks.Block.{Block};
 ghost use Rattle.exercise_audit.specs.declared.blocks.Audit.{Audit};
 ghost use Rattle.exercise_audit.specs.Audit.{IsBlocked, IsAuditOf};
+ghost use Rattle.exercise_audit.specs.Time.{IsTimely, StampsNeverFall, IsAsWritten};
+ghost use Rattle.exercise_audit.specs.Written.{IsRunAsWritten};
 
 /// Converting a recording of the first form changes no search. It and the recording that differs
 /// only in its form, Closed, are blocked alike (`blocked`), and a search may return equal results
@@ -23,4 +25,13 @@ pub fn conversion_keeps_searches()
         → IsBlocked (converted r) blocks → IsGood r steps → ⊥ }
     ensures other { (r : PlainRecording) (blocks : List Block) (steps : List Step) → IsRecording r → r.setting.form ≡ First
         → IsBlocked r blocks → IsGood (converted r) steps → ⊥ }
+{}
+
+/// The sequence of time is a function of the recording: two certificates that explain it in that
+/// sequence are equal (`one`). Where the entries are a run as the recording has them, and stamps
+/// never fall from one entry to the next, it is that run (`written`).
+pub fn time_determines_sequences()
+    ensures one { (r : PlainRecording) (steps others : List Step) → IsGood r steps → IsTimely r steps → IsGood r others → IsTimely r others → steps ≡ others }
+    ensures written { (r : PlainRecording) (steps : List Step) → IsGood r steps → IsTimely r steps → IsRunAsWritten r (length r.entries)
+        → StampsNeverFall r → IsAsWritten steps }
 {}

@@ -1,28 +1,52 @@
-//! Search by waiting lists: each station goes on as far as it can, and then waits for the entry
-//! that sends the datagram of its next receipt, if that entry was not taken so far.
+//! Search in the sequence of time: of all stations whose next entry may happen, the one with the
+//! earliest goes on. A station that cannot go on has no turn; if it receives a datagram that was
+//! not sent so far, it has its turn again once the entry that sends it is taken.
 
-ghost use Rattle.std.specs.Prelude.{◌≡◌, ◌<◌, length, OnOk, IfOk, true, false};
-ghost use Rattle.exercise_audit.specs.Search.{AreFromLast, IsWoken, WaitsFor, TakesEntry, Stays};
+ghost use Rattle.std.specs.Prelude.{◌≡◌, ◌<◌, ◌≤◌, ◌+◌, ℕ, length, None, OnOk, IfOk, true, false};
+ghost use Rattle.exercise_model.specs.declared.station.TheConstants.{MOST_STATIONS};
+ghost use Rattle.exercise_check.specs.Course.{begun, so_far};
+ghost use Rattle.exercise_audit.specs.Next.{IsHeld};
+ghost use Rattle.exercise_audit.specs.Time.{IsTimely};
+ghost use Rattle.exercise_audit.specs.Stamps.{AreStamps};
+ghost use Rattle.exercise_audit.specs.Turns.{turn_of, turn_count, IsFirstOf};
+ghost use Rattle.exercise_audit.specs.Search.{IsTurn, HaveTurns, IsSearch, WaitsFor};
 
+use crate::stamps::{stamp_at, stamps};
+use crate::turns::{Moment, Turn, Turns};
 use crate::waiting::{Waiting, no_waiting, wait, wake};
 use exercise_check::{Course, Progress};
 use exercise_model::{Cause, ExerciseLog};
 use std::alloc::{AllocError, Global};
 
-/// Makes the stations ready that wait for an entry, which is taken.
-fn wake_at(
-    alloc: Global,
-    waiting: &mut Waiting,
-    ready: &mut Vec<usize>,
-    entry: usize,
-) -> Result<(), AllocError>
-    ensures { OnOk result (IsWoken entry waiting.old waiting.new ready.old.items ready.new.items) }
+/// Moment of the next entry of a station, if it has one.
+fn next_turn<L: ExerciseLog>(
+    course: &Course<'_, L>,
+    stamps: &[u64],
+    station: usize,
+) -> Option<Moment>
+    requires { AreStamps course.now.recording stamps.now }
+    ensures { IsTurn course.now station result }
 {
-    let woken = wake(alloc, waiting, entry);
-    if woken.is_empty() {
-        return Ok(());
+    let entry = course.next_entry(station)?;
+    Some(Moment {
+        stamp: stamp_at(stamps, entry),
+        entry,
+    })
+}
+
+/// Gives each of these stations its turn.
+fn give_turns<L: ExerciseLog>(
+    course: &Course<'_, L>,
+    stamps: &[u64],
+    turns: &mut Turns,
+    stations: &[usize],
+)
+    requires { AreStamps course.now.recording stamps.now }
+    ensures { HaveTurns course.now stations.now turns.old turns.new }
+{
+    for station in stations {
+        turns.set(*station, next_turn(course, stamps, *station));
     }
-    ready.extend_from_slice(woken.as_slice())
 }
 
 /// Makes a station wait for the source of its entry, if the station cannot go on because the
@@ -46,86 +70,103 @@ fn wait_for<L: ExerciseLog>(
     }
 }
 
-/// Lets a station take its next entry, if it has one and may; returns whether it did. Then makes
-/// those ready that wait for this entry. If the entry received a datagram that was not sent so far,
-/// the station waits for its source.
-fn go_on<L: ExerciseLog>(
+/// The station whose turn is first takes its entry, if it may; returns whether it did. Then those
+/// that waited for this entry have their turns. If it may not, it has no turn for now.
+fn take_turn<L: ExerciseLog>(
     alloc: Global,
     course: &mut Course<'_, L>,
+    stamps: &[u64],
     waiting: &mut Waiting,
-    ready: &mut Vec<usize>,
-    station: usize,
+    turns: &mut Turns,
+    turn: Turn,
 ) -> Result<bool, AllocError>
+    requires stamps { AreStamps course.old.recording stamps.now }
+    requires search { IsSearch course.old waiting.old turns.old }
+    requires first { IsFirstOf turns.old 0 (length turns.old) turn }
     ensures recording { course.new.recording ≡ course.old.recording }
-    ensures goes { IfOk result (λ more. more ≡ true → TakesEntry course.old course.new station waiting.old waiting.new ready.old.items ready.new.items) }
-    ensures stays { IfOk result (λ more. more ≡ false → Stays course.old station waiting.old waiting.new) }
-    ensures same { IfOk result (λ more. more ≡ false → (course.new ≡ course.old) × (ready.new ≡ ready.old)) }
+    ensures search { IfOk result (λ taken. IsSearch course.new waiting.new turns.new) }
+    ensures taken { IfOk result (λ taken. taken ≡ true → length course.new.steps ≡ length course.old.steps + 1) }
+    ensures same { IfOk result (λ taken. taken ≡ false → course.new ≡ course.old) }
+    ensures fewer { IfOk result (λ taken. taken ≡ false → turn_count turns.new < turn_count turns.old) }
 {
-    let Some(entry) = course.next_entry(station) else {
-        return Ok(false);
-    };
-    match course.go_on_at(alloc, station, entry)? {
+    let Turn { station, moment } = turn;
+    match course.go_on_at(alloc, station, moment.entry)? {
         Progress::Taken(_) => {
-            wake_at(alloc, waiting, ready, entry)?;
+            turns.set(station, next_turn(course, stamps, station));
+            let woken = wake(alloc, waiting, moment.entry);
+            give_turns(course, stamps, turns, woken.as_slice());
             Ok(true)
         }
         Progress::Barred(cause) => {
-            wait_for(alloc, course, waiting, station, entry, cause)?;
+            wait_for(alloc, course, waiting, station, moment.entry, cause)?;
+            turns.set(station, None);
             Ok(false)
         }
     }
 }
 
-/// Lets a station take entries as far as it can.
-fn go_far<L: ExerciseLog>(
+/// Takes the earliest entry of those that may happen next; returns whether there is one.
+fn take_earliest<L: ExerciseLog>(
     alloc: Global,
     course: &mut Course<'_, L>,
+    stamps: &[u64],
     waiting: &mut Waiting,
-    ready: &mut Vec<usize>,
-    station: usize,
-    entries: usize,
-) -> Result<(), AllocError>
-    ensures { course.new.recording ≡ course.old.recording }
+    turns: &mut Turns,
+) -> Result<bool, AllocError>
+    requires stamps { AreStamps course.old.recording stamps.now }
+    requires search { IsSearch course.old waiting.old turns.old }
+    ensures recording { course.new.recording ≡ course.old.recording }
+    ensures search { IfOk result (λ taken. IsSearch course.new waiting.new turns.new) }
+    ensures taken { IfOk result (λ taken. taken ≡ true → length course.new.steps ≡ length course.old.steps + 1) }
+    ensures none { IfOk result (λ taken. taken ≡ false → (s : ℕ) → s < length turns.new → turn_of turns.new s ≡ None) }
 {
-    // A station has at most all entries.
-    for _entry in 0..entries {
-        if !go_on(alloc, course, waiting, ready, station)? {
-            break;
+    loop {
+        let Some(turn) = turns.first() else {
+            return Ok(false);
+        };
+        if take_turn(alloc, course, stamps, waiting, turns, turn)? {
+            return Ok(true);
         }
     }
-    Ok(())
 }
 
-/// Indices of all stations, the last one first.
-#[tactic(auto, using(crate::proofs::Turns::from_before))]
-fn all_stations(alloc: Global, stations: usize) -> Result<Vec<usize>, AllocError>
-    ensures { IfOk result (λ all. AreFromLast stations 0 all.items) }
+/// The turns of all stations before the first step.
+fn first_turns<L: ExerciseLog>(
+    alloc: Global,
+    course: &Course<'_, L>,
+    stamps: &[u64],
+    stations: usize,
+) -> Result<Turns, AllocError>
+    requires stamps { AreStamps course.now.recording stamps.now }
+    requires few { stations ≤ MOST_STATIONS }
+    ensures count { IfOk result (λ turns. length turns ≡ stations) }
+    ensures each { IfOk result (λ turns. (s : ℕ) → s < stations → IsTurn course.now s (turn_of turns s)) }
 {
-    let mut all = Vec::new(alloc);
-    for station in (0..stations).rev() {
-        all.push(station)?;
+    let mut turns = Turns::none(alloc, stations)?;
+    for station in 0..stations {
+        turns.set(station, next_turn(course, stamps, station));
     }
-    Ok(all)
+    Ok(turns)
 }
 
-/// Lets all stations go on until each is finished, waits, or cannot go on. No entry is looked at
-/// more than twice: once when its station has to wait, and once when it is taken.
-pub(crate) fn go_on_by_lists<L: ExerciseLog>(
+/// Takes entries in the sequence of time, until no station can go on.
+pub(crate) fn take_entries<L: ExerciseLog>(
     alloc: Global,
     log: &L,
     course: &mut Course<'_, L>,
 ) -> Result<(), AllocError>
-    ensures { course.new.recording ≡ course.old.recording }
+    requires { course.old ≡ begun (L.recording log.now) }
+    ensures recording { course.new.recording ≡ course.old.recording }
+    ensures timely { OnOk result (IsTimely course.new.recording course.new.steps) }
+    ensures held { OnOk result ((s : ℕ) → s < length course.new.recording.setting.stations → IsHeld course.new.recording (so_far course.new) s) }
 {
-    let (entries, stations) = (log.entry_count(), log.station_count());
+    let stamps = stamps(alloc, log)?;
     let mut waiting = no_waiting(alloc);
-    let mut ready = all_stations(alloc, stations)?;
-    // A station starts once, and once more for each entry that it waited for.
-    for _turn in 0..stations + entries {
-        let Some(station) = ready.pop() else {
+    let mut turns = first_turns(alloc, course, stamps.as_slice(), log.station_count())?;
+    loop {
+        if !take_earliest(alloc, course, stamps.as_slice(), &mut waiting, &mut turns)? {
             break;
-        };
-        go_far(alloc, course, &mut waiting, &mut ready, station, entries)?;
+        }
     }
     Ok(())
 }

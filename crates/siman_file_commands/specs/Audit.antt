@@ -10,6 +10,7 @@ use Rattle.exercise_check.specs.Sequence.{sequence_of}
 use Rattle.exercise_check.specs.Goodness.{IsGood}
 use Rattle.exercise_audit.specs.declared.blocks.Block.{Block}
 use Rattle.exercise_audit.specs.Audit.{IsBlocked}
+use Rattle.exercise_audit.specs.Time.{IsTimely}
 use Rattle.siman_outside.specs.declared.fault.Fault.{Fault}
 use Rattle.siman_outside.specs.declared.product.Product.{Product}
 use Rattle.siman_outside.specs.declared.product.Product.TheVariants.{File, Nothing}
@@ -35,13 +36,15 @@ IsListOf r text = (blocks : List Block) × IsBlocked r blocks × (text ≡ block
 
 -- ---- the result of a search
 
--- SOME SEQUENCE EXPLAINS the recording, and these are the steps of its certificate
+-- SOME SEQUENCE EXPLAINS the recording, and these are the steps of the sequence of time
 pub record FindsSequence (recorded : Recorded) (steps : List Step) : Type 0 where
   -- The file is this recording.
   pub recording : PlainRecording
   pub read : recorded ≡ Ok recording
   -- There is a step for each entry, and each step is good.
   pub good : IsGood recording steps
+  -- Each step takes, of the entries that may happen then, the one with the least stamp, then the least number.
+  pub timely : IsTimely recording steps
   -- The sequence that the steps name is a run that explains the recording: the headline's sentences hold of it.
   pub holds : Holds recording (sequence_of recording steps)
   -- What the recording says holds in every run that explains it: the pairs of entries, and the states at the end.

@@ -6,6 +6,7 @@ ghost use Rattle.exercise_recording.specs.Reading.{recording_at};
 ghost use Rattle.exercise_check.specs.Certificate.{certificate_text};
 ghost use Rattle.exercise_check.specs.Goodness.{IsGood};
 ghost use Rattle.exercise_audit.specs.Audit.{IsBlocked};
+ghost use Rattle.exercise_audit.specs.Time.{IsTimely};
 ghost use Rattle.siman_outside.specs.declared.limits.TheConstants.{LARGEST_RECORDING};
 ghost use Rattle.siman_outside.specs.Outside.{Has, Stream};
 ghost use Rattle.siman_file_commands.specs.Audit.{Finds, EndsAudit};
@@ -115,7 +116,8 @@ fn order<L: ExerciseLog>(
     log: &L,
     certificate: &Certificate,
 ) -> Result<Product<SequenceTexts>, AllocError>
-    requires { IsGood (L.recording log.now) certificate.now.steps.items }
+    requires good { IsGood (L.recording log.now) certificate.now.steps.items }
+    requires timely { IsTimely (L.recording log.now) certificate.now.steps.items }
     ensures { IfOk result (Finds (Ok (L.recording log.now))) }
 {
     good_steps_have_no_cause();

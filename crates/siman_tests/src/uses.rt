@@ -39,6 +39,7 @@ mod receipt;
 mod report;
 mod script;
 mod search;
+mod sequence;
 mod station;
 mod stranger;
 mod torn;
@@ -93,6 +94,7 @@ pub use report::{
 };
 pub use script::explain_themselves;
 pub use search::no_luck_is_needed;
+pub use sequence::is_found_again;
 pub use station::answers_rightly;
 pub use stranger::may_be_heard;
 pub use torn::{are_mended_once, lose_nothing_that_was_written};

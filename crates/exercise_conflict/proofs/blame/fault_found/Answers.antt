@@ -8,5 +8,5 @@ pub returns-in-Explained-clause-certificate : goal.returns-in-Explained-clause-c
 returns-in-Explained-clause-certificate g c =
     let r : PlainRecording = c.args.findings in
     let steps = c.in-Explained.field-0.steps.items in
-    let good : IsGood r steps = rw c.in-Explained.is at c.in_ok-audit.ensures.audit in
+    let good : IsGood r steps = (rw c.in-Explained.is at c.in_ok-audit.ensures.audit).0 in
     λ told. (sequence_of r steps, good_explains r c.has_standing_cause.ensures.limits steps good)

@@ -42,9 +42,7 @@ def words_of_usage(usage):
 
 
 def rows_that_differ():
-    """Each row of which the usage names another command or other words than the row has: what it says, and what it has.
-    The word STEP of `chart` stands in its usage as from=STEP and to=STEP.
-    """
+    """Each row of which the usage names another command or other words than the row has: what it says, and what it has."""
     before, _, behind = TABLE.read_text(encoding="utf-8").partition("const ROWS")
     shared = {name: word for name, *word in re.findall(rf"const (\w+): CommandWord = {WORD}", before)}
     for row in re.split(r"^    CommandRow \{$", behind.partition("\n];")[0], flags=re.M)[1:]:
@@ -53,7 +51,6 @@ def rows_that_differ():
         # Each word is written out there, or is the name of one that rows share.
         named = re.findall(rf"{WORD}|(?:^ +|[\[ ])([A-Z_]+)(?=[,\]])", tail, flags=re.M)
         has = [tuple(shared[one]) if one else (word, often) for word, often, one in named]
-        has = [it for it in has if it[0] != "STEP"]
         if usage.split()[:2] != ["siman", name] or words_of_usage(usage) != has:
             yield usage, name, has
 

@@ -9,7 +9,8 @@ each it draws the whole, and some of the steps, and compares:
 - the marks in the SVG with those that the logs say, by tools/pages/charts.py alone, and each byte of it with what
   tools/pages/drawings.py draws;
 - where they stand: the rows one below the other, each arrow from the dot of its sender to the row and the column of its
-  receiver, each bar from the row of the change that began it to that of the change that ended it, and what is lost level;
+  receiver, each bar from the row of the change that began it to that of the change that ended it, what was told of an
+  entity on its bar, and what is lost level;
 - that nothing is in it that is of no use: no script, no font, nothing from outside, no number that is not whole.
 
     tools/pictures.py [PROGRAM] [--recordings N] [--seed N]
@@ -202,7 +203,7 @@ class Drawn:
         self.elements, self.picture = list(ElementTree.fromstring(svg).iter()), picture
         self.rows = {int(row.get("data-entry")): int(row.get("y")) for row in self.marks("row")}
         self.columns = {}
-        for dot in [*self.marks("sent"), *self.marks("told"), *self.marks("other")]:
+        for dot in [*self.marks("sent"), *self.marks("other")]:
             self.columns[self.station(int(dot.get("data-entry")))] = int(dot.get("x"))
 
     def marks(self, name):
@@ -216,6 +217,7 @@ class Drawn:
         yield from self.rows_that_stand_wrong()
         yield from self.ends_that_stand_wrong()
         yield from self.bars_that_stand_wrong()
+        yield from self.told_that_stand_wrong()
 
     def strange(self):
         for element in self.elements:
@@ -263,6 +265,16 @@ class Drawn:
             for change, at in ((bar.get("data-from"), top), (bar.get("data-to"), top + height)):
                 if change != "-" and int(change) in self.rows and not 0 <= self.rows[int(change)] - at <= 6:
                     yield f"bar of {bar.get('data-entity')} at {at}, the row of {change} at {self.rows[int(change)]}"
+
+
+    def told_that_stand_wrong(self):
+        """A told state stands on the bars of its entity, if it has bars."""
+        for sign in self.marks("told"):
+            entry = self.picture.story.entries[int(sign.get("data-entry"))]
+            entity = "{}:{}:{}".format(*self.picture.story.address(entry.station), entry.entity)
+            bars = [bar for bar in self.marks("bar") if bar.get("data-entity") == entity]
+            if any(not 3 <= int(sign.get("x")) - int(bar.get("x")) <= 6 for bar in bars):
+                yield f"what was told of {entity} at {sign.get('x')}, its bar at {bars[0].get('x')}"
 
 
 def windows(chance, count):

@@ -83,12 +83,22 @@ def windows(files):
     yield from files.case("one-step", [*words, "to=13", "from=13"])
     yield from files.case("the-last-step", [*words, "from=29", "to=29"])
     yield from files.case("zeros-before-a-number", [*words, "from=0028"])
+    yield from files.case("a-clock-of-microseconds", [*words, "from=26", "clock=us"])
+    yield from files.case("a-clock-of-milliseconds", [*words, "clock=ms", "to=1"])
+    yield from files.case("a-clock-of-seconds", [*words, "from=28", "clock=s"])
+    yield from files.case("one-entity", [*words, "entity=2:4:9", "from=10", "to=13"])
+    yield from files.case("two-entities", [*words, "entity=2:4:9", "from=12", "entity=2:3:7", "to=13"])
+    yield from files.case("an-entity-twice", [*words, "entity=2:3:7", "entity=2:3:7", "from=28"])
+    yield from files.case("an-entity-that-is-not-there", [*words, "entity=2:3:8", "from=28"])
     for past in (["from=30"], ["to=30"], ["to=31", "from=30"], ["from=0", "to=30"], ["from=4294967295"]):
         yield from files.case(f"past-the-last-by-{'-'.join(past)}", [*words, *past])
     bad = [
         ["from"], ["from="], ["from=x"], ["from=1x"], ["from=-1"], ["from=+1"], ["from=4294967296"], ["From=1"],
         ["step=1"], ["=1"], ["station=1:1"], ["from=1", "from=2"], ["to=2", "to=2"], ["from=5", "to=4"],
         ["to=4", "from=5"], ["from=1", "to=2", "to=3"], ["x", "from=1"], ["from=9", "to=8", "x"], ["from=1=2"],
+        ["clock="], ["clock=m"], ["clock=US"], ["clock=s", "clock=s"], ["clock=us", "from=1", "clock=ms"], ["clock"],
+        ["entity="], ["entity=7"], ["entity=2:3"], ["entity=2:3:7:1"], ["entity=2:3:65536"], ["entity=2:3:x"],
+        ["from=2", "entity=2:3:7", "to=1"],
     ]  # fmt: skip
     for said in bad:
         yield from files.case(f"no-step-by-{'-'.join(said)}", [*words, *said], asked=[])
@@ -184,12 +194,24 @@ def limits(files):
     yield from files.case("past-the-last-of-too-many", [*words, f"to={ROWS}"])
 
 
+def twelve(files):
+    """A station with twelve entities, which tells of the third, of the ninth and of one that is not there."""
+    entries = [texts.told(1, 3, 2), texts.sent(0, b"x", 5_025_678_901), texts.told(1, 9, 2), texts.told(1, 13, 0)]
+    stations = [Station(1, 1, []), Station(2, 3, [(entity, 1 + entity % 2) for entity in range(1, 13)])]
+    kept = files.kept("twelve", texts.recording_text(Recording(1, stations, entries)))
+    steps = files.kept("told", texts.certificate_text([(at, NO_LINK) for at in range(len(entries))]))
+    words = ["twelve", "told", "new"]
+    yield from files.case("twelve-entities", [*words, "clock=us"], [*kept, *steps])
+    yield from files.case("four-of-twelve-entities", [*words, *(f"entity=2:3:{at}" for at in (9, 1, 12, 13, 3))])
+
+
 def others(files):
     """No entries, and exercises that are made up: of two stations, and of six in an open recording."""
     none = files.kept("bare", texts.recording_text(Recording(7, [Station(2, 3, [])], [])))
     nothing = files.kept("nothing", texts.certificate_text([]))
     yield from files.case("no-entries", ["bare", "nothing", "new"], [*none, *nothing])
     yield from files.case("a-step-of-no-entries", ["bare", "nothing", "new", "from=0"])
+    yield from twelve(files)
     for name, seed, stations, moves, form in (("two", 4, 2, 24, None), ("six", 0, 6, 120, OPEN)):
         recording, places = exercise(seed, stations, moves, form)
         kept = files.kept(name, texts.recording_text(recording))
@@ -209,20 +231,20 @@ def exercise(seed, stations, moves, form):
 
 
 def usage_fault(told):
-    usage = ["text", "text Usage: siman chart <REC> <CERT> <SVG> [from=STEP] [to=STEP] [--force]", "text", "text For more information, try '--help'."]
+    usage = ["text", "text Usage: siman chart <REC> <CERT> <SVG> [CHOICE]... [--force]", "text", "text For more information, try '--help'."]
     return ["status 2", "errors", *told, *usage]
 
 
 HELP = """\
 Draws an exercise in the sequence of its certificate, and writes the picture
 
-Usage: siman chart <REC> <CERT> <SVG> [from=STEP] [to=STEP] [--force]
+Usage: siman chart <REC> <CERT> <SVG> [CHOICE]... [--force]
 
 Arguments:
-  <REC>      The file of the recording
-  <CERT>     The file of the certificate
-  <SVG>      The file of the picture, in SVG; it must not be there yet, or be empty
-  [STEP]...  Which steps of the certificate are shown, counted from 0: from=STEP says the first, to=STEP the last; each may stand once
+  <REC>        The file of the recording
+  <CERT>       The file of the certificate
+  <SVG>        The file of the picture, in SVG; it must not be there yet, or be empty
+  [CHOICE]...  What is shown: from=STEP the first step, to=STEP the last, counted from 0; clock=us, clock=ms or clock=s the time of day, of stamps in that unit; each may stand once; entity=S:A:E bars of this entity and of no other than those named
 
 Options:
       --force  Replaces a file that has the name of the one that is made

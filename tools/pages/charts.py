@@ -9,13 +9,14 @@ from .reviews import told_at
 MOST_ENTITIES = 8
 KEYS = {
     "row": ["step", "entry"], "sent": ["entry"], "other": ["entry"], "told": ["entry"], "arrow": ["from", "to"],
-    "outside": ["by", "to"], "lost": ["from", "at"], "bar": ["entity", "state", "from", "to"], "unanswered": ["entry"],
+    "outside": ["by", "to"], "lost": ["from", "at"], "bar": ["entity", "state", "from", "to"],
+    "undrawn": ["at", "entities"], "unanswered": ["entry"], "clock": ["entry", "stamp"],
 }  # fmt: skip
 
 
-def marks_of(recording, places, first, end):
+def marks_of(recording, places, first, end, chosen=()):
     """The marks of the steps from the first on and before the end, where step k takes entry places[k]."""
-    return sorted(text_of(mark) for mark in Picture(recording, places, range(first, end)).marks())
+    return sorted(text_of(mark) for mark in Picture(recording, places, range(first, end), chosen).marks())
 
 
 def marks_in(svg):
@@ -34,10 +35,12 @@ def text_of(mark):
 
 
 class Picture:
-    """A recording, the entries in the order of a certificate, and which of its steps are shown."""
+    """A recording, the entries in the order of a certificate, which of its steps are shown, the entities that are
+    chosen, if any are, and what the stamps count, if the picture has a clock."""
 
-    def __init__(self, recording, places, rows):
+    def __init__(self, recording, places, rows, chosen=(), unit=None):
         self.story, self.places, self.rows = Story(recording), places, rows
+        self.chosen, self.unit, self.known = set(chosen), unit, {}
         self.steps = {}
         for step, place in enumerate(places):
             self.steps.setdefault(place, step)
@@ -51,6 +54,8 @@ class Picture:
     def marks(self):
         for step in self.rows:
             yield "row", step, self.places[step]
+            if self.unit:
+                yield "clock", self.places[step], self.stamp(self.places[step])
             yield from self.marks_at(self.places[step])
         for entry, source in enumerate(self.story.sources):
             if source is not None and (self.is_shown(entry) or self.is_shown(source)):
@@ -84,14 +89,28 @@ class Picture:
         entries = ((at, self.story.entries[at]) for at in self.story.own[station])
         return [at for at, entry in entries if entry.kind == kind and entry.datagram == datagram]
 
+    def stamp(self, index):
+        """The stamp of an entry; of a told state that of what was last sent or received before it in the file, or 0."""
+        before = (entry.stamp for entry in reversed(self.story.entries[: index + 1]) if entry.kind != TOLD)
+        return next(before, 0)
+
+    def lives(self, station):
+        """The stretches that are shown, and the entities that have one, from the least on."""
+        if station not in self.known:
+            lives = (life for life in self.story.lives(station) if self.reaches(life))
+            shown = [life for life in lives if not self.chosen or (*self.story.address(station), life[0]) in self.chosen]
+            self.known[station] = shown, sorted({entity for entity, *_ in shown})
+        return self.known[station]
+
     def bars(self, station):
-        """The stretches that are shown of the least entities that have one."""
-        shown = [life for life in self.story.lives(station) if self.reaches(life)]
-        least = sorted({entity for entity, *_ in shown})[:MOST_ENTITIES]
+        """The stretches that are shown of the least entities that have one, and how many more have one."""
+        shown, entities = self.lives(station)
         for entity, state, since, until in shown:
-            if entity in least:
+            if entity in entities[:MOST_ENTITIES]:
                 ends = (change and change.entry for change in (since, until))
                 yield "bar", identifier_text((*self.story.address(station), entity)), STATES[state], *ends
+        if len(entities) > MOST_ENTITIES:
+            yield "undrawn", self.address(station), len(entities) - MOST_ENTITIES
 
     def reaches(self, life):
         _, _, since, until = life

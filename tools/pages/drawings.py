@@ -11,6 +11,9 @@ LEFT, TOP, ROW, BLOCK, MOST_ROWS = 40, 128, 20, 40, 2000
 MOST_STEP = 0xFFFF_FFFF
 TONES = {"request": "#1d4ed8", "able": "#15803d", "unable": "#c2410c", "other": "#475569", "notice": "#7c3aed"}
 WORD_TONES = {"able": "able", "complete": "able", "data": "able", "unable": "unable", "rejected": "unable"}
+# Of each unit of stamps: how many there are in a second, how many digits stand behind it, and how wide a clock is.
+UNITS = {"us": (1_000_000, 6), "ms": (1_000, 3), "s": (1, 0)}
+CLOCK_WIDTHS = {"us": 96, "ms": 78, "s": 60}
 # Each light colour with the dark one that takes its place.
 DARK = {
     "#1d4ed8": "#93c5fd", "#15803d": "#86efac", "#c2410c": "#fdba74", "#475569": "#cbd5e1", "#7c3aed": "#c4b5fd",
@@ -46,6 +49,14 @@ def group(text, **keys):
     return f"<g{attributes((key.replace('_', '-'), value) for key, value in keys.items())}>\n{text}</g>\n"
 
 
+def time_of_day(stamp, unit):
+    """The time of day, in UTC, of a stamp since 1970."""
+    units, digits = UNITS[unit]
+    seconds, part = divmod(stamp, units)
+    clock = ":".join(f"{number:02}" for number in (seconds // 3600 % 24, seconds // 60 % 60, seconds % 60))
+    return f"{clock}.{part:0{digits}}" if digits else clock
+
+
 def is_notice(pdu):
     return pdu.kind not in REQUESTS and not is_answer(pdu)
 
@@ -59,8 +70,8 @@ def tone_of(pdu):
 class Drawing(Picture):
     """A picture as it is drawn."""
 
-    def __init__(self, recording, places, rows):
-        super().__init__(recording, places, rows)
+    def __init__(self, recording, places, rows, chosen=(), unit=None):
+        super().__init__(recording, places, rows, chosen, unit)
         self.exercise, self.count = recording.exercise, len(recording.stations)
         self.is_wide = self.count <= 4
         self.shown = min(max(rows.stop - rows.start, 0), MOST_ROWS)
@@ -87,8 +98,20 @@ class Drawing(Picture):
         return self.row_y(min(max(min(step, self.rows.stop) - self.rows.start, 0), MOST_ROWS))
 
     @property
-    def words_x(self):
+    def rows_x(self):
         return self.x(self.count)
+
+    @property
+    def step_x(self):
+        return self.rows_x + 48
+
+    @property
+    def clock_x(self):
+        return self.step_x + 12
+
+    @property
+    def words_x(self):
+        return self.clock_x + (CLOCK_WIDTHS[self.unit] if self.unit else 0)
 
     @property
     def width(self):
@@ -145,10 +168,17 @@ class Drawing(Picture):
 
     def row(self, step):
         entry = self.places[step]
-        y, x = self.y(entry), self.words_x
-        rule = element("line", ("x1", 16), ("y1", y), ("x2", x - 8), ("y2", y), ("stroke", "#e2e8f0"))
-        keys = [("x", x), ("y", y + 4), ("class", "row"), ("data-step", step), ("data-entry", entry)]
-        return rule + words(self.row_words(entry), *keys)
+        y = self.y(entry)
+        rule = element("line", ("x1", 16), ("y1", y), ("x2", self.rows_x - 8), ("y2", y), ("stroke", "#e2e8f0"))
+        number = words(step, ("x", self.step_x), ("y", y + 4), ("text-anchor", "end"))
+        keys = [("x", self.words_x), ("y", y + 4), ("class", "row"), ("data-step", step), ("data-entry", entry)]
+        return rule + number + self.clock(entry, y + 4) + words(self.row_words(entry), *keys)
+
+    def clock(self, entry, y):
+        if not self.unit:
+            return ""
+        keys = [("x", self.clock_x), ("y", y), ("class", "clock"), ("data-entry", entry)]
+        return words(time_of_day(self.stamp(entry), self.unit), *keys, ("data-stamp", self.stamp(entry)))
 
     def row_words(self, index):
         entry, pdu = self.story.entries[index], self.story.meanings[index]
@@ -184,12 +214,28 @@ class Drawing(Picture):
 
     def bars_text(self):
         bars = "".join(self.station_bars(station) for station in range(self.count))
+        bars += "".join(self.undrawn(station) for station in range(self.count))
         return group(bars, fill="#1f2933", writing_mode="vertical-rl", font_size=12 if self.is_wide else 8)
 
     def station_bars(self, station):
-        shown = [life for life in self.story.lives(station) if self.reaches(life)]
-        least = sorted({entity for entity, *_ in shown})[:MOST_ENTITIES]
+        shown, entities = self.lives(station)
+        least = entities[:MOST_ENTITIES]
         return "".join(self.bar(station, least.index(life[0]), life) for life in shown if life[0] in least)
+
+    def undrawn(self, station):
+        more = len(self.lives(station)[1]) - MOST_ENTITIES
+        keys = [("x", self.slot_x(station, MOST_ENTITIES)), ("y", TOP + 17), ("class", "undrawn")]
+        keys += [("data-at", self.address(station)), ("data-entities", more)]
+        return words(f"+{more} more", *keys) if more > 0 else ""
+
+    def told_x(self, entry):
+        """The middle of the bars of the entity of which a state was told, if it has bars; else right of the bars of its
+        station, if that has bars; else of the column."""
+        told = self.story.entries[entry]
+        least = self.lives(told.station)[1][:MOST_ENTITIES]
+        if not least:
+            return self.x(told.station)
+        return self.slot_x(told.station, least.index(told.entity) if told.entity in least else MOST_ENTITIES)
 
     def bar(self, station, slot, life):
         entity, state, since, until = life
@@ -248,9 +294,10 @@ class Drawing(Picture):
             ("data-at", at),
         )  # fmt: skip
 
-    def sign(self, name, entry, colour):
+    def sign(self, name, entry, colour, x=None):
+        x = self.column(entry) if x is None else x
         return element(
-            "use", ("href", f"#{name}"), ("x", self.column(entry)), ("y", self.y(entry)), ("fill", colour),
+            "use", ("href", f"#{name}"), ("x", x), ("y", self.y(entry)), ("fill", colour),
             ("class", name), ("data-entry", entry),
         )  # fmt: skip
 
@@ -260,7 +307,7 @@ class Drawing(Picture):
     def deed(self, entry):
         kind, pdu = self.story.entries[entry].kind, self.story.meanings[entry]
         if kind == TOLD:
-            return self.sign("told", entry, "#ffffff")
+            return self.sign("told", entry, "#ffffff", self.told_x(entry))
         if not pdu:
             return self.sign("other", entry, "#475569")
         return self.sign("sent", entry, TONES[tone_of(pdu)]) if kind == SENT else ""
@@ -276,7 +323,10 @@ class Drawing(Picture):
         )  # fmt: skip
 
     def names_at(self, y):
-        return "".join(words(self.address(s), ("x", self.x(s)), ("y", y)) for s in range(self.count))
+        stations = "".join(words(self.address(s), ("x", self.x(s)), ("y", y)) for s in range(self.count))
+        step = words("step", ("x", self.step_x), ("y", y), ("text-anchor", "end"))
+        clock = words("UTC", ("x", self.clock_x), ("y", y), ("text-anchor", "start")) if self.unit else ""
+        return stations + step + clock + words("entry", ("x", self.words_x), ("y", y), ("text-anchor", "start"))
 
 
 def legend_line(x, end, y, text_x, said, keys):
@@ -312,22 +362,38 @@ LEGEND = "".join(legend())
 # What is answered.
 
 
-def window_of(said):
-    """The first and the last step that words say, or the first word that says none."""
-    bounds = {}
+def choice_of(word):
+    """The key of a word and its value, if it chooses something."""
+    if found := re.fullmatch("(from|to)=([0-9]+)", word):
+        return (found[1], int(found[2])) if int(found[2]) <= MOST_STEP else None
+    if found := re.fullmatch("clock=(us|ms|s)", word):
+        return "clock", found[1]
+    if found := re.fullmatch("entity=([0-9]+):([0-9]+):([0-9]+)", word):
+        entity = tuple(map(int, found.groups()))
+        return ("entity", entity) if max(entity) <= 0xFFFF else None
+    return None
+
+
+def choices_of(said):
+    """What words choose: the first and the last step, the unit of the clock and the entities; or the first word that
+    chooses nothing, or a second time, or a first step above the last."""
+    chosen = {"entity": []}
     for word in said:
-        found = re.fullmatch("(from|to)=([0-9]+)", word)
-        if not found or int(found[2]) > MOST_STEP or found[1] in bounds:
+        key, value = choice_of(word) or (None, None)
+        if key is None or (key != "entity" and key in chosen):
             return None, word
-        bounds[found[1]] = int(found[2])
-        if len(bounds) == 2 and bounds["from"] > bounds["to"]:
+        if key == "entity":
+            chosen[key].append(value)
+        else:
+            chosen[key] = value
+        if key in ("from", "to") and chosen.get("from", 0) > chosen.get("to", MOST_STEP):
             return None, word
-    return bounds, None
+    return chosen, None
 
 
 def answer_to_chart(text, certificate, said=()):
     """What chart answers to a recording and a certificate by their bytes, and the picture, if it is made."""
-    bounds, bad = window_of(said)
+    chosen, bad = choices_of(said)
     if bad is not None:
         return fault(f"filter: {bad}"), None
     try:
@@ -341,11 +407,13 @@ def answer_to_chart(text, certificate, said=()):
     judged = verdict(recording, steps)
     if judged.status != 0:
         return judged, None
-    past = next((word for word in said if int(word.partition("=")[2]) >= len(steps)), None)
+    bounds = (word for word in said if word.startswith(("from=", "to=")))
+    past = next((word for word in bounds if int(word.partition("=")[2]) >= len(steps)), None)
     if past is not None:
         return fault(f"filter: {past}"), None
-    rows = range(bounds.get("from", 0), bounds.get("to", len(steps) - 1) + 1)
+    rows = range(chosen.get("from", 0), chosen.get("to", len(steps) - 1) + 1)
     if len(rows) > MOST_ROWS:
         return fault("chart: over-limit"), None
     line = f"chart steps={len(rows)} stations={len(recording.stations)}\n"
-    return Outcome(0, line.encode(), b""), Drawing(recording, [place for place, _ in steps], rows).text()
+    drawing = Drawing(recording, [place for place, _ in steps], rows, chosen["entity"], chosen.get("clock"))
+    return Outcome(0, line.encode(), b""), drawing.text()

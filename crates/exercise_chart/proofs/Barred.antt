@@ -285,31 +285,31 @@ ahead_is : (c : SceneData) (change : Option ℕ) (k : ℕ) → is_ahead (option_
 ahead_is c None k = refl
 ahead_is c (Some i) k = refl
 
-bar_said : (r : PlainRecording) (steps : List Step) (w : Rows) (s slot : ℕ) (x : Span) → SpanSaid r steps s x → HasState r steps (bar_of (scene_of r steps w) s slot x)
-bar_said r steps w s slot x said = record {
+bar_said : (r : PlainRecording) (steps : List Step) (w : Rows) (chosen : List EntityId) (s slot : ℕ) (x : Span) → SpanSaid r steps s x → HasState r steps (bar_of (scene_of r steps w chosen) s slot x)
+bar_said r steps w chosen s slot x said = record {
   after = λ k within covering.
-      let parts = and_parts (is_done (option_map (point_in (scene_of r steps w)) x.from) k) _ covering in
-      said k within (sym (done_is (scene_of r steps w) x.from k) ∙ parts.0) (sym (ahead_is (scene_of r steps w) x.to k) ∙ parts.1);
+      let parts = and_parts (is_done (option_map (point_in (scene_of r steps w chosen)) x.from) k) _ covering in
+      said k within (sym (done_is (scene_of r steps w chosen) x.from k) ∙ parts.0) (sym (ahead_is (scene_of r steps w chosen) x.to k) ∙ parts.1);
 }
 
-bars_said : (r : PlainRecording) (steps : List Step) (w : Rows) (s : ℕ) (l : BarSlots) (xs : List Span) → All (SpanSaid r steps s) xs
-    → All (HasState r steps) (bars_from (scene_of r steps w) s l xs)
+bars_said : (r : PlainRecording) (steps : List Step) (w : Rows) (chosen : List EntityId) (s : ℕ) (l : BarSlots) (xs : List Span) → All (SpanSaid r steps s) xs
+    → All (HasState r steps) (bars_from (scene_of r steps w chosen) s l xs)
 unfolding bars_from
-bars_said r steps w s l [] said = All-nil (HasState r steps)
-bars_said r steps w s l (x ∷ xs) said =
+bars_said r steps w chosen s l [] said = All-nil (HasState r steps)
+bars_said r steps w chosen s l (x ∷ xs) said =
     elim (is_shown c x) as (λ b. All (HasState r steps) (if b then bars_in c s (next_slots l x.entity.entity) x ++ bars_from c s (next_slots l x.entity.entity) xs else bars_from c s l xs)) [
-      | false ↦ bars_said r steps w s l xs (All-tail (SpanSaid r steps s) x xs said)
+      | false ↦ bars_said r steps w chosen s l xs (All-tail (SpanSaid r steps s) x xs said)
       | true ↦ All-append (HasState r steps) (bars_in c s (next_slots l x.entity.entity) x) (bars_from c s (next_slots l x.entity.entity) xs)
-          (one (next_slots l x.entity.entity)) (bars_said r steps w s (next_slots l x.entity.entity) xs (All-tail (SpanSaid r steps s) x xs said))
+          (one (next_slots l x.entity.entity)) (bars_said r steps w chosen s (next_slots l x.entity.entity) xs (All-tail (SpanSaid r steps s) x xs said))
     ]
   where
     c : SceneData
-    c = scene_of r steps w
+    c = scene_of r steps w chosen
 
     one : (m : BarSlots) → All (HasState r steps) (bars_in c s m x)
     one m =
         elim (nat_le m.used MOST_ENTITIES) as (λ b. All (HasState r steps) (if b then bar_of c s (m.used - 1) x ∷ [] else [])) [
-          | true ↦ All-cons (HasState r steps) (bar_of c s (m.used - 1) x) [] (bar_said r steps w s (m.used - 1) x (All-head (SpanSaid r steps s) x xs said)) (All-nil (HasState r steps))
+          | true ↦ All-cons (HasState r steps) (bar_of c s (m.used - 1) x) [] (bar_said r steps w chosen s (m.used - 1) x (All-head (SpanSaid r steps s) x xs said)) (All-nil (HasState r steps))
           | false ↦ All-nil (HasState r steps)
         ]
 
@@ -321,9 +321,9 @@ spans_said r steps s good named states =
     All-map (SpanSaid r steps s) (span_of r id) (lives_of r s (n + 1)) (stretches_said r steps s (n + 1) good named states))
 
 -- THE BARS HAVE THE STATES of their entities
-pub bars_have_states : (r : PlainRecording) (steps : List Step) (w : Rows) → IsGood r steps → AreNamedOnce r steps → AreStatesOf r
-    → All (HasState r steps) (bars_of (scene_of r steps w))
+pub bars_have_states : (r : PlainRecording) (steps : List Step) (w : Rows) (chosen : List EntityId) → IsGood r steps → AreNamedOnce r steps → AreStatesOf r
+    → All (HasState r steps) (bars_of (scene_of r steps w chosen))
 unfolding bars_of station_bars
-bars_have_states r steps w good named states =
-    all_below (HasState r steps) (station_bars (scene_of r steps w)) (length r.setting.stations)
-    (λ s _. bars_said r steps w s no_slots (spans_of r s) (spans_said r steps s good named states))
+bars_have_states r steps w chosen good named states =
+    all_below (HasState r steps) (station_bars (scene_of r steps w chosen)) (length r.setting.stations)
+    (λ s _. bars_said r steps w chosen s no_slots (spans_of r s) (spans_said r steps s good named states))

@@ -24,6 +24,7 @@ use Rattle.exercise_check.proofs.Offered.{entry_within, good_step}
 use Rattle.exercise_findings.proofs.Offered.{source_here}
 use Rattle.exercise_check.specs.Links.{log_link, step_at, IsNamedOnce}
 use Rattle.exercise_review.specs.Room.{lists_below}
+use Rattle.dis_records.specs.declared.entity.EntityId.{EntityId}
 use Rattle.exercise_chart.specs.declared.point.Rows.{Rows}
 use Rattle.exercise_chart.specs.declared.arrow.Arrow.{Arrow}
 use Rattle.exercise_chart.specs.Window.{is_row}
@@ -163,18 +164,18 @@ AreNamedOnce r steps = (i : ℕ) → i < length r.entries → IsNamedOnce steps 
 abbrev pub AreLinked : PlainRecording → List Step → Type 0
 AreLinked r steps = (k : ℕ) → k < length steps → (step_at steps k).link ≡ link_number (log_link r (step_at steps k).place)
 
-arrow_down : (r : PlainRecording) (steps : List Step) (w : Rows) (i : ℕ) → IsRecording r → IsGood r steps
+arrow_down : (r : PlainRecording) (steps : List Step) (w : Rows) (chosen : List EntityId) (i : ℕ) → IsRecording r → IsGood r steps
     → AreNamedOnce r steps → AreLinked r steps
-    → i < length r.entries → All (LeadsDown r steps w) (arrows_to (scene_of r steps w) i)
+    → i < length r.entries → All (LeadsDown r steps w) (arrows_to (scene_of r steps w chosen) i)
 unfolding arrow_to
-arrow_down r steps w i limits good once said within =
+arrow_down r steps w chosen i limits good once said within =
     elim (source_of r i) as (λ o. source_of r i ≡ o → All (LeadsDown r steps w) (option_to_list (option_and_then (arrow_from c i) o))) [
       | None ↦ λ _. All-nil (LeadsDown r steps w)
       | Some j ↦ λ source. from j source
     ] refl
   where
     c : SceneData
-    c = scene_of r steps w
+    c = scene_of r steps w chosen
 
     from : (j : ℕ) → source_of r i ≡ Some j → All (LeadsDown r steps w) (option_to_list (arrow_from c i j))
     from j source =
@@ -204,12 +205,12 @@ contains_below f (suc n) k x within has =
     (cases_lt k n)
 
 -- THE ARROWS LEAD DOWN
-pub arrows_down : (r : PlainRecording) (steps : List Step) (w : Rows) → IsRecording r → IsGood r steps
+pub arrows_down : (r : PlainRecording) (steps : List Step) (w : Rows) (chosen : List EntityId) → IsRecording r → IsGood r steps
     → AreNamedOnce r steps → AreLinked r steps
-    → All (LeadsDown r steps w) (arrows_of (scene_of r steps w))
+    → All (LeadsDown r steps w) (arrows_of (scene_of r steps w chosen))
 unfolding arrows_of
-arrows_down r steps w limits good once said =
-    all_below (LeadsDown r steps w) (arrows_to (scene_of r steps w)) (length r.entries) (λ i within. arrow_down r steps w i limits good once said within)
+arrows_down r steps w chosen limits good once said =
+    all_below (LeadsDown r steps w) (arrows_to (scene_of r steps w chosen)) (length r.entries) (λ i within. arrow_down r steps w chosen i limits good once said within)
 
 source_entry : (r : PlainRecording) (i j : ℕ) → source_of r i ≡ Some j → i < length r.entries
 unfolding source_of
@@ -220,16 +221,16 @@ source_entry r i j =
     ] refl
 
 -- OF EACH RECEIPT WITH A SOURCE there is one, where one of the two is in a row
-pub arrow_drawn : (r : PlainRecording) (steps : List Step) (w : Rows) (j i : ℕ) → source_of r i ≡ Some j
+pub arrow_drawn : (r : PlainRecording) (steps : List Step) (w : Rows) (chosen : List EntityId) (j i : ℕ) → source_of r i ≡ Some j
     → (is_row w (step_of r steps j) || is_row w (step_of r steps i)) ≡ true
-    → Contains (arrows_of (scene_of r steps w)) (arrow_between (scene_of r steps w) j i)
+    → Contains (arrows_of (scene_of r steps w chosen)) (arrow_between (scene_of r steps w chosen) j i)
 unfolding arrows_of arrow_to
-arrow_drawn r steps w j i source shown =
+arrow_drawn r steps w chosen j i source shown =
     contains_below (arrows_to c) (length r.entries) i (arrow_between c j i) (source_entry r i j source)
     (subst (λ xs. Contains xs (arrow_between c j i)) (sym is) (Contains-append_right [] (arrow_between c j i ∷ []) (arrow_between c j i) (first (arrow_between c j i))))
   where
     c : SceneData
-    c = scene_of r steps w
+    c = scene_of r steps w chosen
 
     is : option_to_list (option_and_then (arrow_from c i) (source_of r i)) ≡ arrow_between c j i ∷ []
     is = ap (λ o. option_to_list (option_and_then (arrow_from c i) o)) source ∙ ap (λ (t : Bool). option_to_list (if t then Some (arrow_between c j i) else None)) shown

@@ -1,6 +1,6 @@
 -- The marks of a recording are of its stations.
-use Rattle.std.proofs.Common.{◌≡◌, ℕ, zero, suc, ◌+◌, ◌<◌, List, [], length, Bool, true, false, Some, None, refl, arith}
-use Rattle.std.specs.Prelude.{All, slice_get, option_map, option_and_then, if◌then◌else◌}
+use Rattle.std.proofs.Common.{◌≡◌, ℕ, zero, suc, ◌+◌, ◌-◌, ◌<◌, List, [], ◌∷◌, length, Bool, true, false, Some, None, refl, arith}
+use Rattle.std.specs.Prelude.{All, slice_get, option_map, option_and_then, nat_le, if◌then◌else◌}
 use Rattle.std.specs.Option.{option_to_list}
 use Rattle.std.proofs.lemmas.List.Elements.{All-nil, All-cons, All-append}
 use Rattle.siman_pdus.specs.declared.pdu.Pdu.{Pdu}
@@ -11,6 +11,9 @@ use Rattle.exercise_model.specs.Recording.{PlainRecording, IsRecording}
 use Rattle.exercise_model.proofs.Offered.{entry_station}
 use Rattle.exercise_check.specs.declared.certificate.Step.{Step}
 use Rattle.exercise_review.specs.Room.{lists_below}
+use Rattle.dis_records.specs.declared.entity.EntityId.{EntityId}
+use Rattle.exercise_chart.specs.declared.bar.TheConstants.{MOST_ENTITIES}
+use Rattle.exercise_chart.specs.declared.bar.Undrawn.{Undrawn}
 use Rattle.exercise_chart.specs.declared.loss.Loss.{Loss}
 use Rattle.exercise_chart.specs.declared.point.Rows.{Rows}
 use Rattle.exercise_chart.specs.declared.row.Row.{Row}
@@ -18,6 +21,7 @@ use Rattle.exercise_chart.specs.Point.{place_at}
 use Rattle.exercise_chart.specs.Deeds.{first_sent}
 use Rattle.exercise_chart.specs.Row.{row_of, row_taking, row_at, row_count, row_shown, rows_of}
 use Rattle.exercise_chart.specs.Loss.{is_lost_at, loss_of, loss_of_first, loss_entry, loss_taken, loss_at, losses_to, losses_at, losses_shown, losses_of}
+use Rattle.exercise_chart.specs.Bar.{undrawn_of, entities_shown, station_undrawn, all_undrawn}
 use Rattle.exercise_chart.specs.Marks.{scene_of, marks_of}
 use Rattle.exercise_chart.specs.Saying.{pdu_summary}
 use Rattle.exercise_chart.specs.Scene.{SceneData, point_in}
@@ -109,7 +113,30 @@ losses_there c =
     (λ k _. all_below (IsLossOf (length c.recording.setting.stations)) (losses_to c (c.rows.first + k)) (length c.recording.setting.stations)
     (λ t within. loss_there c (c.rows.first + k) t (length c.recording.setting.stations) within))
 
+-- ---- entities without a bar
+
+abbrev pub IsUndrawnOf : ℕ → Undrawn → Type 0
+IsUndrawnOf n undrawn = undrawn.station < n
+
+undrawn_of_station : (s n entities : ℕ) → s < n → All (IsUndrawnOf n) (undrawn_of s entities)
+undrawn_of_station s n entities within =
+    elim (nat_le entities MOST_ENTITIES) as
+    (λ (few : Bool). All (IsUndrawnOf n) (if few then [] else record { station = s; entities = entities - MOST_ENTITIES } ∷ [])) [
+      | true ↦ All-nil (IsUndrawnOf n)
+      | false ↦ All-cons (IsUndrawnOf n) (record { station = s; entities = entities - MOST_ENTITIES }) [] within (All-nil (IsUndrawnOf n))
+    ]
+
+undrawn_there : (c : SceneData) → All (IsUndrawnOf (length c.recording.setting.stations)) (all_undrawn c)
+unfolding all_undrawn
+undrawn_there c =
+    all_below (IsUndrawnOf (length c.recording.setting.stations)) (station_undrawn c) (length c.recording.setting.stations)
+    (λ s within. undrawn_of_station s (length c.recording.setting.stations) (entities_shown c s) within)
+
 -- THE MARKS OF A RECORDING ARE OF ITS STATIONS
-pub marks_are_of_stations : (r : PlainRecording) (steps : List Step) (w : Rows) → IsRecording r
-    → AreOfStations (length r.setting.stations) (marks_of r steps w)
-marks_are_of_stations r steps w limits = record { rows = rows_there (scene_of r steps w) limits; losses = losses_there (scene_of r steps w) }
+pub marks_are_of_stations : (r : PlainRecording) (steps : List Step) (w : Rows) (chosen : List EntityId) → IsRecording r
+    → AreOfStations (length r.setting.stations) (marks_of r steps w chosen)
+marks_are_of_stations r steps w chosen limits = record {
+  rows = rows_there (scene_of r steps w chosen) limits;
+  losses = losses_there (scene_of r steps w chosen);
+  undrawn = undrawn_there (scene_of r steps w chosen);
+}

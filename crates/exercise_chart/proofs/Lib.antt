@@ -2,6 +2,7 @@ mod Lists
 mod Firsts
 mod Stations
 mod Steps
+mod Stamps
 mod Shown
 mod Downwards
 mod Lives

@@ -1,14 +1,17 @@
 -- The bars of a picture: the states of the stations' entities over the steps (profile).
-use Rattle.std.specs.Prelude.{◌≡◌, ℕ, ◌+◌, ◌-◌, ◌<◌, List, [], ◌∷◌, ◌++◌, length, Bool, true, ◌&&◌, nat_lt, nat_le, Option, Some, None, option_map, Result, Ok, Err, Vec, if◌then◌else◌}
-use Rattle.std.specs.declared.alloc.Global.{Global}
+use Rattle.std.specs.Prelude.{◌≡◌, ℕ, ◌+◌, ◌-◌, ◌<◌, List, [], ◌∷◌, ◌++◌, length, Bool, true, false, ◌&&◌, ◌||◌, nat_lt, nat_le, Option, Some, None, option_map, Result, Ok, Err, if◌then◌else◌}
 use Rattle.std.specs.Option.{option_map_or}
+use Rattle.dis_records.specs.declared.entity.EntityId.{EntityId}
 use Rattle.siman_pdus.specs.Answers.{same_id}
 use Rattle.exercise_model.specs.Recording.{PlainRecording}
 use Rattle.exercise_review.specs.declared.span.Span.{Span}
+use Rattle.exercise_review.specs.Filter.{same_entity}
 use Rattle.exercise_review.specs.Span.{spans_of}
 use Rattle.exercise_review.specs.Room.{lists_below}
 use Rattle.exercise_chart.specs.declared.bar.Bar.{Bar}
 use Rattle.exercise_chart.specs.declared.bar.BarSlots.{BarSlots}
+use Rattle.exercise_chart.specs.declared.bar.EntityBars.{EntityBars}
+use Rattle.exercise_chart.specs.declared.bar.Undrawn.{Undrawn}
 use Rattle.exercise_chart.specs.declared.bar.TheConstants.{MOST_ENTITIES, MOST_STRETCHES}
 use Rattle.exercise_chart.specs.declared.fault.ChartFault.{ChartFault}
 use Rattle.exercise_chart.specs.declared.fault.ChartFault.TheVariants.{OverLimit, Memory}
@@ -23,9 +26,19 @@ began c x = option_map_or (λ i. nat_lt (step_of c.recording c.steps i) c.rows.e
 abbrev pub reaches : SceneData → Span → Bool
 reaches c x = option_map_or (λ i. nat_le c.rows.first (step_of c.recording c.steps i)) x.to true
 
+-- an entity is among these
+abbrev pub is_among : List EntityId → EntityId → Bool
+is_among [] id = false
+is_among (x ∷ xs) id = same_entity x id || is_among xs id
+
+-- an entity is chosen: it is among these, or these are none
+abbrev pub is_chosen : List EntityId → EntityId → Bool
+is_chosen [] id = true
+is_chosen (x ∷ xs) id = is_among (x ∷ xs) id
+
 -- A SPAN IS SHOWN
 abbrev pub is_shown : SceneData → Span → Bool
-is_shown c x = began c x && reaches c x
+is_shown c x = is_chosen c.chosen x.entity && (began c x && reaches c x)
 
 -- no entity has a slot yet
 abbrev pub no_slots : BarSlots
@@ -56,7 +69,27 @@ bars_from c s l [] = []
 bars_from c s l (x ∷ xs) =
     if is_shown c x then bars_in c s (next_slots l x.entity.entity) x ++ bars_from c s (next_slots l x.entity.entity) xs else bars_from c s l xs
 
--- THE BARS OF STATION s: the shown spans of the 8 least entities that have one
+-- the slots after spans that are sorted by entity, given the slots used before them
+unfoldable pub slots_after : SceneData → BarSlots → List Span → BarSlots
+slots_after c l [] = l
+slots_after c l (x ∷ xs) = if is_shown c x then slots_after c (next_slots l x.entity.entity) xs else slots_after c l xs
+
+-- the mark of a station n of whose entities have a shown span: how many of them have no bar, if any
+abbrev pub undrawn_of : (s n : ℕ) → List Undrawn
+undrawn_of s n = if nat_le n MOST_ENTITIES then [] else record { station = s; entities = n - MOST_ENTITIES } ∷ []
+
+-- HOW MANY ENTITIES OF STATION s HAVE A SHOWN SPAN
+unfoldable pub entities_shown : SceneData → ℕ → ℕ
+entities_shown c s = (slots_after c no_slots (spans_of c.recording s)).used
+
+abbrev pub station_undrawn : SceneData → ℕ → List Undrawn
+station_undrawn c s = undrawn_of s (entities_shown c s)
+
+-- THE STATIONS THAT HAVE MORE ENTITIES WITH A SHOWN SPAN THAN BARS ARE DRAWN FOR, each with how many more
+unfoldable pub all_undrawn : SceneData → List Undrawn
+all_undrawn c = lists_below (station_undrawn c) (length c.recording.setting.stations)
+
+-- THE BARS OF STATION s: the shown spans of the 8 least chosen entities that have one
 unfoldable pub station_bars : SceneData → ℕ → List Bar
 station_bars c s = bars_from c s no_slots (spans_of c.recording s)
 
@@ -77,8 +110,12 @@ Adds r old added (Ok x) new = new ≡ old ++ added
 Adds r old added (Err OverLimit) new = IsOverfull r
 Adds r old added (Err Memory) new = Unit {0}
 
--- the result of a function that makes a list of bars
-abbrev pub Makes : PlainRecording → List Bar → Result (Vec Bar Global) ChartFault → Type 0
-Makes r bars (Ok made) = made.items ≡ bars
-Makes r bars (Err OverLimit) = IsOverfull r
-Makes r bars (Err Memory) = Unit {0}
+-- these bars, and these entities without one
+abbrev pub AreBars : SceneData → EntityBars → Type 0
+AreBars c made = (made.bars.items ≡ bars_of c) × (made.undrawn.items ≡ all_undrawn c)
+
+-- the result of a function that makes the bars of a scene
+abbrev pub Makes : SceneData → Result EntityBars ChartFault → Type 0
+Makes c (Ok made) = AreBars c made
+Makes c (Err OverLimit) = IsOverfull c.recording
+Makes c (Err Memory) = Unit {0}

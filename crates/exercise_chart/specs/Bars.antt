@@ -1,14 +1,19 @@
--- Bars: the spans of the entities' lives (profile).
+-- Bars: the spans of the entities' lives, and how many entities have none (profile).
 use Rattle.std.specs.Prelude.{ℕ, ◌+◌, ◌-◌, List, [], ◌∷◌, ◌++◌, codes, decimal, Option, Some, None, if◌then◌else◌}
 use Rattle.std.specs.List.{flat_map}
 use Rattle.dis_records.specs.Texts.{entity_text, state_text}
 use Rattle.dis_records.specs.declared.entity_state.EntityState.{EntityState}
 use Rattle.dis_records.specs.declared.entity_state.EntityState.TheVariants as states
+use Rattle.exercise_model.specs.Recording.{PlainRecording}
+use Rattle.exercise_model.specs.History.{station_at}
+use Rattle.siman_print.specs.Spelled.{address_text}
 use Rattle.exercise_chart.specs.declared.bar.Bar.{Bar}
+use Rattle.exercise_chart.specs.declared.bar.Undrawn.{Undrawn}
+use Rattle.exercise_chart.specs.declared.bar.TheConstants.{MOST_ENTITIES}
 use Rattle.exercise_chart.specs.declared.point.Point.{Point}
 use Rattle.exercise_chart.specs.declared.frame.Frame.{Frame}
-use Rattle.exercise_chart.specs.Element.{element_text, words_text, number, word}
-use Rattle.exercise_chart.specs.Frame.{is_wide, slot_x, since_y, until_y}
+use Rattle.exercise_chart.specs.Element.{element_text, begun_words, words_text, number, word}
+use Rattle.exercise_chart.specs.Frame.{is_wide, slot_x, top_y, since_y, until_y}
 
 -- green for Running, else amber
 abbrev pub state_colour : EntityState → List ℕ
@@ -44,6 +49,13 @@ bar_name_text f b =
 abbrev pub bar_text : Frame → Bar → List ℕ
 bar_text f b = stretch_text f b ++ bar_name_text f b
 
+-- +N MORE: how many entities of a station have no bar, at the upper end to the right of its bars
+abbrev pub undrawn_text : Frame → PlainRecording → Undrawn → List ℕ
+undrawn_text f r u =
+    begun_words (number (codes "x") (slot_x f u.station MOST_ENTITIES) ∷ number (codes "y") (top_y + 7) ∷ word (codes "class") (codes "undrawn")
+    ∷ word (codes "data-at") (address_text (station_at r u.station).address) ∷ number (codes "data-entities") u.entities ∷ [])
+    ++ codes "+" ++ decimal u.entities ++ codes " more</text>\n"
+
 -- the font size; the numbers run vertically, since the bars are narrow
 abbrev pub font_of : Frame → List ℕ
 font_of f = if is_wide f then codes "12" else codes "8"
@@ -51,6 +63,12 @@ font_of f = if is_wide f then codes "12" else codes "8"
 abbrev pub bars_begin : Frame → List ℕ
 bars_begin f = codes "<g fill=\"#1f2933\" writing-mode=\"vertical-rl\" font-size=\"" ++ font_of f ++ codes "\">\n"
 
--- THE BARS
-unfoldable pub bars_text : Frame → List Bar → List ℕ
-bars_text f bars = bars_begin f ++ flat_map (bar_text f) bars ++ codes "</g>\n"
+unfoldable pub all_bars_text : Frame → List Bar → List ℕ
+all_bars_text f bars = flat_map (bar_text f) bars
+
+unfoldable pub all_undrawn_text : Frame → PlainRecording → List Undrawn → List ℕ
+all_undrawn_text f r undrawn = flat_map (undrawn_text f r) undrawn
+
+-- THE BARS, and the entities without one
+unfoldable pub bars_text : Frame → PlainRecording → List Bar → List Undrawn → List ℕ
+bars_text f r bars undrawn = bars_begin f ++ all_bars_text f bars ++ all_undrawn_text f r undrawn ++ codes "</g>\n"

@@ -3,6 +3,7 @@ use Rattle.std.specs.Prelude.{ℕ, List, ◌++◌, codes, decimal}
 use Rattle.std.specs.List.{flat_map}
 use Rattle.dis_records.specs.Texts.{entity_text, state_text}
 use Rattle.siman_print.specs.Spelled.{address_text}
+use Rattle.exercise_chart.specs.Clock.{clock_text}
 use Rattle.exercise_chart.specs.declared.element.Attribute.{Attribute}
 use Rattle.exercise_chart.specs.declared.element.Shown.{Shown}
 use Rattle.exercise_chart.specs.declared.element.Shown.TheVariants as shown
@@ -44,6 +45,7 @@ shown_text (shown.Entity id) = entity_text id
 shown_text (shown.State state) = state_text state
 shown_text (shown.Address address) = address_text address
 shown_text (shown.SiteApplication outsider) = address_text outsider
+shown_text (shown.Clock unit stamp) = clock_text unit stamp
 shown_text shown.Missing = codes "-"
 
 -- the key and the text of an attribute

@@ -2,6 +2,8 @@
 -- (profile).
 use Rattle.std.specs.Prelude.{ℕ, ◌+◌, ◌-◌, ◌*◌, ◌/◌, min, Bool, nat_le, nat_lt, Option, Some, None, if◌then◌else◌}
 use Rattle.exercise_chart.specs.declared.bar.TheConstants.{MOST_ENTITIES}
+use Rattle.exercise_chart.specs.declared.clock.ClockUnit.{ClockUnit}
+use Rattle.exercise_chart.specs.declared.clock.ClockUnit.TheVariants as units
 use Rattle.exercise_chart.specs.declared.marks.TheConstants.{MOST_ROWS}
 use Rattle.exercise_chart.specs.declared.point.Point.{Point}
 use Rattle.exercise_chart.specs.declared.frame.Frame.{Frame}
@@ -17,9 +19,28 @@ is_wide f = nat_le f.stations 4
 unfoldable pub column_x : Frame → (s : ℕ) → ℕ
 column_x f s = if is_wide f then LEFT + 120 * s else LEFT + 72 * s
 
--- the left end of the words of the rows: the place of one more column
+-- the left end of the rows' steps and words: the place of one more column
+abbrev pub rows_x : Frame → ℕ
+rows_x f = column_x f f.stations
+
+-- the right end of the steps' numbers
+abbrev pub step_x : Frame → ℕ
+step_x f = rows_x f + 48
+
+-- the left end of the clocks
+abbrev pub clock_x : Frame → ℕ
+clock_x f = step_x f + 12
+
+-- the width of the column of clocks, which only a picture with a clock has
+abbrev pub clock_width : Option ClockUnit → ℕ
+clock_width (Some units.Microsecond) = 96
+clock_width (Some units.Millisecond) = 78
+clock_width (Some units.Second) = 60
+clock_width None = 0
+
+-- the left end of the words of the rows
 abbrev pub words_x : Frame → ℕ
-words_x f = column_x f f.stations
+words_x f = clock_x f + clock_width f.clock
 
 unfoldable pub width_of : Frame → ℕ
 width_of f = words_x f + 480

@@ -1,6 +1,7 @@
 pub mod Window
 pub mod Point
 pub mod Deeds
+pub mod Clock
 pub mod Scene
 pub mod Saying
 pub mod Row
@@ -17,6 +18,7 @@ pub mod Tone
 pub mod Words
 pub mod Rows
 pub mod Lines
+pub mod Slot
 pub mod Signs
 pub mod Bars
 pub mod Columns

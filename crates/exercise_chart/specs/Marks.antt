@@ -1,5 +1,6 @@
 -- THE MARKS OF A PICTURE of a range of steps of a certificate of a recording (profile).
 use Rattle.std.specs.Prelude.{◌≡◌, ℕ, ◌<◌, ◌⊎◌, List, Result, Ok, Err}
+use Rattle.dis_records.specs.declared.entity.EntityId.{EntityId}
 use Rattle.exercise_model.specs.Recording.{PlainRecording}
 use Rattle.exercise_check.specs.declared.certificate.Step.{Step}
 use Rattle.exercise_chart.specs.declared.point.Point.{Point}
@@ -9,6 +10,7 @@ use Rattle.exercise_chart.specs.declared.arrow.Arrow.{Arrow}
 use Rattle.exercise_chart.specs.declared.outside.OutsideReceipt.{OutsideReceipt}
 use Rattle.exercise_chart.specs.declared.loss.Loss.{Loss}
 use Rattle.exercise_chart.specs.declared.bar.Bar.{Bar}
+use Rattle.exercise_chart.specs.declared.bar.Undrawn.{Undrawn}
 use Rattle.exercise_chart.specs.declared.marks.Marks.{Marks}
 use Rattle.exercise_chart.specs.declared.marks.TheConstants.{MOST_ROWS}
 use Rattle.exercise_chart.specs.declared.fault.ChartFault.{ChartFault}
@@ -18,7 +20,7 @@ use Rattle.exercise_chart.specs.Row.{row_count, rows_of}
 use Rattle.exercise_chart.specs.Arrow.{arrows_of}
 use Rattle.exercise_chart.specs.Outside.{outside_receipts}
 use Rattle.exercise_chart.specs.Loss.{losses_of}
-use Rattle.exercise_chart.specs.Bar.{bars_of, IsOverfull}
+use Rattle.exercise_chart.specs.Bar.{bars_of, all_undrawn, IsOverfull}
 use Rattle.exercise_chart.specs.Unanswered.{unanswered_of}
 
 -- | Mark       | One for each                                                                                                              |
@@ -27,7 +29,8 @@ use Rattle.exercise_chart.specs.Unanswered.{unanswered_of}
 -- | arrow      | receipt with its source, at least one of them in a row                                                                    |
 -- | outside    | receipt, in a row, from an address that nobody recorded, with that address                                                |
 -- | loss       | first send of its bytes, in a row, and other recorded station that it is addressed to and that never received it          |
--- | bar        | span that began in the last row or before and did not end before the first, of the 8 least entities of a station that have one |
+-- | bar        | span that began in the last row or before and did not end before the first, of the 8 least chosen entities of a station that have one |
+-- | undrawn    | station more than 8 of whose chosen entities have such a span, with how many more                                           |
 -- | unanswered | first receipt, in a row, of a request at a receiver whose fate there is unanswered                                        |
 pub record MarksData : Type 0 where
   pub rows : List Row
@@ -35,6 +38,7 @@ pub record MarksData : Type 0 where
   pub outside : List OutsideReceipt
   pub losses : List Loss
   pub bars : List Bar
+  pub undrawn : List Undrawn
   pub unanswered : List Point
 
 abbrev pub marks_in : SceneData → MarksData
@@ -44,15 +48,17 @@ marks_in c = record {
   outside = outside_receipts c;
   losses = losses_of c;
   bars = bars_of c;
+  undrawn = all_undrawn c;
   unanswered = unanswered_of c;
 }
 
-abbrev pub scene_of : PlainRecording → List Step → Rows → SceneData
-scene_of r steps rows = record { recording = r; steps = steps; rows = rows }
+abbrev pub scene_of : PlainRecording → List Step → Rows → (chosen : List EntityId) → SceneData
+scene_of r steps rows chosen = record { recording = r; steps = steps; rows = rows; chosen = chosen }
 
--- THE MARKS of a range of steps of a certificate
-abbrev pub marks_of : PlainRecording → List Step → Rows → MarksData
-marks_of r steps rows = marks_in (scene_of r steps rows)
+-- THE MARKS of a range of steps of a certificate, with bars of the chosen entities, or of all where
+-- none is chosen
+abbrev pub marks_of : PlainRecording → List Step → Rows → (chosen : List EntityId) → MarksData
+marks_of r steps rows chosen = marks_in (scene_of r steps rows chosen)
 
 -- the marks in a value of the program
 abbrev pub marks_data : Marks → MarksData
@@ -62,6 +68,7 @@ marks_data m = record {
   outside = m.outside.items;
   losses = m.losses.items;
   bars = m.bars.items;
+  undrawn = m.undrawn.items;
   unanswered = m.unanswered.items;
 }
 

@@ -14,6 +14,7 @@ use Rattle.exercise_chart.specs.declared.row.Activity.{Activity}
 use Rattle.exercise_chart.specs.declared.row.Activity.TheVariants as deeds
 use Rattle.exercise_chart.specs.declared.row.Row.{Row}
 use Rattle.exercise_chart.specs.Point.{place_at}
+use Rattle.exercise_chart.specs.Clock.{entry_stamp}
 use Rattle.exercise_chart.specs.Deeds.{first_sent}
 use Rattle.exercise_chart.specs.Saying.{pdu_summary}
 use Rattle.exercise_chart.specs.Scene.{SceneData}
@@ -45,7 +46,7 @@ activity_of c i (Told s e y) = deeds.Told e y
 
 -- the row of a step that takes entry i
 abbrev pub row_of : SceneData → (step i : ℕ) → Entry → Row
-row_of c step i e = record { at = record { entry = i; step = step; station = station_of (event_of e) }; did = activity_of c i e }
+row_of c step i e = record { at = record { entry = i; step = step; station = station_of (event_of e) }; did = activity_of c i e; stamp = entry_stamp c.recording i }
 
 abbrev pub row_taking : SceneData → (step i : ℕ) → Option Row
 row_taking c step i = option_map (row_of c step i) (slice_get c.recording.entries i)

@@ -1,22 +1,40 @@
--- The rows of a picture, in words (profile).
-use Rattle.std.specs.Prelude.{ℕ, ◌+◌, ◌-◌, List, [], ◌∷◌, ◌++◌, codes}
+-- The rows of a picture: the number of the step, the clock, and the entry in words (profile).
+use Rattle.std.specs.Prelude.{ℕ, ◌+◌, ◌-◌, List, [], ◌∷◌, ◌++◌, codes, decimal}
 use Rattle.std.specs.List.{flat_map}
+use Rattle.std.specs.Option.{option_map_or}
 use Rattle.exercise_model.specs.Recording.{PlainRecording}
 use Rattle.exercise_model.specs.History.{station_at}
+use Rattle.exercise_chart.specs.Clock.{clock_text}
+use Rattle.exercise_chart.specs.declared.clock.ClockUnit.{ClockUnit}
 use Rattle.exercise_chart.specs.declared.row.Row.{Row}
 use Rattle.siman_print.specs.declared.spelling.Spelling.TheVariants.{Text}
 use Rattle.siman_print.specs.Line.{Number, Word, Bare}
 use Rattle.siman_print.specs.Spelled.{address_text, field_text, fields_spelled}
 use Rattle.exercise_chart.specs.declared.frame.Frame.{Frame}
-use Rattle.exercise_chart.specs.Element.{element_text, begun_words, number, word}
-use Rattle.exercise_chart.specs.Frame.{words_x, step_y}
+use Rattle.exercise_chart.specs.Element.{element_text, begun_words, words_text, number, word}
+use Rattle.exercise_chart.specs.Frame.{rows_x, step_x, clock_x, words_x, step_y}
 use Rattle.exercise_chart.specs.Words.{activity_words}
 
--- the horizontal rule, at height y, that leads to the words of a row
+-- the horizontal rule, at height y, that leads to the step and the words of a row
 unfoldable pub rule_text : Frame → (y : ℕ) → List ℕ
 rule_text f y =
     element_text (codes "line")
-    (number (codes "x1") 16 ∷ number (codes "y1") y ∷ number (codes "x2") (words_x f - 8) ∷ number (codes "y2") y ∷ word (codes "stroke") (codes "#e2e8f0") ∷ [])
+    (number (codes "x1") 16 ∷ number (codes "y1") y ∷ number (codes "x2") (rows_x f - 8) ∷ number (codes "y2") y ∷ word (codes "stroke") (codes "#e2e8f0") ∷ [])
+
+-- the number of a step, as `from=` and `to=` count steps, at height y
+unfoldable pub step_text : Frame → (y step : ℕ) → List ℕ
+step_text f y step =
+    words_text (number (codes "x") (step_x f) ∷ number (codes "y") y ∷ word (codes "text-anchor") (codes "end") ∷ []) (decimal step)
+
+-- the time of day of an entry
+abbrev pub clock_words : Frame → (y : ℕ) → Row → ClockUnit → List ℕ
+clock_words f y row unit =
+    words_text (number (codes "x") (clock_x f) ∷ number (codes "y") y ∷ word (codes "class") (codes "clock")
+    ∷ number (codes "data-entry") row.at.entry ∷ number (codes "data-stamp") row.stamp ∷ []) (clock_text unit row.stamp)
+
+-- the time of day of an entry, in the row at height y, if the picture has a clock
+unfoldable pub row_clock_text : Frame → (y : ℕ) → Row → List ℕ
+row_clock_text f y row = option_map_or (λ unit. clock_words f y row unit) f.clock []
 
 -- ENTRY ADDRESS, and what the station did
 unfoldable pub row_words : PlainRecording → Row → List ℕ
@@ -25,10 +43,10 @@ row_words r row =
     ++ fields_spelled Text (Bare (codes "address") (Word (address_text (station_at r row.at.station).address)) ∷ [])
     ++ activity_words (station_at r row.at.station).address row.did
 
--- A ROW: its rule, and its words, which carry the row's attributes
+-- A ROW: its rule, its step, its clock, and its words, which carry the row's attributes
 abbrev pub row_text : Frame → PlainRecording → Row → List ℕ
 row_text f r row =
-    rule_text f (step_y f row.at.step)
+    rule_text f (step_y f row.at.step) ++ step_text f (step_y f row.at.step + 4) row.at.step ++ row_clock_text f (step_y f row.at.step + 4) row
     ++ begun_words (number (codes "x") (words_x f) ∷ number (codes "y") (step_y f row.at.step + 4) ∷ word (codes "class") (codes "row")
     ∷ number (codes "data-step") row.at.step ∷ number (codes "data-entry") row.at.entry ∷ [])
     ++ row_words r row ++ codes "</text>\n"

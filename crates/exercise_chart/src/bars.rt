@@ -1,14 +1,16 @@
-//! Bars: the spans of the entities' lives.
+//! Bars: the spans of the entities' lives, and how many entities have none.
 
-ghost use Rattle.std.specs.Prelude.{◌≡◌, ◌++◌, OnOk, string_bytes};
+ghost use Rattle.std.specs.Prelude.{◌≡◌, ◌<◌, ◌++◌, length, All, OnOk, string_bytes};
 ghost use Rattle.std.specs.List.{flat_map};
+ghost use Rattle.exercise_chart.specs.declared.bar.Undrawn.{Undrawn as UndrawnData};
 ghost use Rattle.exercise_chart.specs.Element.{shown_text};
-ghost use Rattle.exercise_chart.specs.Bars.{state_colour, change_text, left_of, width_of, stretch_text, bar_name_text, bar_text, font_of, bars_begin, bars_text};
+ghost use Rattle.exercise_chart.specs.Bars.{state_colour, change_text, left_of, width_of, stretch_text, bar_name_text, bar_text, font_of, bars_begin, undrawn_text, all_bars_text, all_undrawn_text, bars_text};
 
-use crate::element::{Attribute, Shown, put_element, put_words};
-use crate::frame::Frame;
-use crate::{Bar, Point};
+use crate::element::{Attribute, Shown, begin_words, put_element, put_words};
+use crate::frame::{Frame, TOP};
+use crate::{Bar, MOST_ENTITIES, Point, Undrawn};
 use dis_records::EntityState;
+use exercise_model::ExerciseLog;
 use std::alloc::AllocError;
 
 /// The colour of a state: green for Running, else amber.
@@ -110,15 +112,76 @@ fn begin_bars(text: &mut String, frame: Frame) -> Result<(), AllocError>
     Ok(())
 }
 
-/// Writes all bars.
-#[tactic(auto, unfolding(crate::specs::Bars::bars_text))]
-pub(crate) fn put_bars(text: &mut String, frame: Frame, bars: &[Bar]) -> Result<(), AllocError>
-    ensures { OnOk result (string_bytes text.new ≡ string_bytes text.old ++ bars_text frame bars.now) }
+/// Writes the bars alone.
+#[tactic(auto, unfolding(crate::specs::Bars::all_bars_text))]
+fn put_all_bars(text: &mut String, frame: Frame, bars: &[Bar]) -> Result<(), AllocError>
+    ensures { OnOk result (string_bytes text.new ≡ string_bytes text.old ++ all_bars_text frame bars.now) }
 {
-    begin_bars(text, frame)?;
     for bar in bars {
         put_bar(text, frame, bar)?;
     }
+    Ok(())
+}
+
+/// Writes how many entities of a station have no bar.
+fn put_undrawn<L: ExerciseLog>(
+    text: &mut String,
+    frame: Frame,
+    log: &L,
+    undrawn: &Undrawn,
+) -> Result<(), AllocError>
+    requires { undrawn.now.station < length (L.recording log.now).setting.stations }
+    ensures { OnOk result (string_bytes text.new ≡ string_bytes text.old ++ undrawn_text frame (L.recording log.now) undrawn.now) }
+{
+    let address = log.station(usize::from(undrawn.station)).address();
+    let place = [
+        Attribute(
+            "x",
+            Shown::Number(frame.slot_x(undrawn.station, MOST_ENTITIES)),
+        ),
+        Attribute("y", Shown::Number(TOP + 17)),
+        Attribute("class", Shown::Word("undrawn")),
+        Attribute("data-at", Shown::Address(address)),
+        Attribute("data-entities", Shown::Number(undrawn.entities as u64)),
+    ];
+    begin_words(text, &place)?;
+    let entities = undrawn.entities;
+    write!(text, "+{entities} more</text>\n")?;
+    Ok(())
+}
+
+/// Writes how many entities of each station have no bar.
+#[tactic(auto, unfolding(crate::specs::Bars::all_undrawn_text))]
+fn put_all_undrawn<L: ExerciseLog>(
+    text: &mut String,
+    frame: Frame,
+    log: &L,
+    undrawn: &[Undrawn],
+) -> Result<(), AllocError>
+    requires { All (λ (undrawn : UndrawnData). undrawn.station < length (L.recording log.now).setting.stations) undrawn.now }
+    ensures { OnOk result (string_bytes text.new ≡ string_bytes text.old ++ all_undrawn_text frame (L.recording log.now) undrawn.now) }
+{
+    for more in undrawn {
+        put_undrawn(text, frame, log, more)?;
+    }
+    Ok(())
+}
+
+/// Writes all bars, and how many entities of each station have none.
+#[tactic(auto, unfolding(crate::specs::Bars::bars_text))]
+pub(crate) fn put_bars<L: ExerciseLog>(
+    text: &mut String,
+    frame: Frame,
+    log: &L,
+    bars: &[Bar],
+    undrawn: &[Undrawn],
+) -> Result<(), AllocError>
+    requires { All (λ (undrawn : UndrawnData). undrawn.station < length (L.recording log.now).setting.stations) undrawn.now }
+    ensures { OnOk result (string_bytes text.new ≡ string_bytes text.old ++ bars_text frame (L.recording log.now) bars.now undrawn.now) }
+{
+    begin_bars(text, frame)?;
+    put_all_bars(text, frame, bars)?;
+    put_all_undrawn(text, frame, log, undrawn)?;
     text.push_str("</g>\n")?;
     Ok(())
 }

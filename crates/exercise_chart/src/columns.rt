@@ -1,9 +1,9 @@
-//! The columns of a picture, one for each station, and their names.
+//! The columns of a picture, one for each station, and the names above them and above the rows.
 
 ghost use Rattle.std.specs.Prelude.{◌≡◌, ◌<◌, ◌^◌, ◌++◌, length, OnOk, string_bytes};
 ghost use Rattle.siman_print.specs.Below.{texts_below};
 ghost use Rattle.exercise_chart.specs.Frame.{blocks_of};
-ghost use Rattle.exercise_chart.specs.Columns.{column_text, columns_text, name_text, names_at, names_above, names_text};
+ghost use Rattle.exercise_chart.specs.Columns.{column_text, columns_text, name_text, step_name, clock_name_words, clock_name, entry_name, station_names, names_at, names_above, names_text};
 
 use crate::element::{Attribute, Shown, put_element, put_words};
 use crate::frame::{Frame, TOP, names_y};
@@ -58,8 +58,76 @@ fn put_name<L: ExerciseLog>(
     Ok(())
 }
 
+/// Writes the name of the steps at height `y`.
+#[tactic(auto, unfolding(crate::specs::Columns::step_name))]
+fn put_step_name(text: &mut String, frame: Frame, y: u64) -> Result<(), AllocError>
+    ensures { OnOk result (string_bytes text.new ≡ string_bytes text.old ++ step_name frame y) }
+{
+    let place = [
+        Attribute("x", Shown::Number(frame.step_x())),
+        Attribute("y", Shown::Number(y)),
+        Attribute("text-anchor", Shown::Word("end")),
+    ];
+    put_words(text, &place, &Shown::Word("step"))?;
+    Ok(())
+}
+
+/// Writes the name of the clocks at height `y`.
+fn put_clock_words(text: &mut String, frame: Frame, y: u64) -> Result<(), AllocError>
+    ensures { OnOk result (string_bytes text.new ≡ string_bytes text.old ++ clock_name_words frame y) }
+{
+    let place = [
+        Attribute("x", Shown::Number(frame.clock_x())),
+        Attribute("y", Shown::Number(y)),
+        Attribute("text-anchor", Shown::Word("start")),
+    ];
+    put_words(text, &place, &Shown::Word("UTC"))?;
+    Ok(())
+}
+
+/// Writes the name of the clocks at height `y`, if the picture has a clock.
+#[tactic(auto, unfolding(crate::specs::Columns::clock_name))]
+fn put_clock_name(text: &mut String, frame: Frame, y: u64) -> Result<(), AllocError>
+    ensures { OnOk result (string_bytes text.new ≡ string_bytes text.old ++ clock_name frame y) }
+{
+    match frame.clock {
+        Some(_) => put_clock_words(text, frame, y),
+        None => Ok(()),
+    }
+}
+
+/// Writes the name of the entries at height `y`.
+#[tactic(auto, unfolding(crate::specs::Columns::entry_name))]
+fn put_entry_name(text: &mut String, frame: Frame, y: u64) -> Result<(), AllocError>
+    ensures { OnOk result (string_bytes text.new ≡ string_bytes text.old ++ entry_name frame y) }
+{
+    let place = [
+        Attribute("x", Shown::Number(frame.words_x())),
+        Attribute("y", Shown::Number(y)),
+        Attribute("text-anchor", Shown::Word("start")),
+    ];
+    put_words(text, &place, &Shown::Word("entry"))?;
+    Ok(())
+}
+
 /// Writes the names of all stations at height `y`.
-#[tactic(auto, unfolding(crate::specs::Columns::names_at))]
+#[tactic(auto, unfolding(crate::specs::Columns::station_names))]
+fn put_station_names<L: ExerciseLog>(
+    text: &mut String,
+    frame: Frame,
+    log: &L,
+    y: u64,
+) -> Result<(), AllocError>
+    requires { frame.stations ≡ length (L.recording log.now).setting.stations }
+    ensures { OnOk result (string_bytes text.new ≡ string_bytes text.old ++ station_names frame (L.recording log.now) y) }
+{
+    for station in 0..frame.stations {
+        put_name(text, frame, log, y, station)?;
+    }
+    Ok(())
+}
+
+/// Writes the names of the stations, the steps, the clocks and the entries at height `y`.
 fn put_names_at<L: ExerciseLog>(
     text: &mut String,
     frame: Frame,
@@ -69,13 +137,13 @@ fn put_names_at<L: ExerciseLog>(
     requires { frame.stations ≡ length (L.recording log.now).setting.stations }
     ensures { OnOk result (string_bytes text.new ≡ string_bytes text.old ++ names_at frame (L.recording log.now) y) }
 {
-    for station in 0..frame.stations {
-        put_name(text, frame, log, y, station)?;
-    }
-    Ok(())
+    put_station_names(text, frame, log, y)?;
+    put_step_name(text, frame, y)?;
+    put_clock_name(text, frame, y)?;
+    put_entry_name(text, frame, y)
 }
 
-/// Writes the names of all stations, above each block of rows.
+/// Writes the names of the stations, the steps, the clocks and the entries, above each block of rows.
 #[tactic(auto, unfolding(crate::specs::Columns::names_text))]
 pub(crate) fn put_names<L: ExerciseLog>(
     text: &mut String,

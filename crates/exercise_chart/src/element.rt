@@ -3,6 +3,8 @@
 ghost use Rattle.std.specs.Prelude.{◌≡◌, ◌++◌, map, OnOk, string_bytes};
 ghost use Rattle.exercise_chart.specs.Element.{shown_text, attribute_of, attribute_text, attributes_text, element_text, begun_words, words_text};
 
+use crate::ClockUnit;
+use crate::clock::put_clock;
 use dis_records::{Address, EntityId, EntityState, SiteApplication};
 use siman_print::{Field, Spelling, Value, put_opening};
 use std::alloc::AllocError;
@@ -22,6 +24,8 @@ pub(crate) enum Shown<'a> {
     Address(Address),
     /// An address that nobody recorded.
     SiteApplication(SiteApplication),
+    /// The time of day of a stamp.
+    Clock(ClockUnit, u64),
     /// Nothing: `-`.
     Missing,
 }
@@ -47,6 +51,7 @@ fn put_shown(text: &mut String, shown: &Shown<'_>) -> Result<(), AllocError>
             put_opening(text, Spelling::Text, "", &address)
         }
         Shown::SiteApplication(by) => write!(text, "{}:{}", by.site, by.application),
+        Shown::Clock(unit, stamp) => put_clock(text, *unit, *stamp),
         Shown::Missing => text.push('-'),
     }
 }

@@ -1,9 +1,9 @@
 //! Places of the parts of a picture, as whole numbers (SVG units) from its upper left corner.
 
 ghost use Rattle.std.specs.Prelude.{◌≡◌, ◌<◌, ◌≤◌, ◌^◌};
-ghost use Rattle.exercise_chart.specs.Frame.{is_wide, column_x, words_x, width_of, slot_x, row_y, rows_shown, bottom_y, height_of, step_y, since_y, until_y, blocks_of, names_y};
+ghost use Rattle.exercise_chart.specs.Frame.{is_wide, column_x, rows_x, step_x, clock_x, clock_width, words_x, width_of, slot_x, row_y, rows_shown, bottom_y, height_of, step_y, since_y, until_y, blocks_of, names_y};
 
-use crate::{MOST_ENTITIES, MOST_ROWS, Point, Rows};
+use crate::{ClockUnit, MOST_ENTITIES, MOST_ROWS, Point, Rows};
 
 /// The middle of the first column.
 pub(crate) const LEFT: u64 = 40;
@@ -14,11 +14,13 @@ pub(crate) const ROW: u64 = 20;
 /// Rows between two lines of station names.
 pub(crate) const BLOCK: u64 = 40;
 
-/// What all places depend on: the shown steps and the number of stations.
+/// What all places depend on: the shown steps, the number of stations, and the clock.
 #[derive(Clone, Copy)]
 pub(crate) struct Frame {
     pub rows: Rows,
     pub stations: u16,
+    /// What stamps count, if the picture has a clock.
+    pub clock: Option<ClockUnit>,
 }
 
 impl Frame {
@@ -44,13 +46,37 @@ impl Frame {
         }
     }
 
-    /// Left end of the words of the rows.
-    pub(crate) fn words_x(self) -> u64
-        ensures x { result ≡ words_x self }
+    /// Left end of the rows' steps and words.
+    pub(crate) fn rows_x(self) -> u64
+        ensures x { result ≡ rows_x self }
         ensures inside { LEFT ≤ result }
         ensures small { result < 2 ^ 24 }
     {
         self.x(self.stations)
+    }
+
+    /// Right end of the steps' numbers.
+    pub(crate) fn step_x(self) -> u64
+        ensures x { result ≡ step_x self }
+        ensures small { result < 2 ^ 25 }
+    {
+        self.rows_x() + 48
+    }
+
+    /// Left end of the clocks.
+    pub(crate) fn clock_x(self) -> u64
+        ensures x { result ≡ clock_x self }
+        ensures small { result < 2 ^ 26 }
+    {
+        self.step_x() + 12
+    }
+
+    /// Left end of the words of the rows.
+    pub(crate) fn words_x(self) -> u64
+        ensures x { result ≡ words_x self }
+        ensures small { result < 2 ^ 27 }
+    {
+        self.clock_x() + clock_width(self.clock)
     }
 
     /// Width of the picture.
@@ -141,6 +167,19 @@ impl Frame {
             Some(change) => self.step_y(change.step),
             None => self.bottom_y(),
         }
+    }
+}
+
+/// The width of the column of clocks, which only a picture with a clock has.
+fn clock_width(clock: Option<ClockUnit>) -> u64
+    ensures width { result ≡ clock_width clock }
+    ensures small { result < 128 }
+{
+    match clock {
+        Some(ClockUnit::Microsecond) => 96,
+        Some(ClockUnit::Millisecond) => 78,
+        Some(ClockUnit::Second) => 60,
+        None => 0,
     }
 }
 

@@ -2,6 +2,7 @@
 //! that it follows from.
 
 ghost use Rattle.std.specs.Prelude.{◌≡◌, ◌≤◌, ◌-◌, ◌||◌, ℕ, List, length, map, true, Some, All, Contains};
+ghost use Rattle.dis_records.specs.declared.entity.EntityId.{EntityId};
 ghost use Rattle.exercise_model.specs.Recording.{PlainRecording, IsRecording};
 ghost use Rattle.exercise_model.specs.Account.{values_below};
 ghost use Rattle.exercise_findings.specs.Source.{source_of};
@@ -17,7 +18,7 @@ ghost use Rattle.exercise_chart.specs.Picture.{row_fact, step_fact, LeadsDown, H
 use exercise_check::links_are_of_the_logs;
 use exercise_review::lives_are_states;
 
-/// The law of pictures: properties of the marks of a good certificate.
+/// The law of pictures: properties of the marks of a good certificate, whichever entities are chosen.
 ///
 /// - `rows`: the rows are the shown steps, in their order, each with the entry that it takes.
 /// - `arrows`: an arrow leads from the source of a receipt down to the receipt, and at least one of
@@ -25,15 +26,15 @@ use exercise_review::lives_are_states;
 /// - `drawn`: every receipt with a source has an arrow, if one of the two is in a row.
 /// - `bars`: after each step that a bar covers, its entity has the state of the bar.
 pub fn pictures_are_runs()
-    ensures rows { (r : PlainRecording) (steps : List Step) (w : Rows) → IsGood r steps → w.end ≤ length steps
-        → map row_fact (marks_of r steps w).rows ≡ values_below (step_fact steps w) (w.end - w.first) }
-    ensures arrows { (r : PlainRecording) (steps : List Step) (w : Rows) → IsRecording r → IsGood r steps
-        → All (LeadsDown r steps w) (marks_of r steps w).arrows }
-    ensures drawn { (r : PlainRecording) (steps : List Step) (w : Rows) (j i : ℕ) → source_of r i ≡ Some j
+    ensures rows { (r : PlainRecording) (steps : List Step) (w : Rows) (chosen : List EntityId) → IsGood r steps → w.end ≤ length steps
+        → map row_fact (marks_of r steps w chosen).rows ≡ values_below (step_fact steps w) (w.end - w.first) }
+    ensures arrows { (r : PlainRecording) (steps : List Step) (w : Rows) (chosen : List EntityId) → IsRecording r → IsGood r steps
+        → All (LeadsDown r steps w) (marks_of r steps w chosen).arrows }
+    ensures drawn { (r : PlainRecording) (steps : List Step) (w : Rows) (chosen : List EntityId) (j i : ℕ) → source_of r i ≡ Some j
         → (is_row w (step_of r steps j) || is_row w (step_of r steps i)) ≡ true
-        → Contains (marks_of r steps w).arrows (arrow_between (scene_of r steps w) j i) }
-    ensures bars { (r : PlainRecording) (steps : List Step) (w : Rows) → IsRecording r → IsGood r steps
-        → All (HasState r steps) (marks_of r steps w).bars }
+        → Contains (marks_of r steps w chosen).arrows (arrow_between (scene_of r steps w chosen) j i) }
+    ensures bars { (r : PlainRecording) (steps : List Step) (w : Rows) (chosen : List EntityId) → IsRecording r → IsGood r steps
+        → All (HasState r steps) (marks_of r steps w chosen).bars }
 {
     links_are_of_the_logs();
     lives_are_states();

@@ -17,6 +17,7 @@
 mod arrow;
 mod bar;
 mod bars;
+mod clock;
 mod columns;
 mod deeds;
 mod element;
@@ -35,13 +36,15 @@ mod rows;
 mod saying;
 mod scene;
 mod signs;
+mod slot;
 mod taken;
 mod tone;
 mod unanswered;
 mod words;
 
 pub use arrow::Arrow;
-pub use bar::{Bar, MOST_ENTITIES, MOST_STRETCHES};
+pub use bar::{Bar, MOST_ENTITIES, MOST_STRETCHES, Undrawn};
+pub use clock::ClockUnit;
 pub use fault::ChartFault;
 pub use laws::pictures_are_runs;
 pub use loss::Loss;

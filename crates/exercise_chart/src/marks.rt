@@ -4,7 +4,7 @@ ghost use Rattle.std.specs.Prelude.{◌≡◌, ◌-◌, ◌≤◌, OnOk};
 ghost use Rattle.exercise_chart.specs.Marks.{scene_of, Marked};
 
 use crate::arrow::{Arrow, arrows_of};
-use crate::bar::{Bar, bars_of};
+use crate::bar::{Bar, EntityBars, Undrawn, bars_of};
 use crate::fault::ChartFault;
 use crate::loss::{Loss, losses_of};
 use crate::outside::{OutsideReceipt, outside_receipts};
@@ -12,6 +12,7 @@ use crate::point::{Point, Rows};
 use crate::row::{Row, rows_of};
 use crate::scene::Scene;
 use crate::unanswered::unanswered_of;
+use dis_records::EntityId;
 use exercise_check::Step;
 use exercise_model::ExerciseLog;
 use exercise_review::Register;
@@ -32,6 +33,8 @@ pub struct Marks {
     pub losses: Vec<Loss>,
     /// Spans of the entities' lives, by station, entity and time.
     pub bars: Vec<Bar>,
+    /// Stations with more entities than bars are drawn for, by station.
+    pub undrawn: Vec<Undrawn>,
     /// First receipts of requests that their receiver never answered, in the order of the first
     /// entries of the requests.
     pub unanswered: Vec<Point>,
@@ -46,6 +49,7 @@ impl Drop for Marks {
             outside: _outside,
             losses: _losses,
             bars: _bars,
+            undrawn: _undrawn,
             unanswered: _unanswered,
         } = self;
     }
@@ -55,7 +59,7 @@ impl Drop for Marks {
 fn marks_in<L: ExerciseLog>(alloc: Global, scene: &Scene<'_, L>) -> Result<Marks, ChartFault>
     ensures { Marked scene.now result }
 {
-    let bars = bars_of(alloc, scene)?;
+    let EntityBars { bars, undrawn } = bars_of(alloc, scene)?;
     let rows = rows_of(alloc, scene)?;
     let arrows = arrows_of(alloc, scene)?;
     let outside = outside_receipts(alloc, scene)?;
@@ -67,11 +71,13 @@ fn marks_in<L: ExerciseLog>(alloc: Global, scene: &Scene<'_, L>) -> Result<Marks
         outside,
         losses,
         bars,
+        undrawn,
         unanswered,
     })
 }
 
-/// The marks of a range of steps of a certificate, which need not be good. `OverLimit` if the range
+/// The marks of a range of steps of a certificate, which need not be good, with bars of the chosen
+/// entities, or of all where none is chosen. `OverLimit` if the range
 /// has more than 2,000 rows, or the entities of a station have more than 4,194,304 spans. The marks
 /// take memory.
 pub fn marks_of<L: ExerciseLog>(
@@ -79,13 +85,14 @@ pub fn marks_of<L: ExerciseLog>(
     register: &Register<'_, L>,
     steps: &[Step],
     rows: Rows,
+    chosen: &[EntityId],
 ) -> Result<Marks, ChartFault>
-    ensures marks { Marked (scene_of register.now steps.now rows) result }
+    ensures marks { Marked (scene_of register.now steps.now rows chosen.now) result }
     ensures few { OnOk result (rows.end - rows.first ≤ MOST_ROWS) }
 {
     if rows.count() > MOST_ROWS {
         return Err(ChartFault::OverLimit);
     }
-    let scene = Scene::of(alloc, register, steps, rows)?;
+    let scene = Scene::of(alloc, register, steps, rows, chosen)?;
     marks_in(alloc, &scene)
 }

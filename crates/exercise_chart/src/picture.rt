@@ -12,20 +12,22 @@ use crate::heading::put_heading;
 use crate::lines::{put_arrows, put_losses, put_outsiders};
 use crate::rows::put_rows;
 use crate::signs::{put_activity_signs, put_unanswered};
-use crate::{ChartFault, MOST_ROWS, Marks, Rows, marks_of};
+use crate::{ChartFault, ClockUnit, MOST_ROWS, Marks, Rows, marks_of};
+use dis_records::EntityId;
 use exercise_check::Step;
 use exercise_model::ExerciseLog;
 use exercise_review::Register;
 use std::alloc::{AllocError, Global};
 
 /// The frame of the shown rows of a recording.
-fn frame_of<L: ExerciseLog>(log: &L, rows: Rows) -> Frame
-    ensures frame { result ≡ frame_of (L.recording log.now) rows }
+fn frame_of<L: ExerciseLog>(log: &L, rows: Rows, clock: Option<ClockUnit>) -> Frame
+    ensures frame { result ≡ frame_of (L.recording log.now) rows clock }
     ensures limits { IsRecording (L.recording log.now) }
 {
     Frame {
         rows,
         stations: log.station_count() as u16,
+        clock,
     }
 }
 
@@ -43,7 +45,7 @@ fn put_under<L: ExerciseLog>(
     put_heading(text, frame, log)?;
     put_rows(text, frame, log, &marks.rows)?;
     put_columns(text, frame)?;
-    put_bars(text, frame, &marks.bars)
+    put_bars(text, frame, log, &marks.bars, &marks.undrawn)
 }
 
 /// Writes the lines, the signs, the names of the stations and the end of the text.
@@ -61,7 +63,7 @@ fn put_over<L: ExerciseLog>(
     put_arrows(text, frame, &marks.arrows)?;
     put_outsiders(text, frame, &marks.outside)?;
     put_losses(text, frame, log, &marks.losses)?;
-    put_activity_signs(text, frame, &marks.rows)?;
+    put_activity_signs(text, frame, &marks.bars, &marks.rows)?;
     put_unanswered(text, frame, &marks.unanswered)?;
     put_names(text, frame, log)?;
     text.push_str("</svg>\n")
@@ -84,7 +86,9 @@ fn picture_in<L: ExerciseLog>(
     Ok(text)
 }
 
-/// Draws a range of steps of a certificate of a recording; the certificate need not be good.
+/// Draws a range of steps of a certificate of a recording; the certificate need not be good. Bars are
+/// of the chosen entities, or of all where none is chosen. With a unit each row has the time of day of
+/// its stamp.
 /// `OverLimit` if the range has more than 2,000 rows, or the entities of a station have more than
 /// 4,194,304 spans. The text takes memory.
 pub fn draw<L: ExerciseLog>(
@@ -92,12 +96,14 @@ pub fn draw<L: ExerciseLog>(
     register: &Register<'_, L>,
     steps: &[Step],
     rows: Rows,
+    chosen: &[EntityId],
+    clock: Option<ClockUnit>,
 ) -> Result<String, ChartFault>
-    ensures picture { Draws register.now steps.now rows result }
+    ensures picture { Draws register.now steps.now rows chosen.now clock result }
     ensures few { OnOk result (rows.end - rows.first ≤ MOST_ROWS) }
 {
-    let marks = marks_of(alloc, register, steps, rows)?;
+    let marks = marks_of(alloc, register, steps, rows, chosen)?;
     let log = register.log();
-    let text = picture_in(alloc, frame_of(log, rows), log, &marks)?;
+    let text = picture_in(alloc, frame_of(log, rows, clock), log, &marks)?;
     Ok(text)
 }

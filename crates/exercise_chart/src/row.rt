@@ -40,11 +40,13 @@ pub enum Activity {
     Told(u16, EntityState),
 }
 
-/// A row: a step, the entry that it takes, and what the station did there.
+/// A row: a step, the entry that it takes, what the station did there, and the stamp.
 #[derive(Clone, Copy)]
 pub struct Row {
     pub at: Point,
     pub did: Activity,
+    /// The stamp of the entry; of a told state the last one before it in the file, or 0.
+    pub stamp: u64,
 }
 
 /// Whether an entry sends a request that an earlier entry sent first.
@@ -127,6 +129,7 @@ fn row_taking<L: ExerciseLog>(scene: &Scene<'_, L>, step: usize, entry: usize) -
                 station: view.station(),
             },
             did: activity_of(scene, entry, view),
+            stamp: scene.stamp_of(entry),
         }),
         None => None,
     }

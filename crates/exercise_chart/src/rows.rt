@@ -1,19 +1,19 @@
-//! The rows of a picture, in words.
+//! The rows of a picture: the number of the step, the clock, and the entry in words.
 
 ghost use Rattle.std.specs.Prelude.{◌≡◌, ◌<◌, ◌^◌, ◌++◌, length, All, OnOk, string_bytes};
 ghost use Rattle.std.specs.List.{flat_map};
 ghost use Rattle.exercise_chart.specs.declared.row.Row.{Row as RowData};
-ghost use Rattle.exercise_chart.specs.Rows.{rule_text, row_words, row_text, rows_text};
+ghost use Rattle.exercise_chart.specs.Rows.{rule_text, step_text, clock_words, row_clock_text, row_words, row_text, rows_text};
 
-use crate::Row;
-use crate::element::{Attribute, Shown, begin_words, put_element};
+use crate::element::{Attribute, Shown, begin_words, put_element, put_words};
 use crate::frame::Frame;
 use crate::words::put_activity;
+use crate::{ClockUnit, Row};
 use exercise_model::ExerciseLog;
 use siman_print::{Field, Spelling, Value, put_fields, put_opening};
 use std::alloc::AllocError;
 
-/// Writes the horizontal rule, at height `y`, that leads to the words of a row.
+/// Writes the horizontal rule, at height `y`, that leads to the step and the words of a row.
 #[tactic(auto, unfolding(crate::specs::Rows::rule_text))]
 fn put_rule(text: &mut String, frame: Frame, y: u64) -> Result<(), AllocError>
     requires { y < 2 ^ 24 }
@@ -22,12 +22,58 @@ fn put_rule(text: &mut String, frame: Frame, y: u64) -> Result<(), AllocError>
     let rule = [
         Attribute("x1", Shown::Number(16)),
         Attribute("y1", Shown::Number(y)),
-        Attribute("x2", Shown::Number(frame.words_x() - 8)),
+        Attribute("x2", Shown::Number(frame.rows_x() - 8)),
         Attribute("y2", Shown::Number(y)),
         Attribute("stroke", Shown::Word("#e2e8f0")),
     ];
     put_element(text, "line", &rule)?;
     Ok(())
+}
+
+/// Writes the number of a step at height `y`, as `from=` and `to=` count steps.
+#[tactic(auto, unfolding(crate::specs::Rows::step_text))]
+fn put_step(text: &mut String, frame: Frame, y: u64, step: usize) -> Result<(), AllocError>
+    ensures { OnOk result (string_bytes text.new ≡ string_bytes text.old ++ step_text frame y step) }
+{
+    let place = [
+        Attribute("x", Shown::Number(frame.step_x())),
+        Attribute("y", Shown::Number(y)),
+        Attribute("text-anchor", Shown::Word("end")),
+    ];
+    put_words(text, &place, &Shown::Number(step as u64))?;
+    Ok(())
+}
+
+/// Writes the time of day of an entry.
+fn put_clock_words(
+    text: &mut String,
+    frame: Frame,
+    y: u64,
+    row: &Row,
+    unit: ClockUnit,
+) -> Result<(), AllocError>
+    ensures { OnOk result (string_bytes text.new ≡ string_bytes text.old ++ clock_words frame y row.now unit) }
+{
+    let place = [
+        Attribute("x", Shown::Number(frame.clock_x())),
+        Attribute("y", Shown::Number(y)),
+        Attribute("class", Shown::Word("clock")),
+        Attribute("data-entry", Shown::Number(row.at.entry as u64)),
+        Attribute("data-stamp", Shown::Number(row.stamp)),
+    ];
+    put_words(text, &place, &Shown::Clock(unit, row.stamp))?;
+    Ok(())
+}
+
+/// Writes the time of day of an entry, if the picture has a clock.
+#[tactic(auto, unfolding(crate::specs::Rows::row_clock_text))]
+fn put_row_clock(text: &mut String, frame: Frame, y: u64, row: &Row) -> Result<(), AllocError>
+    ensures { OnOk result (string_bytes text.new ≡ string_bytes text.old ++ row_clock_text frame y row.now) }
+{
+    match frame.clock {
+        Some(unit) => put_clock_words(text, frame, y, row, unit),
+        None => Ok(()),
+    }
 }
 
 /// Writes the entry of a row, the address of its station, and what the station did.
@@ -44,7 +90,7 @@ fn put_row_words<L: ExerciseLog>(text: &mut String, log: &L, row: &Row) -> Resul
     put_activity(text, address, &row.did)
 }
 
-/// Writes a row: its rule and its words.
+/// Writes a row: its rule, its step, its clock and its words.
 fn put_row<L: ExerciseLog>(
     text: &mut String,
     frame: Frame,
@@ -56,6 +102,8 @@ fn put_row<L: ExerciseLog>(
 {
     let y = frame.step_y(row.at.step);
     put_rule(text, frame, y)?;
+    put_step(text, frame, y + 4, row.at.step)?;
+    put_row_clock(text, frame, y + 4, row)?;
     let place = [
         Attribute("x", Shown::Number(frame.words_x())),
         Attribute("y", Shown::Number(y + 4)),

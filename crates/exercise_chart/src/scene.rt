@@ -7,12 +7,15 @@ ghost use Rattle.exercise_model.specs.Entry.{is_entry};
 ghost use Rattle.exercise_model.specs.Held.{shown};
 ghost use Rattle.exercise_model.specs.Meaning.{meaning};
 ghost use Rattle.exercise_chart.specs.Point.{first_step, step_of, station_of_entry, place_at};
+ghost use Rattle.exercise_chart.specs.Clock.{entry_stamp};
 ghost use Rattle.exercise_chart.specs.Deeds.{first_sent, first_received};
 ghost use Rattle.exercise_chart.specs.Scene.{SceneData, point_in};
 
+use crate::clock::stamps_of;
 use crate::deeds::{DatagramFirsts, StationDatagram, first_receipt_index, first_send_index};
 use crate::point::{Point, Rows};
 use crate::taken::steps_taken;
+use dis_records::EntityId;
 use exercise_check::Step;
 use exercise_model::{EntryView, ExerciseLog, meaning_view};
 use exercise_review::Register;
@@ -20,14 +23,16 @@ use siman_pdus::PduView;
 use std::alloc::{AllocError, Global};
 use std::marker::Model;
 
-/// A recording, the steps of a certificate of it and the range of steps to show, with indexes of
-/// both. Contracts see these three; the indexes are private.
+/// A recording, the steps of a certificate of it, the range of steps to show and the chosen entities,
+/// with indexes. Contracts see these four; the indexes are private.
 #[derive(Drop)]
 pub(crate) struct Scene<'a, L: ExerciseLog> {
     register: &'a Register<'a, L>,
     steps: &'a [Step],
     rows: Rows,
+    chosen: &'a [EntityId],
     taken: Vec<Option<usize>>,
+    stamps: Vec<u64>,
     sent: DatagramFirsts<'a>,
     got: DatagramFirsts<'a>,
 }
@@ -37,9 +42,9 @@ impl<'a, L: ExerciseLog> Model for Scene<'a, L> {
 
     ghost Value = { SceneData };
 
-    ghost view = { λ x. record { recording = x.register.now; steps = x.steps.now; rows = x.rows } };
+    ghost view = { λ x. record { recording = x.register.now; steps = x.steps.now; rows = x.rows; chosen = x.chosen.now } };
 
-    ghost invariant = { λ x. IsScene x.register.now x.steps.now x.taken.items x.sent x.got };
+    ghost invariant = { λ x. IsScene x.register.now x.steps.now x.taken.items x.stamps.items x.sent x.got };
 }
 
 impl<'a, L: ExerciseLog> Scene<'a, L> {
@@ -49,18 +54,22 @@ impl<'a, L: ExerciseLog> Scene<'a, L> {
         register: &'a Register<'a, L>,
         steps: &'a [Step],
         rows: Rows,
+        chosen: &'a [EntityId],
     ) -> Result<Scene<'a, L>, AllocError>
-        ensures { let drawn : SceneData = record { recording = register.now; steps = steps.now; rows = rows } in IfOk result (λ scene. scene ≡ drawn) }
+        ensures { let drawn : SceneData = record { recording = register.now; steps = steps.now; rows = rows; chosen = chosen.now } in IfOk result (λ scene. scene ≡ drawn) }
     {
         let log = register.log();
         let taken = steps_taken(alloc, steps, log.entry_count())?;
+        let stamps = stamps_of(alloc, log)?;
         let sent = first_send_index(alloc, log)?;
         let got = first_receipt_index(alloc, log)?;
         Ok(Scene {
             register,
             steps,
             rows,
+            chosen,
             taken,
+            stamps,
             sent,
             got,
         })
@@ -85,6 +94,13 @@ impl<'a, L: ExerciseLog> Scene<'a, L> {
         ensures { result ≡ self.now.rows }
     {
         self.rows
+    }
+
+    /// The entities that are chosen for bars; none means all.
+    pub(crate) fn chosen(&self) -> &'a [EntityId]
+        ensures { result.now ≡ self.now.chosen }
+    {
+        self.chosen
     }
 
     /// The entry that a step takes, if the certificate has that step.
@@ -137,6 +153,14 @@ impl<'a, L: ExerciseLog> Scene<'a, L> {
             Some(step) => step,
             None => self.steps.len(),
         }
+    }
+
+    /// The stamp of an entry; of a told state the last one before it in the file, or 0.
+    pub(crate) fn stamp_of(&self, entry: usize) -> u64
+        requires { entry < length self.now.recording.entries }
+        ensures { result ≡ entry_stamp self.now.recording entry }
+    {
+        self.stamps[entry]
     }
 
     /// The station of an entry; 0 if the recording does not have the entry.

@@ -89,10 +89,9 @@ pub fn plain_steps<L: ExerciseLog>(alloc: Global, log: &L) -> Result<Vec<Step>, 
 fn stamp_at<L: ExerciseLog>(log: &L, entry: usize) -> u64 {
     let mut last = 0;
     for before in 0..=entry {
-        if let Some(EntryView::Sent { stamp, .. } | EntryView::Received { stamp, .. }) =
-            entry_at(log, before)
-        {
-            last = stamp;
+        match entry_at(log, before) {
+            Some(EntryView::Sent { stamp, .. } | EntryView::Received { stamp, .. }) => last = stamp,
+            _ => {}
         }
     }
     last

@@ -1,8 +1,10 @@
 -- Why a picture of a good certificate was not drawn.
-use Rattle.std.proofs.Common.{◌≡◌, ℕ, List, None, Err, Result, inl, inr, refl, length}
+use Rattle.std.proofs.Common.{◌≡◌, ℕ, List, Option, None, Err, Result, inl, inr, refl, length}
 use Rattle.std.specs.Result.{IsErrAnd}
 use Rattle.exercise_model.specs.Recording.{PlainRecording}
 use Rattle.exercise_check.specs.declared.certificate.Step.{Step}
+use Rattle.dis_records.specs.declared.entity.EntityId.{EntityId}
+use Rattle.exercise_chart.specs.declared.clock.ClockUnit.{ClockUnit}
 use Rattle.exercise_chart.specs.declared.fault.ChartFault.{ChartFault}
 use Rattle.exercise_chart.specs.declared.fault.ChartFault.TheVariants as charts
 use Rattle.exercise_chart.specs.declared.point.Rows.{Rows}
@@ -16,16 +18,16 @@ use Rattle.siman_analysis_commands.specs.Chart.{Pictures, IsCertified, Charts, o
 use Rattle.siman_outside.proofs.Offered.{at_fault}
 
 -- the limit that it passes, or want of memory
-pub uncharted : (words : List (List ℕ)) (window : Window) (r : PlainRecording) (steps : List Step) (rows : Rows) (fault : ChartFault)
-    → IsCertified r steps → past_of (length steps) words ≡ None → AreShown window (length steps) rows → Pictures r steps rows (Err fault)
+pub uncharted : (words : List (List ℕ)) (window : Window) (r : PlainRecording) (steps : List Step) (rows : Rows) (chosen : List EntityId) (clock : Option ClockUnit) (fault : ChartFault)
+    → IsCertified r steps → past_of (length steps) words ≡ None → AreShown window (length steps) rows → Pictures r steps rows chosen clock (Err fault)
     → (result : Result (Product PictureTexts) Fault) → IsErrAnd result (λ e. e ≡ of_chart fault) → Charts words window r steps result
-uncharted words window r steps rows charts.OverLimit good within shown over result passed =
+uncharted words window r steps rows chosen clock charts.OverLimit good within shown over result passed =
     at_fault (Charts words window r steps) _ result passed (inl (good, inr (rows, within, shown, over, refl)))
-uncharted words window r steps rows charts.Memory good within shown over result passed =
+uncharted words window r steps rows chosen clock charts.Memory good within shown over result passed =
     at_fault (Charts words window r steps) _ result passed (inr refl)
 
 -- what was not drawn has no texts
-pub undrawn : (r : PlainRecording) (steps : List Step) (rows : Rows) (fault : ChartFault) → Draws r steps rows (Err fault)
-    → (result : Result PictureTexts ChartFault) → IsErrAnd result (λ e. e ≡ fault) → Pictures r steps rows result
-undrawn r steps rows charts.OverLimit over result passed = at_fault (Pictures r steps rows) _ result passed over
-undrawn r steps rows charts.Memory over result passed = at_fault (Pictures r steps rows) _ result passed tt
+pub undrawn : (r : PlainRecording) (steps : List Step) (rows : Rows) (chosen : List EntityId) (clock : Option ClockUnit) (fault : ChartFault) → Draws r steps rows chosen clock (Err fault)
+    → (result : Result PictureTexts ChartFault) → IsErrAnd result (λ e. e ≡ fault) → Pictures r steps rows chosen clock result
+undrawn r steps rows chosen clock charts.OverLimit over result passed = at_fault (Pictures r steps rows chosen clock) _ result passed over
+undrawn r steps rows chosen clock charts.Memory over result passed = at_fault (Pictures r steps rows chosen clock) _ result passed tt

@@ -9,6 +9,8 @@ use Rattle.exercise_check.specs.declared.certificate.Step.{Step}
 use Rattle.exercise_check.specs.declared.checker.CheckFault.TheVariants.{Bad}
 use Rattle.exercise_check.specs.Goodness.{IsGood, Refuses}
 use Rattle.exercise_check.specs.Sequence.{sequence_of}
+use Rattle.dis_records.specs.declared.entity.EntityId.{EntityId}
+use Rattle.exercise_chart.specs.declared.clock.ClockUnit.{ClockUnit}
 use Rattle.exercise_chart.specs.declared.fault.ChartFault.{ChartFault}
 use Rattle.exercise_chart.specs.declared.fault.ChartFault.TheVariants as charts
 use Rattle.exercise_chart.specs.declared.marks.TheConstants.{MOST_ROWS}
@@ -27,7 +29,7 @@ use Rattle.siman_outside.specs.declared.fault.Fault.TheVariants.{ChartOverLimit,
 use Rattle.siman_outside.specs.declared.product.Product.{Product}
 use Rattle.siman_outside.specs.declared.product.Product.TheVariants.{File, Nothing}
 use Rattle.siman_analysis_commands.specs.declared.chart.PictureTexts.{PictureTexts}
-use Rattle.siman_analysis_commands.specs.ChartWords.{window_of, past_of, AreShown}
+use Rattle.siman_analysis_commands.specs.ChartWords.{window_of, entities_of, past_of, AreShown}
 use Rattle.siman_outside.specs.Ending.{fault_text}
 use Rattle.siman_outside.specs.Making.{Answered, MakesProduct, PutsBoth}
 use Rattle.siman_outside.specs.Opening.{MakesOfFiles}
@@ -44,9 +46,9 @@ abbrev pub chart_line : (steps stations : ℕ) → Line
 chart_line steps stations =
     named_line (codes "chart") (Keyed (codes "steps") (Number steps) ∷ Keyed (codes "stations") (Number stations) ∷ [])
 
--- the texts of the picture of some steps: its file, which is the picture of their marks, and the line of the answer
-pub record ArePictureTexts (r : PlainRecording) (steps : List Step) (rows : Rows) (picture line : List ℕ) : Type 0 where
-  pub picture_is : picture ≡ picture_text r (marks_of r steps rows) rows
+-- the texts of the picture of some steps, with bars of the chosen entities and perhaps with a clock: its file, which is the picture of their marks, and the line of the answer
+pub record ArePictureTexts (r : PlainRecording) (steps : List Step) (rows : Rows) (chosen : List EntityId) (clock : Option ClockUnit) (picture line : List ℕ) : Type 0 where
+  pub picture_is : picture ≡ picture_text r (marks_of r steps rows chosen) rows clock
   pub line_is : line ≡ line_text (chart_line (rows_count rows) (length r.setting.stations))
 
 -- There are too many rows, or the entities of some station have too many spans.
@@ -54,10 +56,10 @@ abbrev pub IsOverfilled : PlainRecording → Rows → Type 0
 IsOverfilled r rows = (MOST_ROWS < rows_count rows) ⊎ IsOverfull r
 
 -- the picture of some steps, or the fault
-abbrev pub Pictures : PlainRecording → List Step → Rows → Result PictureTexts ChartFault → Type 0
-Pictures r steps rows (Ok texts) = ArePictureTexts r steps rows (string_bytes texts.picture) (string_bytes texts.line)
-Pictures r steps rows (Err charts.OverLimit) = IsOverfilled r rows
-Pictures r steps rows (Err charts.Memory) = Unit {0}
+abbrev pub Pictures : PlainRecording → List Step → Rows → (chosen : List EntityId) → Option ClockUnit → Result PictureTexts ChartFault → Type 0
+Pictures r steps rows chosen clock (Ok texts) = ArePictureTexts r steps rows chosen clock (string_bytes texts.picture) (string_bytes texts.line)
+Pictures r steps rows chosen clock (Err charts.OverLimit) = IsOverfilled r rows
+Pictures r steps rows chosen clock (Err charts.Memory) = Unit {0}
 
 -- THE MARKS OF A GOOD CERTIFICATE SHOW A RUN: the rows are its steps, in their sequence, with their entries; an arrow leads from the source of a receipt down to the receipt; a bar has the state of its entity after each step that it covers
 pub record ShowsRun (r : PlainRecording) (steps : List Step) (rows : Rows) (marks : MarksData) : Type 0 where
@@ -81,10 +83,10 @@ pub record DrawsPicture (words : List (List ℕ)) (window : Window) (recording :
   pub rows : Rows
   pub shown : AreShown window (length steps) rows
   pub few : rows_count rows ≤ MOST_ROWS
-  -- their picture, and its line
-  pub texts : ArePictureTexts recording steps rows picture line
+  -- their picture, with bars of the entities that the words choose and with the clock that they name, and its line
+  pub texts : ArePictureTexts recording steps rows (entities_of words) window.clock picture line
   -- The picture shows a run.
-  pub run : ShowsRun recording steps rows (marks_of recording steps rows)
+  pub run : ShowsRun recording steps rows (marks_of recording steps rows (entities_of words))
 
 -- THE CERTIFICATE IS NOT GOOD, and this is the line of its first bad step, as `check` has it
 pub record RefusesChart (recording : PlainRecording) (steps : List Step) (text : List ℕ) : Type 0 where

@@ -6,15 +6,16 @@ ghost use Rattle.exercise_model.specs.Recording.{IsRecording};
 ghost use Rattle.exercise_check.specs.Goodness.{IsGood};
 ghost use Rattle.exercise_check.specs.Sequence.{sequence_of};
 ghost use Rattle.siman_print.specs.Spelled.{line_text};
-ghost use Rattle.siman_analysis_commands.specs.ChartWords.{past_of};
+ghost use Rattle.siman_analysis_commands.specs.ChartWords.{entities_of, past_of};
 ghost use Rattle.siman_outside.specs.Opening.{MakesOfFiles};
 ghost use Rattle.siman_outside.specs.Making.{MakesProduct};
 ghost use Rattle.siman_outside.specs.Outside.{Did, Reads, Adds, stream};
 ghost use Rattle.siman_analysis_commands.specs.Chart.{of_chart, chart_line, Pictures, PutsPicture, Charts, ChartsFiles, ChartsNamed};
 
-use crate::chart_words::{Window, past_of, rows_in, window_of};
+use crate::chart_words::{Window, entities_of, past_of, rows_in, window_of};
 use byte_files::put;
-use exercise_chart::{ChartFault, MOST_ROWS, Rows, draw, pictures_are_runs};
+use dis_records::EntityId;
+use exercise_chart::{ChartFault, ClockUnit, MOST_ROWS, Rows, draw, pictures_are_runs};
 use exercise_check::{Certificate, CheckFault, Step, check, no_line};
 use exercise_findings::Findings;
 use exercise_model::ExerciseLog;
@@ -34,7 +35,7 @@ pub struct PictureTexts {
     pub line: String,
 }
 
-/// The command `chart`, with the words that select steps, and the steps that they select.
+/// The command `chart`, with its words, and the steps and the clock that they select.
 #[derive(Drop)]
 pub(crate) struct ChartCommand<'a> {
     pub words: &'a [&'a str],
@@ -42,8 +43,8 @@ pub(crate) struct ChartCommand<'a> {
 }
 
 /// Opens the files of a recording and of its certificate, the first two names, and makes the
-/// picture under the third of the steps that `words` select. Returns the status. `Filter` for a
-/// word that selects no step, before any file is opened; `Step` for one that names a step past the
+/// picture under the third of what `words` choose. Returns the status. `Filter` for a word that
+/// chooses nothing, before any file is opened; `Step` for one that names a step past the
 /// last, after the certificate was found good.
 pub fn chart_named<'a, O: Outside, W: Write>(
     alloc: Global,
@@ -169,9 +170,27 @@ fn shown<'a, L: ExerciseLog>(
     requires within { past_of (length steps.now) (map (λ word. word.now) command.words.now) ≡ None }
     ensures { Charts (map (λ word. word.now) command.entry.words.now) command.entry.window (L.recording log.now) steps.now result }
 {
+    let entities = entities_of(alloc, command.words)?;
+    shown_with(alloc, log, steps, &entities, command)
+}
+
+/// As [`shown`], given the entities that the words choose.
+fn shown_with<'a, L: ExerciseLog>(
+    alloc: Global,
+    log: &L,
+    steps: &[Step],
+    chosen: &[EntityId],
+    command: ChartCommand<'a>,
+) -> Result<Product<PictureTexts>, Fault<'a>>
+    requires good { IsGood (L.recording log.now) steps.now }
+    requires holds { let r = L.recording log.now in Holds r (sequence_of r steps.now) }
+    requires within { past_of (length steps.now) (map (λ word. word.now) command.words.now) ≡ None }
+    requires chosen { chosen.now ≡ entities_of (map (λ word. word.now) command.words.now) }
+    ensures { Charts (map (λ word. word.now) command.entry.words.now) command.entry.window (L.recording log.now) steps.now result }
+{
     pictures_are_runs();
     let rows = rows_in(command.window, steps.len());
-    match pictured(alloc, log, steps, rows) {
+    match pictured(alloc, log, steps, rows, chosen, command.window.clock) {
         Ok(texts) => Ok(Product::File(texts)),
         Err(fault) => Err(of_chart(fault)),
     }
@@ -187,20 +206,23 @@ fn of_chart(fault: ChartFault) -> Fault<'static>
     }
 }
 
-/// The texts of the picture of some steps.
+/// The texts of the picture of some steps, with bars of the chosen entities, or of all where none is
+/// chosen, and perhaps with a clock.
 fn pictured<L: ExerciseLog>(
     alloc: Global,
     log: &L,
     steps: &[Step],
     rows: Rows,
+    chosen: &[EntityId],
+    clock: Option<ClockUnit>,
 ) -> Result<PictureTexts, ChartFault>
-    ensures picture { Pictures (L.recording log.now) steps.now rows result }
+    ensures picture { Pictures (L.recording log.now) steps.now rows chosen.now clock result }
     ensures few { OnOk result (rows.end - rows.first ≤ MOST_ROWS) }
     ensures limits { OnOk result (IsRecording (L.recording log.now)) }
 {
     let findings = Findings::of(alloc, log)?;
     let register = Register::of(alloc, findings)?;
-    let picture = draw(alloc, &register, steps, rows)?;
+    let picture = draw(alloc, &register, steps, rows, chosen, clock)?;
     let line = chart_line(alloc, rows.count(), log.station_count())?;
     Ok(PictureTexts { picture, line })
 }

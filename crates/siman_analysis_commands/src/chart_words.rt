@@ -1,48 +1,79 @@
-//! The words that select the steps of a picture.
+//! The words of a picture: which steps it shows, its clock, and the entities chosen for bars.
 
-ghost use Rattle.std.specs.Prelude.{◌≡◌, ◌≤◌, Ok, Err, IfOk, IfErr, map, option_map};
-ghost use Rattle.siman_analysis_commands.specs.ChartWords.{edge_by, edge_of, is_turned, narrowed, with_word, window_of, step_of, is_past, past_of, AreShown};
+ghost use Rattle.std.specs.Prelude.{◌≡◌, ◌≤◌, ◌++◌, Ok, Err, IfOk, IfErr, OnOk, map, option_map};
+ghost use Rattle.siman_analysis_commands.specs.ChartWords.{unit_of, choice_by, choice_of, is_turned, narrowed, with_word, window_of, entity_named, entities_of, names_past, is_past, past_of, AreShown};
 
 use byte_files::{number_32, split_once};
-use exercise_chart::Rows;
+use dis_records::EntityId;
+use exercise_chart::{ClockUnit, Rows};
+use siman_scripts::target_of;
+use std::alloc::{AllocError, Global};
 
-/// One bound of the selected steps.
+/// What one word chooses.
 #[derive(Clone, Copy)]
-pub(crate) enum Edge {
+pub(crate) enum ChartChoice {
     /// The first step.
     From(u32),
     /// The last step.
     To(u32),
+    /// What stamps count, for the clock.
+    Clock(ClockUnit),
+    /// An entity that bars are drawn for.
+    Entity(EntityId),
 }
 
-/// The bounds of the selected steps.
+/// The bounds of the selected steps, and the clock.
 #[derive(Clone, Copy)]
 pub(crate) struct Window {
     /// The first step, if a word names it.
     pub from: Option<u32>,
     /// The last step, if a word names it.
     pub to: Option<u32>,
+    /// What stamps count, if a word names it.
+    pub clock: Option<ClockUnit>,
 }
 
-/// The bound for a key and its value.
-fn edge_by(key: &[u8], word: &[u8]) -> Option<Edge>
-    ensures { result ≡ edge_by key.now word.now }
+/// The unit that a word names: `us`, `ms` or `s`.
+fn unit_of(word: &[u8]) -> Option<ClockUnit>
+    ensures { result ≡ unit_of word.now }
 {
-    if key == b"from".as_slice() {
-        return Some(Edge::From(number_32(word)?));
+    if word == b"us".as_slice() {
+        return Some(ClockUnit::Microsecond);
     }
-    if key == b"to".as_slice() {
-        return Some(Edge::To(number_32(word)?));
+    if word == b"ms".as_slice() {
+        return Some(ClockUnit::Millisecond);
+    }
+    if word == b"s".as_slice() {
+        return Some(ClockUnit::Second);
     }
     None
 }
 
-/// The bound that a word `from=STEP` or `to=STEP` names.
-fn edge_of(word: &[u8]) -> Option<Edge>
-    ensures { result ≡ edge_of word.now }
+/// The choice for a key and its value.
+fn choice_by(key: &[u8], word: &[u8]) -> Option<ChartChoice>
+    ensures { result ≡ choice_by key.now word.now }
+{
+    if key == b"from".as_slice() {
+        return Some(ChartChoice::From(number_32(word)?));
+    }
+    if key == b"to".as_slice() {
+        return Some(ChartChoice::To(number_32(word)?));
+    }
+    if key == b"clock".as_slice() {
+        return Some(ChartChoice::Clock(unit_of(word)?));
+    }
+    if key == b"entity".as_slice() {
+        return Some(ChartChoice::Entity(target_of(word)?));
+    }
+    None
+}
+
+/// The choice that a word `from=STEP`, `to=STEP`, `clock=UNIT` or `entity=S:A:E` names.
+fn choice_of(word: &[u8]) -> Option<ChartChoice>
+    ensures { result ≡ choice_of word.now }
 {
     let (key, word) = split_once(word, b'=')?;
-    edge_by(key, word)
+    choice_by(key, word)
 }
 
 /// Whether the first step is after the last.
@@ -55,33 +86,33 @@ fn is_turned(window: Window) -> bool
     }
 }
 
-/// The bounds with one more; `None` if that bound was named before, or the first step would be
-/// after the last.
-fn narrowed(window: Window, edge: Edge) -> Option<Window>
-    ensures { result ≡ narrowed window edge }
+/// The bounds and the clock with one more choice; `None` if that was named before, or the first step
+/// would be after the last. An entity may be named any number of times.
+fn narrowed(window: Window, choice: ChartChoice) -> Option<Window>
+    ensures { result ≡ narrowed window choice }
 {
-    let next = match edge {
-        Edge::From(step) if window.from.is_none() => Window {
-            from: Some(step),
-            to: window.to,
-        },
-        Edge::To(step) if window.to.is_none() => Window {
-            from: window.from,
-            to: Some(step),
-        },
+    let mut next = window;
+    match choice {
+        ChartChoice::From(step) if window.from.is_none() => next.from = Some(step),
+        ChartChoice::To(step) if window.to.is_none() => next.to = Some(step),
+        ChartChoice::Clock(unit) if window.clock.is_none() => {
+            next.clock = Some(unit);
+            return Some(next);
+        }
+        ChartChoice::Entity(_) => return Some(window),
         _ => return None,
-    };
+    }
     if is_turned(next) { None } else { Some(next) }
 }
 
 fn with_word(window: Window, word: &[u8]) -> Option<Window>
     ensures { result ≡ with_word window word.now }
 {
-    narrowed(window, edge_of(word)?)
+    narrowed(window, choice_of(word)?)
 }
 
-/// The bounds that words name, or the first word that is bad: it names no bound, its key was used
-/// before, or the first step would be after the last.
+/// The bounds and the clock that words name, or the first word that is bad: it names no choice, its
+/// key was used before and is not `entity`, or the first step would be after the last.
 pub(crate) fn window_of<'a>(words: &'a [&'a str]) -> Result<Window, &'a str>
     ensures said { IfOk result (λ window. window_of (map (λ word. word.now) words.now) ≡ Ok window) }
     ensures bad { IfErr result (λ word. window_of (map (λ word. word.now) words.now) ≡ Err word.now) }
@@ -89,6 +120,7 @@ pub(crate) fn window_of<'a>(words: &'a [&'a str]) -> Result<Window, &'a str>
     let mut window = Window {
         from: None,
         to: None,
+        clock: None,
     };
     let mut others = words;
     while let [word, rest @ ..] = others {
@@ -101,11 +133,36 @@ pub(crate) fn window_of<'a>(words: &'a [&'a str]) -> Result<Window, &'a str>
     Ok(window)
 }
 
-fn step_of(edge: Edge) -> u32
-    ensures { result ≡ step_of edge }
+/// Adds the entity that a word chooses, if it chooses one.
+fn push_entity(entities: &mut Vec<EntityId>, word: &[u8]) -> Result<(), AllocError>
+    ensures { OnOk result (entities.new.items ≡ entities.old.items ++ entity_named word.now) }
 {
-    match edge {
-        Edge::From(step) | Edge::To(step) => step,
+    match choice_of(word) {
+        Some(ChartChoice::Entity(id)) => Ok(entities.push(id)?),
+        _ => Ok(()),
+    }
+}
+
+/// The entities that words choose, in their order. The list takes memory.
+pub(crate) fn entities_of(alloc: Global, words: &[&str]) -> Result<Vec<EntityId>, AllocError>
+    ensures { IfOk result (λ entities. entities.items ≡ entities_of (map (λ word. word.now) words.now)) }
+{
+    let mut entities = Vec::new(alloc);
+    let mut others = words;
+    while let [word, rest @ ..] = others {
+        push_entity(&mut entities, word.as_bytes())?;
+        others = rest;
+    }
+    Ok(entities)
+}
+
+/// Whether a choice is of a step past the last of `steps` steps.
+fn names_past(steps: usize, choice: ChartChoice) -> bool
+    ensures { result ≡ names_past steps choice }
+{
+    match choice {
+        ChartChoice::From(step) | ChartChoice::To(step) => steps <= step as usize,
+        _ => false,
     }
 }
 
@@ -113,8 +170,8 @@ fn step_of(edge: Edge) -> u32
 fn is_past(steps: usize, word: &[u8]) -> bool
     ensures { result ≡ is_past steps word.now }
 {
-    match edge_of(word) {
-        Some(edge) => steps <= step_of(edge) as usize,
+    match choice_of(word) {
+        Some(choice) => names_past(steps, choice),
         None => false,
     }
 }

@@ -49,7 +49,7 @@ pub(crate) fn filter_pieces(word: &str, view: Option<ViewWord>) -> TextPieces<'s
             "the filters of count are station=S:A, entity=S:A:E, request=S:A/N and kind=NAME",
         ),
         None => return words_alone(
-            "the words of chart are from=STEP and to=STEP, each at most once, the first not above the last",
+            "the words of chart are from=STEP, to=STEP and clock=us|ms|s, each at most once, the first step not above the last, and entity=S:A:E",
         ),
     };
     words_alone(shared_words(word).unwrap_or(own))

@@ -314,7 +314,7 @@ pub(crate) const ROWS: [CommandRow; 18] = [
     CommandRow {
         name: "chart",
         takes: Takes::Picture,
-        usage: "siman chart <REC> <CERT> <SVG> [from=STEP] [to=STEP] [--force]",
+        usage: "siman chart <REC> <CERT> <SVG> [CHOICE]... [--force]",
         about: "Draws an exercise in the sequence of its certificate, and writes the picture",
         example: "Example:\n  siman chart exercise.dsrc exercise.dsct exercise.svg",
         words: &[
@@ -326,9 +326,9 @@ pub(crate) const ROWS: [CommandRow; 18] = [
                 about: "The file of the picture, in SVG; it must not be there yet, or be empty",
             },
             CommandWord {
-                name: "STEP",
+                name: "CHOICE",
                 often: Often::AnyTimes,
-                about: "Which steps of the certificate are shown, counted from 0: from=STEP says the first, to=STEP the last; each may stand once",
+                about: "What is shown: from=STEP the first step, to=STEP the last, counted from 0; clock=us, clock=ms or clock=s the time of day, of stamps in that unit; each may stand once; entity=S:A:E bars of this entity and of no other than those named",
             },
         ],
     },

@@ -19,7 +19,14 @@ fn is_of_creation(picture: &str) -> bool {
 /// The picture of a log.
 fn drawn(alloc: Global, log: &Recording) -> Result<String, ChartFault> {
     let register = Register::of(alloc, Findings::of(alloc, log)?)?;
-    draw(alloc, &register, &FOUND, Rows { first: 0, end: 4 })
+    draw(
+        alloc,
+        &register,
+        &FOUND,
+        Rows { first: 0, end: 4 },
+        &[],
+        None,
+    )
 }
 
 impl LibraryCall<Recording> for Drawing {

@@ -5,4 +5,4 @@ use Rattle.exercise_chart.proofs.picture.draw.Goals as goal
 pub picture_in-requires-clause-marks : goal.picture_in-requires-clause-marks
 picture_in-requires-clause-marks g c =
     rw (c.log-log.ensures, c.in_ok-marks.ensures.marks)
-    (marks_are_of_stations c.args.register.now c.args.steps.now c.args.rows (rw c.log-log.ensures at c.frame_of.ensures.limits))
+    (marks_are_of_stations c.args.register.now c.args.steps.now c.args.rows c.args.chosen.now (rw c.log-log.ensures at c.frame_of.ensures.limits))

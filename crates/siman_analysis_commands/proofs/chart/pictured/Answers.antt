@@ -12,9 +12,9 @@ pub returns-in_err-picture-clause-picture : goal.returns-in_err-picture-clause-p
 returns-in_err-picture-clause-picture g c =
     let r = g.L.ExerciseLog.recording c.args.log.now in
     let fault = c.in_err-picture.field-0.0 in
-    let none = subst (λ (x : PlainRecording). Draws x c.args.steps.now c.args.rows (Err fault)) (c.in_ok-register.ensures ∙ c.in_ok-findings.ensures.findings) c.in_err-picture.ensures.picture in
-    undrawn r c.args.steps.now c.args.rows fault none _ c.from_residual-in_err-picture.ensures.1
+    let none = subst (λ (x : PlainRecording). Draws x c.args.steps.now c.args.rows c.args.chosen.now c.args.clock (Err fault)) (c.in_ok-register.ensures ∙ c.in_ok-findings.ensures.findings) c.in_err-picture.ensures.picture in
+    undrawn r c.args.steps.now c.args.rows c.args.chosen.now c.args.clock fault none _ c.from_residual-in_err-picture.ensures.1
 
 pub returns-in_err-line-clause-picture : goal.returns-in_err-line-clause-picture
 returns-in_err-line-clause-picture g c =
-    at_fault (Pictures (g.L.ExerciseLog.recording c.args.log.now) c.args.steps.now c.args.rows) Memory _ c.from_residual-in_err-line.ensures.1 tt
+    at_fault (Pictures (g.L.ExerciseLog.recording c.args.log.now) c.args.steps.now c.args.rows c.args.chosen.now c.args.clock) Memory _ c.from_residual-in_err-line.ensures.1 tt

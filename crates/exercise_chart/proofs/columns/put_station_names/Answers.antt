@@ -1,6 +1,6 @@
 use Rattle.exercise_chart.specs.Columns.{name_text}
 use Rattle.exercise_chart.proofs.Below.{texts_begin, texts_next}
-use Rattle.exercise_chart.proofs.columns.put_names_at.Goals as goal
+use Rattle.exercise_chart.proofs.columns.put_station_names.Goals as goal
 
 pub loop-station-init : goal.loop-station-init
 loop-station-init g c = texts_begin _ _

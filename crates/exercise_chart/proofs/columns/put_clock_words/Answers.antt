@@ -1,0 +1,5 @@
+use Rattle.exercise_chart.proofs.columns.put_clock_words.Goals as goal
+
+-- It stands where the frame has it.
+pub returns : goal.returns
+returns c = rw c.clock_x.ensures.x at c.in_ok-put_words.ensures

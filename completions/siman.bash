@@ -100,7 +100,7 @@ _siman() {
         chart:0) _siman_files dsrc ;;
         chart:1) _siman_files dsct ;;
         chart:2) _siman_folders ;;
-        chart:*) _siman_words 'from= to= --force' ;;
+        chart:*) _siman_words '--force' ;;
     esac
 }
 

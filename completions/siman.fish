@@ -111,4 +111,4 @@ complete -c siman -n '__siman_at 1' -a chart -d 'Draws an exercise in the sequen
 complete -c siman -n '__siman_at 2 chart' -a '(__siman_files dsrc)'
 complete -c siman -n '__siman_at 3 chart' -a '(__siman_files dsct)'
 complete -c siman -n '__siman_at 4 chart' -a '(__siman_folders)'
-complete -c siman -n '__siman_behind 5 chart' -a 'from= to= --force'
+complete -c siman -n '__siman_behind 5 chart' -a '--force'

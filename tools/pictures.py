@@ -42,7 +42,7 @@ from repairs import comment
 
 ALL = 0xFFFF
 OUTSIDE = (9, 9)
-WHOLE = re.compile("-?[0-9]+( -?[0-9]+)*")
+WHOLE = re.compile("-?[0-9]+( -?[0-9]+)*|[0-9]+vh")
 PLACES = {"x", "y", "x1", "y1", "x2", "y2", "width", "height", "viewBox", "cx", "cy", "r"}
 SVG = "{http://www.w3.org/2000/svg}"
 XMLLINT = shutil.which("xmllint")

@@ -7,13 +7,14 @@ from .files import RUNNING, SENT, STATES, TOLD, Fault, read_certificate, read_re
 from .histories import is_answer, request_of, same_order, verdict
 from .reviews import told_at, word_of
 
-LEFT, TOP, ROW, BLOCK, MOST_ROWS = 40, 128, 20, 40, 2000
+LEFT, TOP, ROW, BLOCK, MOST_ROWS = 40, 128, 20, 36, 2000
+SHEET, ACROSS = 1195, 1152
 MOST_STEP = 0xFFFF_FFFF
 TONES = {"request": "#1d4ed8", "able": "#15803d", "unable": "#c2410c", "other": "#475569", "notice": "#7c3aed"}
 WORD_TONES = {"able": "able", "complete": "able", "data": "able", "unable": "unable", "rejected": "unable"}
 # Of each unit of stamps: how many there are in a second, how many digits stand behind it, and how wide a clock is.
 UNITS = {"us": (1_000_000, 6), "ms": (1_000, 3), "s": (1, 0)}
-CLOCK_WIDTHS = {"us": 96, "ms": 78, "s": 60}
+CLOCK_WIDTHS = {"us": 116, "ms": 92, "s": 68}
 # Each light colour with the dark one that takes its place.
 DARK = {
     "#1d4ed8": "#93c5fd", "#15803d": "#86efac", "#c2410c": "#fdba74", "#475569": "#cbd5e1", "#7c3aed": "#c4b5fd",
@@ -31,6 +32,7 @@ SIGNS = (
     '<path id="told" d="M0 -6L6 0L0 6L-6 0z" stroke="#1f2933" stroke-width="2"/>\n'
     '<g id="unanswered" stroke="#dc2626" stroke-width="2"><circle r="6"/><path d="M-3 -3L3 3"/></g>\n'
 )
+BODY = '<marker id="drawn" markerUnits="userSpaceOnUse" overflow="visible"><use href="#lines"/></marker>\n'
 
 
 def attributes(pairs):
@@ -79,7 +81,7 @@ class Drawing(Picture):
     # Where things stand.
 
     def x(self, station):
-        return LEFT + (120 if self.is_wide else 72) * station
+        return LEFT + (108 if self.is_wide else 72) * station
 
     def slot_x(self, station, slot):
         return self.x(station) + (12 if self.is_wide else 8) * min(slot, MOST_ENTITIES)
@@ -115,7 +117,7 @@ class Drawing(Picture):
 
     @property
     def width(self):
-        return self.words_x + 480
+        return self.words_x + 540
 
     @property
     def bottom(self):
@@ -127,22 +129,22 @@ class Drawing(Picture):
     # The parts.
 
     def text(self):
-        under = self.heading() + self.rows_text() + self.columns() + self.bars_text()
-        over = self.arrows() + self.outsiders() + self.losses() + self.deeds() + self.all_unanswered() + self.names()
-        return f"{under}{over}</svg>\n"
+        under = self.heading() + self.rows_text() + '<g id="lines">\n' + self.columns() + self.bars_text()
+        over = self.arrows() + self.outsiders() + self.losses() + self.deeds() + self.all_unanswered()
+        return f"{under}{over}</g>\n{self.names()}</g>\n{self.sheets_text()}</svg>\n"
 
     def heading(self):
         width, height = self.width, self.bottom + 24
         entries, steps = len(self.story.entries), self.rows.stop - self.rows.start
         counts = f"{self.count} stations, {entries} entries, {steps} steps from step {self.rows.start} on"
         return (
-            f'<svg xmlns="http://www.w3.org/2000/svg" width="{width}" height="{height}" viewBox="0 0 {width} {height}" '
+            f'<svg xmlns="http://www.w3.org/2000/svg" width="{width}" height="{height}" style="--sheets:{self.down * self.across}" '
             'font-family="Helvetica,Arial,sans-serif" font-size="11">\n'
             f"<title>Exercise {self.exercise}</title>\n<desc>{counts}. Stations are columns, steps are rows, from "
             "above; behind each row stands its entry in words.</desc>\n"
-            f"{self.style()}<defs>\n{''.join(map(self.head, TONES))}{CROSS}{SIGNS}</defs>\n"
+            f"{self.style()}<defs>\n{''.join(map(self.head, TONES))}{CROSS}{SIGNS}{BODY}</defs>\n"
             + element("rect", ("width", width), ("height", height), ("fill", "#ffffff"))
-            + '<g fill="#1f2933">\n<text x="24" y="28" font-size="18" font-weight="bold">'
+            + '<g id="screen">\n<g id="heading" fill="#1f2933">\n<text x="24" y="28" font-size="18" font-weight="bold">'
             + f'Exercise {self.exercise}</text>\n<text x="24" y="48">{counts}</text>\n{LEGEND}</g>\n'
         )
 
@@ -152,7 +154,9 @@ class Drawing(Picture):
             f'[fill="{light}"]{{fill:{other}}}[stroke="{light}"]{{stroke:{other}}}\n' for light, other in DARK.items()
         )
         return (
-            "<style>\n@page{margin:10mm}\n@media print{svg{width:100%;height:auto}}\n"
+            "<style>\n#sheets{display:none}\n@page{size:landscape;margin:10mm}\n"
+            "@media print{:root{width:100%;height:calc(100vh*var(--sheets));font-size:13px}"
+            "#screen{display:none}#sheets{display:inline}}\n"
             f"@media (prefers-color-scheme:dark){{\n{dark}}}\n</style>\n"
         )
 
@@ -164,15 +168,16 @@ class Drawing(Picture):
         )
 
     def rows_text(self):
-        return group("".join(map(self.row, self.rows)), fill="#1f2933")
+        return group("".join(map(self.row, self.rows)))
 
     def row(self, step):
         entry = self.places[step]
-        y = self.y(entry)
+        y, (block, place) = self.y(entry), divmod(step - self.rows.start, BLOCK)
+        begun = "" if place else f'</g>\n<g id="rows{block}" fill="#1f2933">\n'
         rule = element("line", ("x1", 16), ("y1", y), ("x2", self.rows_x - 8), ("y2", y), ("stroke", "#e2e8f0"))
         number = words(step, ("x", self.step_x), ("y", y + 4), ("text-anchor", "end"))
         keys = [("x", self.words_x), ("y", y + 4), ("class", "row"), ("data-step", step), ("data-entry", entry)]
-        return rule + number + self.clock(entry, y + 4) + words(self.row_words(entry), *keys)
+        return begun + rule + number + self.clock(entry, y + 4) + words(self.row_words(entry), *keys)
 
     def clock(self, entry, y):
         if not self.unit:
@@ -215,7 +220,7 @@ class Drawing(Picture):
     def bars_text(self):
         bars = "".join(self.station_bars(station) for station in range(self.count))
         bars += "".join(self.undrawn(station) for station in range(self.count))
-        return group(bars, fill="#1f2933", writing_mode="vertical-rl", font_size=12 if self.is_wide else 8)
+        return group(bars, fill="#1f2933", writing_mode="vertical-rl", font_size=13 if self.is_wide else 8)
 
     def station_bars(self, station):
         shown, entities = self.lives(station)
@@ -316,11 +321,43 @@ class Drawing(Picture):
         return "".join(self.sign(name, entry, "#ffffff") for name, entry in self.unanswered())
 
     def names(self):
-        names = "".join(self.names_at(TOP + 4 + ROW * (BLOCK + 1) * b) for b in range(self.shown // BLOCK + 1))
+        return "".join(map(self.names_above, range(self.shown // BLOCK + 1)))
+
+    def names_above(self, block):
         return group(
-            names, fill="#1f2933", stroke="#ffffff", stroke_width=4, paint_order="stroke", font_weight="bold",
-            text_anchor="middle",
+            self.names_at(TOP + 4 + ROW * (BLOCK + 1) * block), id=f"names{block}", fill="#1f2933", stroke="#ffffff",
+            stroke_width=4, paint_order="stroke", font_weight="bold", text_anchor="middle",
         )  # fmt: skip
+
+    # The sheets.
+
+    @property
+    def down(self):
+        return max(self.shown - 1, 0) // BLOCK + 1
+
+    @property
+    def is_narrow(self):
+        return self.width <= SHEET
+
+    @property
+    def across(self):
+        return 1 if self.is_narrow else (self.count + 15) // 16 + 1
+
+    def sheets_text(self):
+        return group("".join(map(self.sheet, range(self.down * self.across))), id="sheets")
+
+    def sheet(self, number):
+        block, place = divmod(number, self.across)
+        x, width = (0, SHEET) if self.is_narrow else (self.rows_x - 8, SHEET)
+        if not self.is_narrow and 16 * place < self.count:
+            x = 4 + ACROSS * place
+            width = min(ACROSS, self.rows_x - 8 - x)
+        return (
+            f'<svg y="{100 * number}vh" width="980" height="716" viewBox="0 0 1195 873">\n<use href="#heading"/>\n'
+            f'<svg y="116" width="{width}" height="740" viewBox="{x} {116 + 740 * block} {width} 740">\n'
+            f'<use href="#rows{block}"/>\n<path d="M0 0h1" marker-start="url(#drawn)"/>\n<use href="#names{block}"/>\n'
+            "</svg>\n</svg>\n"
+        )
 
     def names_at(self, y):
         stations = "".join(words(self.address(s), ("x", self.x(s)), ("y", y)) for s in range(self.count))

@@ -58,7 +58,7 @@ undrawn_text f r u =
 
 -- the font size; the numbers run vertically, since the bars are narrow
 abbrev pub font_of : Frame → List ℕ
-font_of f = if is_wide f then codes "12" else codes "8"
+font_of f = if is_wide f then codes "13" else codes "8"
 
 abbrev pub bars_begin : Frame → List ℕ
 bars_begin f = codes "<g fill=\"#1f2933\" writing-mode=\"vertical-rl\" font-size=\"" ++ font_of f ++ codes "\">\n"

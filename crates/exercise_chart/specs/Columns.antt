@@ -1,5 +1,5 @@
 -- The columns of a picture, one for each station, and the names above them and above the rows (profile).
-use Rattle.std.specs.Prelude.{ℕ, List, [], ◌∷◌, ◌++◌, codes}
+use Rattle.std.specs.Prelude.{ℕ, List, [], ◌∷◌, ◌++◌, codes, decimal}
 use Rattle.std.specs.Option.{option_map_or}
 use Rattle.exercise_model.specs.Recording.{PlainRecording}
 use Rattle.exercise_model.specs.History.{station_at}
@@ -17,9 +17,9 @@ column_text f s =
     element_text (codes "line")
     (number (codes "x1") (column_x f s) ∷ number (codes "y1") TOP ∷ number (codes "x2") (column_x f s) ∷ number (codes "y2") (bottom_y f) ∷ [])
 
--- THE LINES OF THE COLUMNS
+-- THE LINES OF THE COLUMNS, with which the group of all lines begins
 unfoldable pub columns_text : Frame → List ℕ
-columns_text f = codes "<g stroke=\"#94a3b8\">\n" ++ texts_below (column_text f) f.stations ++ codes "</g>\n"
+columns_text f = codes "<g id=\"lines\">\n<g stroke=\"#94a3b8\">\n" ++ texts_below (column_text f) f.stations ++ codes "</g>\n"
 
 -- the name of station s at a height
 abbrev pub name_text : Frame → PlainRecording → (y s : ℕ) → List ℕ
@@ -52,11 +52,16 @@ station_names f r y = texts_below (name_text f r y) f.stations
 abbrev pub names_at : Frame → PlainRecording → (y : ℕ) → List ℕ
 names_at f r y = station_names f r y ++ step_name f y ++ clock_name f y ++ entry_name f y
 
-abbrev pub names_above : Frame → PlainRecording → (block : ℕ) → List ℕ
-names_above f r b = names_at f r (names_y b)
+-- the names above a block of rows make a group of their own, which has the number of the block in
+-- its name: a sheet shows it
+abbrev pub names_begin : (block : ℕ) → List ℕ
+names_begin b =
+    codes "<g id=\"names" ++ decimal b
+    ++ codes "\" fill=\"#1f2933\" stroke=\"#ffffff\" stroke-width=\"4\" paint-order=\"stroke\" font-weight=\"bold\" text-anchor=\"middle\">\n"
+
+unfoldable pub names_above : Frame → PlainRecording → (block : ℕ) → List ℕ
+names_above f r b = names_begin b ++ names_at f r (names_y b) ++ codes "</g>\n"
 
 -- THE NAMES of the stations, the steps, the clocks and the entries, above each block of rows
 unfoldable pub names_text : Frame → PlainRecording → List ℕ
-names_text f r =
-    codes "<g fill=\"#1f2933\" stroke=\"#ffffff\" stroke-width=\"4\" paint-order=\"stroke\" font-weight=\"bold\" text-anchor=\"middle\">\n"
-    ++ texts_below (names_above f r) (blocks_of f) ++ codes "</g>\n"
+names_text f r = texts_below (names_above f r) (blocks_of f)

@@ -21,6 +21,7 @@ use Rattle.exercise_chart.specs.Rows.{rows_text}
 use Rattle.exercise_chart.specs.Columns.{columns_text, names_text}
 use Rattle.exercise_chart.specs.Bars.{bars_text}
 use Rattle.exercise_chart.specs.Lines.{arrows_text, outsiders_text, losses_text}
+use Rattle.exercise_chart.specs.Sheets.{sheets_text}
 use Rattle.exercise_chart.specs.Signs.{activity_signs_text, all_unanswered_text}
 
 -- the rows, the losses and the entities without a bar name only stations below n
@@ -37,11 +38,11 @@ frame_of r rows clock = record { rows = rows; stations = length r.setting.statio
 unfoldable pub under_text : Frame → PlainRecording → MarksData → List ℕ
 under_text f r m = heading_text f r ++ rows_text f r m.rows ++ columns_text f ++ bars_text f r m.bars m.undrawn
 
--- the lines, the signs, the names of the stations and the end
+-- the lines, the signs, the names, the sheets and the end
 unfoldable pub over_text : Frame → PlainRecording → MarksData → List ℕ
 over_text f r m =
     arrows_text f m.arrows ++ outsiders_text f m.outside ++ losses_text f r m.losses ++ activity_signs_text f m.bars m.rows
-    ++ all_unanswered_text f m.unanswered ++ names_text f r ++ codes "</svg>\n"
+    ++ all_unanswered_text f m.unanswered ++ codes "</g>\n" ++ names_text f r ++ codes "</g>\n" ++ sheets_text f ++ codes "</svg>\n"
 
 abbrev pub picture_in : Frame → PlainRecording → MarksData → List ℕ
 picture_in f r m = under_text f r m ++ over_text f r m

@@ -17,7 +17,7 @@ is_wide f = nat_le f.stations 4
 
 -- THE MIDDLE OF THE COLUMN of station s
 unfoldable pub column_x : Frame → (s : ℕ) → ℕ
-column_x f s = if is_wide f then LEFT + 120 * s else LEFT + 72 * s
+column_x f s = if is_wide f then LEFT + 108 * s else LEFT + 72 * s
 
 -- the left end of the rows' steps and words: the place of one more column
 abbrev pub rows_x : Frame → ℕ
@@ -33,9 +33,9 @@ clock_x f = step_x f + 12
 
 -- the width of the column of clocks, which only a picture with a clock has
 abbrev pub clock_width : Option ClockUnit → ℕ
-clock_width (Some units.Microsecond) = 96
-clock_width (Some units.Millisecond) = 78
-clock_width (Some units.Second) = 60
+clock_width (Some units.Microsecond) = 116
+clock_width (Some units.Millisecond) = 92
+clock_width (Some units.Second) = 68
 clock_width None = 0
 
 -- the left end of the words of the rows
@@ -43,7 +43,7 @@ abbrev pub words_x : Frame → ℕ
 words_x f = clock_x f + clock_width f.clock
 
 unfoldable pub width_of : Frame → ℕ
-width_of f = words_x f + 480
+width_of f = words_x f + 540
 
 -- THE MIDDLE OF A BAR in a slot of station s
 unfoldable pub slot_x : Frame → (s slot : ℕ) → ℕ
@@ -55,7 +55,7 @@ abbrev pub rows_shown : Frame → ℕ
 rows_shown f = min (f.rows.end - f.rows.first) MOST_ROWS
 
 -- THE HEIGHT OF A ROW by its number among the shown rows, from 0: station names take one row before
--- each 40
+-- each 36
 unfoldable pub row_y : ℕ → ℕ
 row_y n = TOP + ROW * (n + n / BLOCK + 1)
 

@@ -3,21 +3,22 @@ use Rattle.std.specs.Prelude.{ℕ, ◌-◌, List, [], ◌∷◌, ◌++◌, lengt
 use Rattle.exercise_model.specs.Recording.{PlainRecording}
 use Rattle.exercise_chart.specs.declared.frame.Frame.{Frame}
 use Rattle.exercise_chart.specs.Element.{element_text, number, word}
+use Rattle.exercise_chart.specs.Sheets.{sheets_of}
 use Rattle.exercise_chart.specs.Frame.{width_of, height_of}
 
--- the size of the picture, twice: as it is displayed, and in its own units
+-- the size of the picture, and the number of sheets that it is printed on
 abbrev pub size_text : Frame → List ℕ
 size_text f =
     codes "<svg xmlns=\"http://www.w3.org/2000/svg\" width=\"" ++ decimal (width_of f) ++ codes "\" height=\"" ++ decimal (height_of f) ++ codes "\""
 
-abbrev pub view_text : Frame → List ℕ
-view_text f =
-    codes " viewBox=\"0 0 " ++ decimal (width_of f) ++ codes " " ++ decimal (height_of f)
+abbrev pub print_text : Frame → List ℕ
+print_text f =
+    codes " style=\"--sheets:" ++ decimal (sheets_of f)
     ++ codes "\" font-family=\"Helvetica,Arial,sans-serif\" font-size=\"11\">\n"
 
 -- the start tag of the picture
 unfoldable pub opening_text : Frame → List ℕ
-opening_text f = size_text f ++ view_text f
+opening_text f = size_text f ++ print_text f
 
 -- the number of stations and entries, and the range of shown steps
 unfoldable pub counts_text : Frame → PlainRecording → List ℕ
@@ -38,8 +39,9 @@ about_text f r =
 unfoldable pub style_text : List ℕ
 style_text =
     codes "<style>\n"
-    ++ codes "@page{margin:10mm}\n"
-    ++ codes "@media print{svg{width:100%;height:auto}}\n"
+    ++ codes "#sheets{display:none}\n"
+    ++ codes "@page{size:landscape;margin:10mm}\n"
+    ++ codes "@media print{:root{width:100%;height:calc(100vh*var(--sheets));font-size:13px}#screen{display:none}#sheets{display:inline}}\n"
     ++ codes "@media (prefers-color-scheme:dark){\n"
     ++ codes "[fill=\"#1d4ed8\"]{fill:#93c5fd}[stroke=\"#1d4ed8\"]{stroke:#93c5fd}\n"
     ++ codes "[fill=\"#15803d\"]{fill:#86efac}[stroke=\"#15803d\"]{stroke:#86efac}\n"
@@ -56,7 +58,8 @@ style_text =
     ++ codes "}\n"
     ++ codes "</style>\n"
 
--- THE DEFINITIONS of arrow heads, the cross of a loss, and the signs
+-- THE DEFINITIONS of arrow heads, the cross of a loss, the signs, and of the lines
+-- of the picture, as the sheets show them
 unfoldable pub signs_text : List ℕ
 signs_text =
     codes "<defs>\n"
@@ -70,6 +73,7 @@ signs_text =
     ++ codes "<rect id=\"other\" x=\"-4\" y=\"-4\" width=\"8\" height=\"8\"/>\n"
     ++ codes "<path id=\"told\" d=\"M0 -6L6 0L0 6L-6 0z\" stroke=\"#1f2933\" stroke-width=\"2\"/>\n"
     ++ codes "<g id=\"unanswered\" stroke=\"#dc2626\" stroke-width=\"2\"><circle r=\"6\"/><path d=\"M-3 -3L3 3\"/></g>\n"
+    ++ codes "<marker id=\"drawn\" markerUnits=\"userSpaceOnUse\" overflow=\"visible\"><use href=\"#lines\"/></marker>\n"
     ++ codes "</defs>\n"
 
 -- the white background
@@ -78,7 +82,7 @@ paper_text f =
     element_text (codes "rect") (number (codes "width") (width_of f) ∷ number (codes "height") (height_of f) ∷ word (codes "fill") (codes "#ffffff") ∷ [])
 
 abbrev pub caption_begin : List ℕ
-caption_begin = codes "<g fill=\"#1f2933\">\n<text x=\"24\" y=\"28\" font-size=\"18\" font-weight=\"bold\">"
+caption_begin = codes "<g id=\"screen\">\n<g id=\"heading\" fill=\"#1f2933\">\n<text x=\"24\" y=\"28\" font-size=\"18\" font-weight=\"bold\">"
 
 abbrev pub name_text : PlainRecording → List ℕ
 name_text r = codes "Exercise " ++ decimal r.setting.exercise ++ codes "</text>\n<text x=\"24\" y=\"48\">"

@@ -22,5 +22,6 @@ pub mod Slot
 pub mod Signs
 pub mod Bars
 pub mod Columns
+pub mod Sheets
 pub mod Heading
 pub mod Drawing

@@ -1,5 +1,5 @@
 -- The rows of a picture: the number of the step, the clock, and the entry in words (profile).
-use Rattle.std.specs.Prelude.{ℕ, ◌+◌, ◌-◌, List, [], ◌∷◌, ◌++◌, codes, decimal}
+use Rattle.std.specs.Prelude.{ℕ, ◌+◌, ◌-◌, ◌/◌, ◌%◌, ◌==◌, List, [], ◌∷◌, ◌++◌, codes, decimal, if◌then◌else◌}
 use Rattle.std.specs.List.{flat_map}
 use Rattle.std.specs.Option.{option_map_or}
 use Rattle.exercise_model.specs.Recording.{PlainRecording}
@@ -11,6 +11,7 @@ use Rattle.siman_print.specs.declared.spelling.Spelling.TheVariants.{Text}
 use Rattle.siman_print.specs.Line.{Number, Word, Bare}
 use Rattle.siman_print.specs.Spelled.{address_text, field_text, fields_spelled}
 use Rattle.exercise_chart.specs.declared.frame.Frame.{Frame}
+use Rattle.exercise_chart.specs.declared.frame.TheConstants.{BLOCK}
 use Rattle.exercise_chart.specs.Element.{element_text, begun_words, words_text, number, word}
 use Rattle.exercise_chart.specs.Frame.{rows_x, step_x, clock_x, words_x, step_y}
 use Rattle.exercise_chart.specs.Words.{activity_words}
@@ -43,14 +44,22 @@ row_words r row =
     ++ fields_spelled Text (Bare (codes "address") (Word (address_text (station_at r row.at.station).address)) ∷ [])
     ++ activity_words (station_at r row.at.station).address row.did
 
+-- the rows of a block make a group of their own, which begins before its first row and has the
+-- number of the block in its name: a sheet shows it
+unfoldable pub block_begin : Frame → (step : ℕ) → List ℕ
+block_begin f step =
+    if (step - f.rows.first) % BLOCK == 0
+    then codes "</g>\n<g id=\"rows" ++ decimal ((step - f.rows.first) / BLOCK) ++ codes "\" fill=\"#1f2933\">\n"
+    else []
+
 -- A ROW: its rule, its step, its clock, and its words, which carry the row's attributes
 abbrev pub row_text : Frame → PlainRecording → Row → List ℕ
 row_text f r row =
-    rule_text f (step_y f row.at.step) ++ step_text f (step_y f row.at.step + 4) row.at.step ++ row_clock_text f (step_y f row.at.step + 4) row
+    block_begin f row.at.step ++ rule_text f (step_y f row.at.step) ++ step_text f (step_y f row.at.step + 4) row.at.step ++ row_clock_text f (step_y f row.at.step + 4) row
     ++ begun_words (number (codes "x") (words_x f) ∷ number (codes "y") (step_y f row.at.step + 4) ∷ word (codes "class") (codes "row")
     ∷ number (codes "data-step") row.at.step ∷ number (codes "data-entry") row.at.entry ∷ [])
     ++ row_words r row ++ codes "</text>\n"
 
 -- THE ROWS
 unfoldable pub rows_text : Frame → PlainRecording → List Row → List ℕ
-rows_text f r rows = codes "<g fill=\"#1f2933\">\n" ++ flat_map (row_text f r) rows ++ codes "</g>\n"
+rows_text f r rows = codes "<g>\n" ++ flat_map (row_text f r) rows ++ codes "</g>\n"

@@ -99,7 +99,7 @@ fn put_bar(text: &mut String, frame: Frame, bar: &Bar) -> Result<(), AllocError>
 fn font_of(frame: Frame) -> &'static str
     ensures { result.now ≡ font_of frame }
 {
-    if frame.is_wide() { "12" } else { "8" }
+    if frame.is_wide() { "13" } else { "8" }
 }
 
 /// Writes the start tag of the bars. The entity numbers run vertically, since the bars are narrow.

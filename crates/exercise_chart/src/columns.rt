@@ -3,7 +3,7 @@
 ghost use Rattle.std.specs.Prelude.{◌≡◌, ◌<◌, ◌^◌, ◌++◌, length, OnOk, string_bytes};
 ghost use Rattle.siman_print.specs.Below.{texts_below};
 ghost use Rattle.exercise_chart.specs.Frame.{blocks_of};
-ghost use Rattle.exercise_chart.specs.Columns.{column_text, columns_text, name_text, step_name, clock_name_words, clock_name, entry_name, station_names, names_at, names_above, names_text};
+ghost use Rattle.exercise_chart.specs.Columns.{column_text, columns_text, name_text, step_name, clock_name_words, clock_name, entry_name, station_names, names_at, names_begin, names_above, names_text};
 
 use crate::element::{Attribute, Shown, put_element, put_words};
 use crate::frame::{Frame, TOP, names_y};
@@ -25,12 +25,12 @@ fn put_column(text: &mut String, frame: Frame, station: u16) -> Result<(), Alloc
     Ok(())
 }
 
-/// Writes the lines of all columns.
+/// Begins the group of all lines, and writes those of the columns.
 #[tactic(auto, unfolding(crate::specs::Columns::columns_text))]
 pub(crate) fn put_columns(text: &mut String, frame: Frame) -> Result<(), AllocError>
     ensures { OnOk result (string_bytes text.new ≡ string_bytes text.old ++ columns_text frame) }
 {
-    text.push_str("<g stroke=\"#94a3b8\">\n")?;
+    text.push_str("<g id=\"lines\">\n<g stroke=\"#94a3b8\">\n")?;
     for station in 0..frame.stations {
         put_column(text, frame, station)?;
     }
@@ -143,6 +143,34 @@ fn put_names_at<L: ExerciseLog>(
     put_entry_name(text, frame, y)
 }
 
+/// Begins the group of the names above a block of rows: a sheet shows it.
+fn begin_names(text: &mut String, block: u64) -> Result<(), AllocError>
+    ensures { OnOk result (string_bytes text.new ≡ string_bytes text.old ++ names_begin block) }
+{
+    write!(
+        text,
+        "<g id=\"names{block}\" fill=\"#1f2933\" stroke=\"#ffffff\" stroke-width=\"4\" paint-order=\"stroke\" font-weight=\"bold\" text-anchor=\"middle\">\n"
+    )
+}
+
+/// Writes the names above a block of rows.
+#[tactic(auto, unfolding(crate::specs::Columns::names_above))]
+fn put_names_above<L: ExerciseLog>(
+    text: &mut String,
+    frame: Frame,
+    log: &L,
+    block: u64,
+) -> Result<(), AllocError>
+    requires stations { frame.stations ≡ length (L.recording log.now).setting.stations }
+    requires block { block < 2 ^ 16 }
+    ensures { OnOk result (string_bytes text.new ≡ string_bytes text.old ++ names_above frame (L.recording log.now) block) }
+{
+    begin_names(text, block)?;
+    put_names_at(text, frame, log, names_y(block))?;
+    text.push_str("</g>\n")?;
+    Ok(())
+}
+
 /// Writes the names of the stations, the steps, the clocks and the entries, above each block of rows.
 #[tactic(auto, unfolding(crate::specs::Columns::names_text))]
 pub(crate) fn put_names<L: ExerciseLog>(
@@ -153,12 +181,8 @@ pub(crate) fn put_names<L: ExerciseLog>(
     requires { frame.stations ≡ length (L.recording log.now).setting.stations }
     ensures { OnOk result (string_bytes text.new ≡ string_bytes text.old ++ names_text frame (L.recording log.now)) }
 {
-    text.push_str(
-        "<g fill=\"#1f2933\" stroke=\"#ffffff\" stroke-width=\"4\" paint-order=\"stroke\" font-weight=\"bold\" text-anchor=\"middle\">\n",
-    )?;
     for block in 0..frame.blocks() {
-        put_names_at(text, frame, log, names_y(block))?;
+        put_names_above(text, frame, log, block)?;
     }
-    text.push_str("</g>\n")?;
     Ok(())
 }

@@ -12,7 +12,7 @@ pub(crate) const TOP: u64 = 128;
 /// Distance between two rows.
 pub(crate) const ROW: u64 = 20;
 /// Rows between two lines of station names.
-pub(crate) const BLOCK: u64 = 40;
+pub(crate) const BLOCK: u64 = 36;
 
 /// What all places depend on: the shown steps, the number of stations, and the clock.
 #[derive(Clone, Copy)]
@@ -40,7 +40,7 @@ impl Frame {
     {
         let station = u64::from(station);
         if self.is_wide() {
-            LEFT + 120 * station
+            LEFT + 108 * station
         } else {
             LEFT + 72 * station
         }
@@ -84,7 +84,7 @@ impl Frame {
     pub(crate) fn width(self) -> u64
         ensures { result ≡ width_of self }
     {
-        self.words_x() + 480
+        self.words_x() + 540
     }
 
     /// The middle of a bar in a slot of a station.
@@ -176,9 +176,9 @@ fn clock_width(clock: Option<ClockUnit>) -> u64
     ensures small { result < 128 }
 {
     match clock {
-        Some(ClockUnit::Microsecond) => 96,
-        Some(ClockUnit::Millisecond) => 78,
-        Some(ClockUnit::Second) => 60,
+        Some(ClockUnit::Microsecond) => 116,
+        Some(ClockUnit::Millisecond) => 92,
+        Some(ClockUnit::Second) => 68,
         None => 0,
     }
 }

@@ -6,23 +6,25 @@ ghost use Rattle.exercise_chart.specs.Heading.{opening_text, about_text, counts_
 
 use crate::element::{Attribute, Shown, put_element};
 use crate::frame::Frame;
+use crate::sheets::sheets_of;
 use exercise_model::ExerciseLog;
 use std::alloc::AllocError;
 
-/// Writes the start tag of the picture, with its size.
+/// Writes the start tag of the picture, with its size and the number of its sheets.
 #[tactic(auto, unfolding(crate::specs::Heading::opening_text))]
 fn put_opening(text: &mut String, frame: Frame) -> Result<(), AllocError>
     ensures { OnOk result (string_bytes text.new ≡ string_bytes text.old ++ opening_text frame) }
 {
     let width = frame.width();
     let height = frame.height();
+    let sheets = sheets_of(frame);
     write!(
         text,
         "<svg xmlns=\"http://www.w3.org/2000/svg\" width=\"{width}\" height=\"{height}\""
     )?;
     write!(
         text,
-        " viewBox=\"0 0 {width} {height}\" font-family=\"Helvetica,Arial,sans-serif\" font-size=\"11\">\n"
+        " style=\"--sheets:{sheets}\" font-family=\"Helvetica,Arial,sans-serif\" font-size=\"11\">\n"
     )?;
     Ok(())
 }
@@ -57,15 +59,16 @@ fn put_about<L: ExerciseLog>(text: &mut String, frame: Frame, log: &L) -> Result
     Ok(())
 }
 
-/// Writes the style: page margins in print, and other colours if the reader prefers dark ones.
+/// Writes the style: sheets in print, and other colours if the reader prefers dark ones.
 #[tactic(auto, unfolding(crate::specs::Heading::style_text))]
 fn put_style(text: &mut String) -> Result<(), AllocError>
     ensures { OnOk result (string_bytes text.new ≡ string_bytes text.old ++ style_text) }
 {
     text.push_str(
         "<style>\n\
-    @page{margin:10mm}\n\
-    @media print{svg{width:100%;height:auto}}\n\
+    #sheets{display:none}\n\
+    @page{size:landscape;margin:10mm}\n\
+    @media print{:root{width:100%;height:calc(100vh*var(--sheets));font-size:13px}#screen{display:none}#sheets{display:inline}}\n\
     @media (prefers-color-scheme:dark){\n\
     [fill=\"#1d4ed8\"]{fill:#93c5fd}[stroke=\"#1d4ed8\"]{stroke:#93c5fd}\n\
     [fill=\"#15803d\"]{fill:#86efac}[stroke=\"#15803d\"]{stroke:#86efac}\n\
@@ -102,6 +105,7 @@ fn put_signs(text: &mut String) -> Result<(), AllocError>
     <rect id=\"other\" x=\"-4\" y=\"-4\" width=\"8\" height=\"8\"/>\n\
     <path id=\"told\" d=\"M0 -6L6 0L0 6L-6 0z\" stroke=\"#1f2933\" stroke-width=\"2\"/>\n\
     <g id=\"unanswered\" stroke=\"#dc2626\" stroke-width=\"2\"><circle r=\"6\"/><path d=\"M-3 -3L3 3\"/></g>\n\
+    <marker id=\"drawn\" markerUnits=\"userSpaceOnUse\" overflow=\"visible\"><use href=\"#lines\"/></marker>\n\
     </defs>\n",
     )?;
     Ok(())
@@ -128,7 +132,7 @@ fn put_caption<L: ExerciseLog>(text: &mut String, frame: Frame, log: &L) -> Resu
 {
     let exercise = log.exercise();
     text.push_str(
-        "<g fill=\"#1f2933\">\n<text x=\"24\" y=\"28\" font-size=\"18\" font-weight=\"bold\">",
+        "<g id=\"screen\">\n<g id=\"heading\" fill=\"#1f2933\">\n<text x=\"24\" y=\"28\" font-size=\"18\" font-weight=\"bold\">",
     )?;
     write!(text, "Exercise {exercise}</text>\n<text x=\"24\" y=\"48\">")?;
     put_counts(text, frame, log)?;

@@ -35,6 +35,7 @@ mod row;
 mod rows;
 mod saying;
 mod scene;
+mod sheets;
 mod signs;
 mod slot;
 mod taken;

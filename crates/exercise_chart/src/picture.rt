@@ -11,6 +11,7 @@ use crate::frame::Frame;
 use crate::heading::put_heading;
 use crate::lines::{put_arrows, put_losses, put_outsiders};
 use crate::rows::put_rows;
+use crate::sheets::put_sheets;
 use crate::signs::{put_activity_signs, put_unanswered};
 use crate::{ChartFault, ClockUnit, MOST_ROWS, Marks, Rows, marks_of};
 use dis_records::EntityId;
@@ -48,7 +49,7 @@ fn put_under<L: ExerciseLog>(
     put_bars(text, frame, log, &marks.bars, &marks.undrawn)
 }
 
-/// Writes the lines, the signs, the names of the stations and the end of the text.
+/// Writes the lines, the signs, the names, the sheets and the end of the text.
 #[tactic(auto, unfolding(crate::specs::Drawing::over_text))]
 fn put_over<L: ExerciseLog>(
     text: &mut String,
@@ -65,7 +66,10 @@ fn put_over<L: ExerciseLog>(
     put_losses(text, frame, log, &marks.losses)?;
     put_activity_signs(text, frame, &marks.bars, &marks.rows)?;
     put_unanswered(text, frame, &marks.unanswered)?;
+    text.push_str("</g>\n")?;
     put_names(text, frame, log)?;
+    text.push_str("</g>\n")?;
+    put_sheets(text, frame)?;
     text.push_str("</svg>\n")
 }
 

@@ -3,10 +3,10 @@
 ghost use Rattle.std.specs.Prelude.{◌≡◌, ◌<◌, ◌^◌, ◌++◌, length, All, OnOk, string_bytes};
 ghost use Rattle.std.specs.List.{flat_map};
 ghost use Rattle.exercise_chart.specs.declared.row.Row.{Row as RowData};
-ghost use Rattle.exercise_chart.specs.Rows.{rule_text, step_text, clock_words, row_clock_text, row_words, row_text, rows_text};
+ghost use Rattle.exercise_chart.specs.Rows.{block_begin, rule_text, step_text, clock_words, row_clock_text, row_words, row_text, rows_text};
 
 use crate::element::{Attribute, Shown, begin_words, put_element, put_words};
-use crate::frame::Frame;
+use crate::frame::{BLOCK, Frame};
 use crate::words::put_activity;
 use crate::{ClockUnit, Row};
 use exercise_model::ExerciseLog;
@@ -90,6 +90,23 @@ fn put_row_words<L: ExerciseLog>(text: &mut String, log: &L, row: &Row) -> Resul
     put_activity(text, address, &row.did)
 }
 
+/// Begins the group of a block of rows before the first of them: a sheet shows it.
+#[tactic(auto, unfolding(crate::specs::Rows::block_begin))]
+fn begin_block(text: &mut String, frame: Frame, step: usize) -> Result<(), AllocError>
+    ensures { OnOk result (string_bytes text.new ≡ string_bytes text.old ++ block_begin frame step) }
+{
+    let number = step.saturating_sub(frame.rows.first) as u64;
+    if number % BLOCK == 0 {
+        write!(
+            text,
+            "</g>\n<g id=\"rows{}\" fill=\"#1f2933\">\n",
+            number / BLOCK
+        )
+    } else {
+        Ok(())
+    }
+}
+
 /// Writes a row: its rule, its step, its clock and its words.
 fn put_row<L: ExerciseLog>(
     text: &mut String,
@@ -100,6 +117,7 @@ fn put_row<L: ExerciseLog>(
     requires { row.now.at.station < length (L.recording log.now).setting.stations }
     ensures { OnOk result (string_bytes text.new ≡ string_bytes text.old ++ row_text frame (L.recording log.now) row.now) }
 {
+    begin_block(text, frame, row.at.step)?;
     let y = frame.step_y(row.at.step);
     put_rule(text, frame, y)?;
     put_step(text, frame, y + 4, row.at.step)?;
@@ -128,7 +146,7 @@ pub(crate) fn put_rows<L: ExerciseLog>(
     requires { All (λ (row : RowData). row.at.station < length (L.recording log.now).setting.stations) rows.now }
     ensures { OnOk result (string_bytes text.new ≡ string_bytes text.old ++ rows_text frame (L.recording log.now) rows.now) }
 {
-    text.push_str("<g fill=\"#1f2933\">\n")?;
+    text.push_str("<g>\n")?;
     for row in rows {
         put_row(text, frame, log, row)?;
     }

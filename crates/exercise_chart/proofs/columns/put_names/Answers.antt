@@ -1,7 +1,7 @@
-use Rattle.std.proofs.Common.{◌≡◌, arith}
+use Rattle.std.proofs.Common.{◌≡◌, ◌++◌, ap, ◌∙◌, string_bytes, arith}
+use Rattle.siman_print.specs.Below.{texts_below}
 use Rattle.exercise_chart.specs.Columns.{names_above, names_text}
 use Rattle.exercise_chart.specs.Frame.{blocks_of}
-use Rattle.exercise_chart.proofs.Behind.{below_between}
 use Rattle.exercise_chart.proofs.Below.{texts_begin, texts_next}
 use Rattle.exercise_chart.proofs.columns.put_names.Goals as goal
 
@@ -10,12 +10,10 @@ loop-block-init g c = texts_begin _ _
 
 pub loop-block-preserved : goal.loop-block-preserved
 loop-block-preserved g c =
-    let here = rw c.names_y.ensures at c.in_ok-put_names_at.ensures in
-    texts_next (names_above c.args.frame (g.L.ExerciseLog.recording c.args.log.now)) c.loop-block.block _ _ _ c.loop-block.invariant here
+    texts_next (names_above c.args.frame (g.L.ExerciseLog.recording c.args.log.now)) c.loop-block.block _ _ _ c.loop-block.invariant c.in_ok-put_names_above.ensures
 
 pub returns : goal.returns
 unfolding names_text
 returns g c =
     let all : c.loop-block.block ≡ blocks_of c.args.frame = omega (arith, c.blocks-block-end.ensures) in
-    below_between (names_above c.args.frame (g.L.ExerciseLog.recording c.args.log.now)) c.loop-block.block (blocks_of c.args.frame) _ _ _ _ _ _ all c.in_ok-push_str.ensures.bytes
-    c.loop-block.invariant c.in_ok-push_str-2.ensures.bytes
+    c.loop-block.invariant ∙ ap (λ n. string_bytes c.args.text.now ++ texts_below (names_above c.args.frame (g.L.ExerciseLog.recording c.args.log.now)) n) all

@@ -5,7 +5,7 @@ use Rattle.exercise_chart.specs.declared.frame.Frame.{Frame}
 use Rattle.exercise_chart.specs.declared.row.Row.{Row}
 use Rattle.exercise_chart.specs.Element.{begun_words, number, word}
 use Rattle.exercise_chart.specs.Frame.{words_x, step_y}
-use Rattle.exercise_chart.specs.Rows.{rule_text, step_text, row_clock_text, row_words}
+use Rattle.exercise_chart.specs.Rows.{block_begin, rule_text, step_text, row_clock_text, row_words}
 use Rattle.exercise_chart.proofs.Behind.{behind}
 use Rattle.exercise_chart.proofs.rows.put_row.Goals as goal
 
@@ -25,14 +25,15 @@ returns g c =
     let step = rw c.step_y-y.ensures.y at c.in_ok-put_step.ensures in
     let clock = rw c.step_y-y.ensures.y at c.in_ok-put_row_clock.ensures in
     let begun = rw (c.words_x.ensures.x, c.step_y-y.ensures.y) at c.in_ok-begin_words.ensures in
-    let one : List ℕ = rule_text f y in
+    let zero : List ℕ = block_begin f row.at.step in
+    let one : List ℕ = zero ++ rule_text f y in
     let two : List ℕ = one ++ step_text f (y + 4) row.at.step in
     let three : List ℕ = two ++ row_clock_text f (y + 4) row in
     let four : List ℕ = three ++ place_text f row in
     behind _ _ _ (four ++ row_words r row) (codes "</text>\n")
     (behind _ _ _ four (row_words r row)
     (behind _ _ _ three (place_text f row)
-    (behind _ _ _ two (row_clock_text f (y + 4) row) (behind _ _ _ one (step_text f (y + 4) row.at.step) rule step) clock)
+    (behind _ _ _ two (row_clock_text f (y + 4) row) (behind _ _ _ one (step_text f (y + 4) row.at.step) (behind _ _ _ zero (rule_text f y) c.in_ok-begin_block.ensures rule) step) clock)
     begun)
     c.in_ok-put_row_words.ensures)
     c.in_ok-push_str.ensures.bytes

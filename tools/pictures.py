@@ -2,9 +2,10 @@
 """Tries the pictures of `siman chart` on made-up exercises, each read back from its SVG.
 
 It makes exercises of two to six stations, in which orders and reports are sent to one station or to all, get lost, come
-late, come twice or come from outside, are sent again, answered, refused or left unanswered, and states are told. The
-recording has the entries in another order than they happened, and the certificate the order in which they happened. For
-each it draws the whole, and some of the steps, and compares:
+late, come twice or come from outside, are sent again, answered, refused or left unanswered, and states are told, at
+stamps of any sort. The recording has the entries in another order than they happened, and the certificate the order in
+which they happened. For each it draws the whole, and some of the steps, with a clock or none, with the bars of all
+entities or of some, and compares:
 
 - the marks in the SVG with those that the logs say, by tools/pages/charts.py alone, and each byte of it with what
   tools/pages/drawings.py draws;
@@ -34,7 +35,7 @@ sys.dont_write_bytecode = True
 
 from cases.texts import certificate_text, pdu, received, recording_text, sent, told
 from pages import (
-    ACKNOWLEDGE, CREATE, DATA, DATA_QUERY, FIRST, NO_LINK, OPEN, START, STOP, Course, Recording, Station, verdict,
+    ACKNOWLEDGE, CREATE, DATA, DATA_QUERY, FIRST, NO_LINK, OPEN, START, STOP, TOLD, Course, Recording, Station, verdict,
 )  # fmt: skip
 from pages.charts import marks_in, text_of
 from pages.drawings import Drawing
@@ -70,7 +71,9 @@ class Making:
         self.entries, self.ways, self.requests, self.asked = [], [], 0, [set() for _ in self.sites]
 
     def put(self, entry):
-        self.entries.append(entry)
+        number = len(self.entries)
+        stamp = self.chance.choice([0, number, 1_764_500_000_000_000 + 1_000 * number, self.chance.getrandbits(64)])
+        self.entries.append(entry if entry.kind == TOLD else entry._replace(stamp=stamp))
 
     def send(self, station, datagram, targets):
         self.put(sent(station, datagram))
@@ -284,21 +287,33 @@ def windows(chance, count):
     yield first, chance.randint(first + 1, count)
 
 
-def draw(program, folder, window, count):
+def choices(chance, recording):
+    """Words that choose a clock, or none, and the bars of some entities, or of all; and what they choose."""
+    unit, chosen = chance.choice([None, "us", "ms", "s"]), []
+    for _ in range(chance.choice([0, 0, 1, 3])):
+        station = chance.choice(recording.stations)
+        chosen.append((station.site, station.application, chance.randint(1, 9)))
+    words = [f"clock={unit}"] if unit else []
+    return words + [f"entity={':'.join(map(str, entity))}" for entity in chosen], unit, chosen
+
+
+def draw(program, folder, window, count, chosen):
     words = [program, "chart", folder / "made.dsrc", folder / "made.dsct", folder / "made.svg", "--force"]
     if window != (0, count):
         words += [f"from={window[0]}", f"to={window[1] - 1}"]
+    words += chosen
     done = subprocess.run(words, capture_output=True, text=True, timeout=60)
     return done.returncode, done.stdout, (folder / "made.svg").read_text() if done.returncode == 0 else done.stderr
 
 
-def fault_of(program, folder, recording, places, window):
+def fault_of(program, folder, recording, places, window, chosen):
     """What is wrong with a picture, or None; and the marks that it is to have."""
-    picture = Drawing(recording, places, range(*window))
+    said, unit, entities = chosen
+    picture = Drawing(recording, places, range(*window), entities, unit)
     marks = sorted(text_of(mark) for mark in picture.marks())
-    status, said, svg = draw(program, folder, window, len(places))
-    if (status, said) != (0, f"chart steps={window[1] - window[0]} stations={len(recording.stations)}\n"):
-        return f"status {status}: {said}{svg}", marks
+    status, line, svg = draw(program, folder, window, len(places), said)
+    if (status, line) != (0, f"chart steps={window[1] - window[0]} stations={len(recording.stations)}\n"):
+        return f"status {status}: {line}{svg}", marks
     drawn = marks_in(svg)
     if drawn != marks:
         lacks, more = Counter(marks) - Counter(drawn), Counter(drawn) - Counter(marks)
@@ -322,9 +337,10 @@ def faults_of(program, folder, chance, recording, places, counts):
     (folder / "made.dsct").write_bytes(certificate_text(steps))
     faults = []
     for window in windows(chance, len(places)):
-        fault, marks = fault_of(program, folder, recording, places, window)
+        chosen = choices(chance, recording)
+        fault, marks = fault_of(program, folder, recording, places, window, chosen)
         counts.update(mark.split()[0] for mark in marks)
-        faults += [f"steps {window[0]} to {window[1] - 1}: {fault}"] if fault else []
+        faults += [f"steps {window[0]} to {window[1] - 1} {chosen[0]}: {fault}"] if fault else []
     return faults
 
 

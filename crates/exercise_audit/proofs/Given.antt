@@ -6,16 +6,16 @@ use Rattle.std.proofs.lemmas.List.{take_more, length-set, get_or-set_same, get_o
 use Rattle.std.proofs.lemmas.List.Elements.{Contains-append_left, Contains-append_right, Contains-append_cases}
 use Rattle.exercise_model.specs.declared.cause.Cause.{Cause}
 use Rattle.exercise_model.specs.Entry.{Entry}
-use Rattle.exercise_model.specs.Recording.{PlainRecording, IsRecording}
+use Rattle.exercise_model.specs.Recording.{PlainRecording}
 use Rattle.exercise_model.specs.History.{event_of, station_of}
 use Rattle.exercise_findings.specs.Source.{source_of}
 use Rattle.exercise_check.specs.declared.certificate.Step.{Step}
-use Rattle.exercise_check.specs.Course.{CourseData, begun, with_step, so_far}
+use Rattle.exercise_check.specs.Course.{CourseData, IsCourse, with_step, so_far}
 use Rattle.exercise_check.specs.Judging.{is_never_sent}
 use Rattle.exercise_audit.specs.declared.blocks.Block.{Block}
 use Rattle.exercise_audit.specs.declared.turns.Moment.{Moment}
 use Rattle.exercise_audit.specs.declared.turns.Turn.{Turn}
-use Rattle.exercise_audit.specs.Time.{IsEarliest}
+use Rattle.exercise_audit.specs.Time.{IsEarliest, IsTimely}
 use Rattle.exercise_audit.specs.Audit.{IsBlock}
 use Rattle.exercise_audit.specs.Turns.{turn_of, IsFirstOf}
 use Rattle.exercise_audit.specs.Waiting.{Waiting, waiting_for, Leaves}
@@ -63,13 +63,14 @@ stands_by_turn c waiting s None done = inl done
 
 -- ---- what is known at the start
 
-pub started : (r : PlainRecording) (waiting : Waiting) (turns : List (Option Moment)) → IsRecording r → length turns ≡ length r.setting.stations
-    → ((s : ℕ) → s < length r.setting.stations → IsTurn (begun r) s (turn_of turns s)) → IsSearch (begun r) waiting turns
-started r waiting turns limits count each = record {
+pub started : (c : CourseData) (waiting : Waiting) (turns : List (Option Moment)) → IsCourse c → IsTimely c.recording c.steps
+    → length turns ≡ length c.recording.setting.stations → ((s : ℕ) → s < length c.recording.setting.stations → IsTurn c s (turn_of turns s))
+    → IsSearch c waiting turns
+started c waiting turns course timely count each = record {
   count = count;
-  course = record { limits = limits; good = λ k l. absurd (omega (arith, l)) };
-  timely = λ k l. absurd (omega (arith, l));
-  each = λ s l. stands_by_turn (begun r) waiting s (turn_of turns s) (each s (omega (arith, l, count)));
+  course = course;
+  timely = timely;
+  each = λ s l. stands_by_turn c waiting s (turn_of turns s) (each s (omega (arith, l, count)));
 }
 
 -- ---- after a step

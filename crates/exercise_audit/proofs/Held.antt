@@ -1,5 +1,5 @@
 -- Stations that can't go on.
-use Rattle.std.proofs.Common.{◌≡◌, ◌≢◌, ⊎_elim, inl, inr, ℕ, zero, suc, ◌+◌, ◌<◌, ◌≤◌, List, [], ◌∷◌, ◌++◌, length, cond, Some, None, refl, sym, ap, ◌∙◌, subst, arith}
+use Rattle.std.proofs.Common.{◌≡◌, ◌≢◌, ⊎_elim, inl, inr, ℕ, zero, suc, ◌+◌, ◌<◌, ◌≤◌, List, [], ◌∷◌, ◌++◌, length, cond, Some, None, refl, sym, ap, ◌∙◌, subst, arith, length-append}
 use Rattle.std.specs.Prelude.{slice_get, ◌==◌, if◌then◌else◌, option_and_then, IfSome}
 use Rattle.std.proofs.Math.Numerals.{add-one}
 use Rattle.std.proofs.lemmas.Bool.{cases_lt, eq-eqb}
@@ -13,9 +13,11 @@ use Rattle.exercise_model.specs.Run.{IsBeginning, CoversPrefixes, IsStuck, Expla
 use Rattle.exercise_model.proofs.Offered.{same_beginnings, beginning_length, log_before-next, log_before-beginning, stuck_explains, same_prefixes, same_causes, no_log, past_within, same_count, length-past}
 use Rattle.exercise_check.specs.declared.course.Progress.TheVariants.{Taken, Barred}
 use Rattle.exercise_check.specs.Course.{CourseData, IsCourse, IsNext, GoesOn, so_far}
-use Rattle.exercise_check.proofs.Offered.{good_logs, entry_within, from_entry, next_lengths, good_sound, good_covers}
+use Rattle.exercise_check.proofs.Offered.{good_logs, entry_within, from_entry, next_lengths, good_sound, good_covers, good_explains}
 use Rattle.exercise_audit.specs.declared.blocks.Block.{Block}
+use Rattle.exercise_audit.specs.Time.{IsTimely}
 use Rattle.exercise_audit.specs.Audit.{IsHeld, IsDone, IsBlock, IsBlocked, AreBlocks}
+use Rattle.exercise_audit.specs.Longest.{IsLongest}
 
 -- a station whose whole log happened
 pub held_done : (r : PlainRecording) (h : History) (s : ℕ) → log_at s h ≡ log_of r s → IsHeld r h s
@@ -120,6 +122,56 @@ pub blocks_push : (r : PlainRecording) (h : History) (s : ℕ) (blocks : List Bl
     → AreBlocks r h (s + 1) (blocks ++ b ∷ [])
 blocks_push r h s blocks b before block = rw add-one (inr (blocks, b, refl, before, block))
 
+-- ---- stations that are done
+
+-- a station that is done has no block
+pub done_unblocked : (r : PlainRecording) (h : History) (s : ℕ) (b : Block) → IsDone r h s → IsBlock r h s b → ⊥
+done_unblocked r h s b done is =
+    omega (arith, beginning_length _ _ (log_before-next r s b.entry is.event is.next.own), is.next.place, ap length done)
+
+-- where there is no block, each station is done
+all_done : (r : PlainRecording) (h : History) (n : ℕ) → AreBlocks r h n [] → (s : ℕ) → s < n → IsDone r h s
+all_done r h zero are s below = absurd (omega (arith, below))
+all_done r h (suc m) are s below =
+    ⊎_elim
+    (λ (here : IsDone r h m × AreBlocks r h m []).
+    ⊎_elim
+    (λ (less : s < m). all_done r h m here.1 s less)
+    (λ (last : m ≤ s). let same : m ≡ s = omega (arith, last, below) in subst (IsDone r h) same here.0)
+    (cases_lt s m))
+    (λ (here : (others : List Block) × (b : Block) × ([] ≡ others ++ b ∷ []) × AreBlocks r h m others × IsBlock r h m b).
+    absurd (omega (arith, ap length here.2, length-append here.0 (here.1 ∷ []))))
+    are
+
+-- and the other way round
+none_blocked : (r : PlainRecording) (h : History) → ((s : ℕ) → IsDone r h s) → (n : ℕ) (blocks : List Block) → AreBlocks r h n blocks → blocks ≡ []
+none_blocked r h done zero blocks are = are
+none_blocked r h done (suc m) blocks are =
+    ⊎_elim
+    (λ (here : IsDone r h m × AreBlocks r h m blocks). none_blocked r h done m blocks here.1)
+    (λ (here : (others : List Block) × (b : Block) × (blocks ≡ others ++ b ∷ []) × AreBlocks r h m others × IsBlock r h m b).
+    absurd (done_unblocked r h m here.1 (done m) here.4))
+    are
+
+-- where each station is done, every entry was taken
+all_taken : (c : CourseData) → IsCourse c → ((s : ℕ) → s < length c.recording.setting.stations → IsDone c.recording (so_far c) s)
+    → length c.steps ≡ length c.recording.entries
+unfolding log_of
+all_taken c course done =
+    let r = c.recording in
+    let n = length r.setting.stations in
+    let sound = good_sound r course.limits c.steps course.good in
+    let all : (s : ℕ) → log_at s (so_far c) ≡ log_at s (past r.entries) = λ s. ⊎_elim
+    (λ (below : s < n). done s below)
+    (λ (above : n ≤ s).
+    let none = no_log n (so_far c) s sound.stations above in
+    let least = no_log n (past r.entries) s (past_within r course.limits) above in
+    same_beginnings _ _ (log_at s (past r.entries)) (good_logs r c.steps course.good s) ([], refl) (none ∙ sym least))
+    (cases_lt s n) in
+    sym sound.count ∙ same_count n (so_far c) (past r.entries) sound.stations (past_within r course.limits) all ∙ length-past r.entries
+
+-- ---- blocks of runs that can't go on
+
 -- two runs that can't go on have the same blocks
 same_block : (r : PlainRecording) (h k : History) → IsStuck r h → IsStuck r k → (s : ℕ) (b : Block) → IsBlock r h s b → IsBlock r k s b
 same_block r h k one other s b is = record {
@@ -140,7 +192,7 @@ same_blocks r h k one other (suc s) blocks are =
     are
 
 -- where each station is held, an audit says so
-pub blocked_from_held : (c : CourseData) → IsCourse c → ((s : ℕ) → s < length c.recording.setting.stations → IsHeld c.recording (so_far c) s)
+blocked_from_held : (c : CourseData) → IsCourse c → ((s : ℕ) → s < length c.recording.setting.stations → IsHeld c.recording (so_far c) s)
     → length c.steps ≢ length c.recording.entries
     → (blocks : List Block) → AreBlocks c.recording (so_far c) (length c.recording.setting.stations) blocks → IsBlocked c.recording blocks
 blocked_from_held c course held less blocks are =
@@ -150,4 +202,27 @@ blocked_from_held c course held less blocks are =
       unexplained = unexplained c course stuck less;
       some_end = (so_far c, stuck);
       blocks_are = λ k other. same_blocks r (so_far c) k stuck other (length r.setting.stations) blocks are;
+    }
+
+-- THE LONGEST RUN is one after which each station is held
+pub longest_from_held : (c : CourseData) → IsCourse c → IsTimely c.recording c.steps
+    → ((s : ℕ) → s < length c.recording.setting.stations → IsHeld c.recording (so_far c) s) → (blocks : List Block)
+    → AreBlocks c.recording (so_far c) (length c.recording.setting.stations) blocks → IsLongest c.recording c.steps blocks
+longest_from_held c course timely held blocks are =
+    let r = c.recording in
+    let n = length r.setting.stations in
+    record {
+      good = course.good;
+      timely = timely;
+      stuck = stuck_from_held r course.limits (so_far c) (good_covers r course.limits c.steps course.good) held;
+      blocks_are = are;
+      explains = λ none. record {
+        count = all_taken c course (all_done r (so_far c) n (subst (AreBlocks r (so_far c) n) none are));
+        good = course.good;
+      };
+      blocked = λ some.
+          let less : length c.steps ≢ length r.entries = λ count.
+          let explains = good_explains r course.limits c.steps (record { count = count; good = course.good }) in
+          some (none_blocked r (so_far c) explains.logs n blocks are) in
+          blocked_from_held c course held less blocks are;
     }

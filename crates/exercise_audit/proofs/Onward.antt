@@ -19,7 +19,7 @@ use Rattle.exercise_audit.specs.declared.turns.Moment.{Moment}
 use Rattle.exercise_audit.specs.declared.turns.Turn.{Turn}
 use Rattle.exercise_audit.specs.Next.{IsHeld}
 use Rattle.exercise_audit.specs.Turns.{turn_of, IsFirstOf}
-use Rattle.exercise_audit.specs.Stamps.{AreStamps}
+use Rattle.exercise_model.specs.Stamps.{AreStamps}
 use Rattle.exercise_audit.specs.Waiting.{Waiting, waiting_for, Leaves}
 use Rattle.exercise_audit.specs.Search.{IsNextMoment, IsTurn, Stands, IsSearch, HaveTurns, WaitsFor}
 use Rattle.exercise_audit.proofs.Held.{NextOf, next_of, barred_held, barred_block}

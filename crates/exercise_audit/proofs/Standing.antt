@@ -23,7 +23,8 @@ use Rattle.exercise_check.proofs.Offered.{own_entry, good_logs}
 use Rattle.exercise_audit.specs.declared.turns.Moment.{Moment}
 use Rattle.exercise_audit.specs.declared.turns.Turn.{Turn}
 use Rattle.exercise_audit.specs.Next.{IsNextEntry, IsDone, IsHeld}
-use Rattle.exercise_audit.specs.Time.{stamp_of, IsEarlier, IsEarliest, IsTimely}
+use Rattle.exercise_model.specs.Stamps.{stamp_of}
+use Rattle.exercise_audit.specs.Time.{IsEarlier, IsEarliest, IsTimely}
 use Rattle.exercise_audit.specs.Audit.{IsBlock}
 use Rattle.exercise_audit.specs.Turns.{turn_of, IsFirstOf}
 use Rattle.exercise_audit.specs.Waiting.{Waiting, waiting_for, Leaves}

@@ -15,10 +15,11 @@ use Rattle.exercise_model.specs.Run.{IsRun}
 use Rattle.exercise_model.proofs.Offered.{passes}
 use Rattle.exercise_check.specs.declared.certificate.Step.{Step}
 use Rattle.exercise_check.specs.Sequence.{sequence_of, link_of, link_number}
-use Rattle.exercise_check.specs.Goodness.{no_step, IsGoodStep, IsGood}
+use Rattle.exercise_check.specs.Goodness.{no_step, IsGoodStep, GoodBelow, IsGood}
 use Rattle.exercise_check.proofs.Offered.{entry_within, good_step, own_entry, sequence_of-none, sequence_of-snoc}
 use Rattle.exercise_audit.specs.Next.{IsNextEntry}
-use Rattle.exercise_audit.specs.Time.{stamp_of, MayHappen, IsEarliest, IsTimely, StampsNeverFall, IsAsWritten}
+use Rattle.exercise_model.specs.Stamps.{stamp_of}
+use Rattle.exercise_audit.specs.Time.{MayHappen, IsEarliest, IsTimely, StampsNeverFall, IsAsWritten}
 use Rattle.exercise_audit.specs.Written.{written_below, IsRunAsWritten}
 use Rattle.exercise_audit.proofs.Held.{own_from}
 use Rattle.exercise_audit.proofs.Written.{more}
@@ -69,17 +70,18 @@ one_step r before x y e f p q place =
     ∙ ap (λ g. link_number (link_of r before y.place (event_of g))) entry ∙ sym q.link in
     ap (λ i. record { place = i; link = x.link }) place ∙ ap (λ l. record { place = y.place; link = l }) link
 
-same_take : (r : PlainRecording) (xs ys : List Step) → IsGood r xs → IsTimely r xs → IsGood r ys → IsTimely r ys → (k : ℕ) → k ≤ length r.entries
-    → take k xs ≡ take k ys
-same_take r xs ys good timely fine punctual zero within = refl
-same_take r xs ys good timely fine punctual (suc k) within =
-    let below : k < length xs = omega (arith, good.count, within) in
-    let under : k < length ys = omega (arith, fine.count, within) in
-    let before = same_take r xs ys good timely fine punctual k (omega (arith, within)) in
+-- good steps in the sequence of time are the same as far as there are steps in both
+same_take : (r : PlainRecording) (xs ys : List Step) → GoodBelow r xs (length xs) → IsTimely r xs → GoodBelow r ys (length ys) → IsTimely r ys
+    → (k : ℕ) → k ≤ length xs → k ≤ length ys → take k xs ≡ take k ys
+same_take r xs ys good timely fine punctual zero within inside = refl
+same_take r xs ys good timely fine punctual (suc k) within inside =
+    let below : k < length xs = omega (arith, within) in
+    let under : k < length ys = omega (arith, inside) in
+    let before = same_take r xs ys good timely fine punctual k (omega (arith, within)) (omega (arith, inside)) in
     let x = slice_index_or xs k no_step in
     let y = slice_index_or ys k no_step in
-    let a = good_step r (take k xs) x (good.good k below) in
-    let b0 = good_step r (take k ys) y (fine.good k under) in
+    let a = good_step r (take k xs) x (good k below) in
+    let b0 = good_step r (take k ys) y (fine k under) in
     let b = subst (λ zs. IsGoodStep r zs y b0.0) (sym before) b0.1 in
     let first = timely k below in
     let other = subst (λ zs. IsEarliest r (sequence_of r zs) y.place) (sym before) (punctual k under) in
@@ -88,11 +90,17 @@ same_take r xs ys good timely fine punctual (suc k) within =
     ap (λ n. take n xs) (sym (add-one k)) ∙ take_more xs k no_step below ∙ ap (λ zs. zs ++ x ∷ []) before ∙ ap (λ z. take k ys ++ z ∷ []) step
     ∙ sym (take_more ys k no_step under) ∙ ap (λ n. take n ys) (add-one k)
 
+-- so where one has no more steps than the other, the other begins with them
+pub same_front : (r : PlainRecording) (xs ys : List Step) → GoodBelow r xs (length xs) → IsTimely r xs → GoodBelow r ys (length ys) → IsTimely r ys
+    → length xs ≤ length ys → xs ≡ take (length xs) ys
+same_front r xs ys good timely fine punctual few =
+    sym (take_all (length xs) xs (omega arith)) ∙ same_take r xs ys good timely fine punctual (length xs) (omega arith) few
+
 -- THE SEQUENCE OF TIME IS ONE
 pub one_sequence : (r : PlainRecording) (xs ys : List Step) → IsGood r xs → IsTimely r xs → IsGood r ys → IsTimely r ys → xs ≡ ys
 one_sequence r xs ys good timely fine punctual =
-    sym (take_all (length r.entries) xs (omega (arith, good.count))) ∙ same_take r xs ys good timely fine punctual (length r.entries) (omega arith)
-    ∙ take_all (length r.entries) ys (omega (arith, fine.count))
+    same_front r xs ys good.good timely fine.good punctual (omega (arith, good.count, fine.count))
+    ∙ take_all (length xs) ys (omega (arith, good.count, fine.count))
 
 -- ---- as written
 
@@ -114,12 +122,12 @@ allowed_at r (suc n) k e within run below at =
     (cases_lt k n)
 
 -- after the entries below k, entry k is its station's next, and no entry below k is
-next_written : (r : PlainRecording) (k : ℕ) (e : Entry) → slice_get r.entries k ≡ Some e
+pub next_written : (r : PlainRecording) (k : ℕ) (e : Entry) → slice_get r.entries k ≡ Some e
     → IsNextEntry r (written_below r k) (station_of (event_of e)) k (event_of e)
 unfolding log_before
 next_written r k e at = record { own = own_from r (station_of (event_of e)) k e at refl; place = refl }
 
-not_below : (r : PlainRecording) (k s i : ℕ) (v : Event) → IsNextEntry r (written_below r k) s i v → k ≤ i
+pub not_below : (r : PlainRecording) (k s i : ℕ) (v : Event) → IsNextEntry r (written_below r k) s i v → k ≤ i
 unfolding log_before
 not_below r k s i v next = ⊎_elim
     (λ (below : i < k). absurd (omega (arith, next.place, passes r s i k (ap is_some next.own) below)))

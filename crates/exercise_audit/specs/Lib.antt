@@ -1,8 +1,8 @@
 pub mod Next
 pub mod Time
 pub mod Audit
+pub mod Longest
 pub mod Turns
-pub mod Stamps
 pub mod Search
 pub mod Waiting
 pub mod Written

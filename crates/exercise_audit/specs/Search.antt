@@ -1,17 +1,20 @@
 -- What the search knows of each station (profile).
-use Rattle.std.specs.Prelude.{◌≡◌, ◌≢◌, ◌<◌, ◌⊎◌, ℕ, List, length, Contains, Option, Some, None, IfSome}
+use Rattle.std.specs.Prelude.{◌≡◌, ◌≢◌, ◌<◌, ◌⊎◌, ℕ, List, length, Contains, Option, Some, None, IfSome, slice_get}
 use Rattle.exercise_model.specs.declared.cause.Cause.{Cause}
 use Rattle.exercise_model.specs.declared.cause.Cause.TheVariants.{NeverSent}
 use Rattle.exercise_model.specs.Recording.{PlainRecording}
-use Rattle.exercise_model.specs.History.{Event}
+use Rattle.exercise_model.specs.Stamps.{stamp_of}
+use Rattle.exercise_model.specs.History.{Event, event_of}
+use Rattle.exercise_model.specs.Cause.{IsAllowed}
 use Rattle.exercise_findings.specs.Source.{source_of}
 use Rattle.exercise_check.specs.Course.{CourseData, IsCourse, so_far}
 use Rattle.exercise_audit.specs.declared.blocks.Block.{Block}
 use Rattle.exercise_audit.specs.declared.turns.Moment.{Moment}
 use Rattle.exercise_audit.specs.Next.{IsNextEntry, IsDone}
-use Rattle.exercise_audit.specs.Time.{stamp_of, IsTimely}
+use Rattle.exercise_audit.specs.Time.{IsTimely}
 use Rattle.exercise_audit.specs.Audit.{IsBlock}
 use Rattle.exercise_audit.specs.Turns.{turn_of}
+use Rattle.exercise_audit.specs.Written.{written_below}
 use Rattle.exercise_audit.specs.Waiting.{Waiting, waiting_for, Joins}
 
 -- the moment of the next entry of a station
@@ -59,3 +62,10 @@ Waits station old new None = new ≡ old
 pub record WaitsFor (r : PlainRecording) (i station : ℕ) (cause : Cause) (old new : Waiting) : Type 0 where
   pub unsent : cause ≡ NeverSent → Waits station old new (source_of r i)
   pub other : cause ≢ NeverSent → new ≡ old
+
+-- THE STEPS TOOK ENTRIES AS THE RECORDING HAS THEM, up to the first one that may not happen then
+pub record TookAsWritten (c : CourseData) : Type 0 where
+  pub course : IsCourse c
+  pub timely : IsTimely c.recording c.steps
+  pub history : so_far c ≡ written_below c.recording (length c.steps)
+  pub stops : IfSome (slice_get c.recording.entries (length c.steps)) (λ e. IsAllowed c.recording.setting (so_far c) (event_of e) → ⊥)

@@ -1,30 +1,13 @@
 -- The sequence of time: of the entries that may happen next, the one with the least stamp and number happens (profile).
-use Rattle.std.specs.Prelude.{◌≡◌, ◌≢◌, ◌<◌, ◌≤◌, ℕ, zero, suc, List, length, take, slice_get, slice_index_or}
-use Rattle.std.specs.Option.{option_map_or}
-use Rattle.exercise_model.specs.Entry.{Entry, Sent, Received, Told}
+use Rattle.std.specs.Prelude.{◌≡◌, ◌≢◌, ◌<◌, ◌≤◌, ℕ, List, length, take, slice_index_or}
 use Rattle.exercise_model.specs.Recording.{PlainRecording}
+use Rattle.exercise_model.specs.Stamps.{stamp_of}
 use Rattle.exercise_model.specs.History.{Event, History}
 use Rattle.exercise_model.specs.Cause.{IsAllowed}
 use Rattle.exercise_check.specs.declared.certificate.Step.{Step}
 use Rattle.exercise_check.specs.Sequence.{sequence_of}
 use Rattle.exercise_check.specs.Goodness.{no_step}
 use Rattle.exercise_audit.specs.Next.{IsNextEntry}
-
--- the nearest stamp once this entry is passed, where it was `last` before: a told state has no stamp of its own
-abbrev pub stamp_past : ℕ → Entry → ℕ
-stamp_past last (Sent s stamp b) = stamp
-stamp_past last (Received s stamp b) = stamp
-stamp_past last (Told s e y) = last
-
--- the nearest stamp before entry n: that of the last entry below n that was sent or received, 0 if there is none
-unfoldable pub stamp_before : List Entry → ℕ → ℕ
-stamp_before entries zero = 0
-stamp_before entries (suc n) = option_map_or (stamp_past (stamp_before entries n)) (slice_get entries n) (stamp_before entries n)
-
--- THE STAMP OF ENTRY i: its own, and of a told state that of the nearest sent or received entry before it in the
--- recording, 0 if there is none
-abbrev pub stamp_of : PlainRecording → ℕ → ℕ
-stamp_of r i = stamp_before r.entries (suc i)
 
 -- ENTRY i IS EARLIER than entry j: its stamp is no greater, and where the stamps are equal its number is less
 abbrev pub IsEarlier : PlainRecording → ℕ → ℕ → Type 0

@@ -9,6 +9,7 @@ ghost use Rattle.exercise_check.specs.Goodness.{IsGood};
 ghost use Rattle.exercise_audit.specs.declared.blocks.Block.{Block};
 ghost use Rattle.exercise_audit.specs.declared.blocks.Audit.{Audit};
 ghost use Rattle.exercise_audit.specs.Audit.{IsBlocked, IsAuditOf};
+ghost use Rattle.exercise_audit.specs.Longest.{IsLongest};
 ghost use Rattle.exercise_audit.specs.Time.{IsTimely, StampsNeverFall, IsAsWritten};
 ghost use Rattle.exercise_audit.specs.Written.{IsRunAsWritten};
 
@@ -29,9 +30,12 @@ pub fn conversion_keeps_searches()
 
 /// The sequence of time is a function of the recording: two certificates that explain it in that
 /// sequence are equal (`one`). Where the entries are a run as the recording has them, and stamps
-/// never fall from one entry to the next, it is that run (`written`).
+/// never fall from one entry to the next, it is that run (`written`). So is the longest run in that
+/// sequence, with its blocks (`longest`).
 pub fn time_determines_sequences()
     ensures one { (r : PlainRecording) (steps others : List Step) → IsGood r steps → IsTimely r steps → IsGood r others → IsTimely r others → steps ≡ others }
     ensures written { (r : PlainRecording) (steps : List Step) → IsGood r steps → IsTimely r steps → IsRunAsWritten r (length r.entries)
         → StampsNeverFall r → IsAsWritten steps }
+    ensures longest { (r : PlainRecording) (steps others : List Step) (blocks more : List Block) → IsLongest r steps blocks → IsLongest r others more
+        → (steps ≡ others) × (blocks ≡ more) }
 {}

@@ -4,24 +4,24 @@
 
 ghost use Rattle.std.specs.Prelude.{◌≡◌, ◌<◌, ◌≤◌, ◌+◌, ℕ, length, None, OnOk, IfOk, true, false};
 ghost use Rattle.exercise_model.specs.declared.station.TheConstants.{MOST_STATIONS};
-ghost use Rattle.exercise_check.specs.Course.{begun, so_far};
+ghost use Rattle.exercise_model.specs.Stamps.{AreStamps};
+ghost use Rattle.exercise_check.specs.Course.{IsCourse, begun, so_far};
 ghost use Rattle.exercise_audit.specs.Next.{IsHeld};
 ghost use Rattle.exercise_audit.specs.Time.{IsTimely};
-ghost use Rattle.exercise_audit.specs.Stamps.{AreStamps};
 ghost use Rattle.exercise_audit.specs.Turns.{turn_of, turn_count, IsFirstOf};
 ghost use Rattle.exercise_audit.specs.Search.{IsTurn, HaveTurns, IsSearch, WaitsFor};
 
-use crate::stamps::{stamp_at, stamps};
+use crate::first_entries::take_first_entries;
 use crate::turns::{Moment, Turn, Turns};
 use crate::waiting::{Waiting, no_waiting, wait, wake};
 use exercise_check::{Course, Progress};
-use exercise_model::{Cause, ExerciseLog};
+use exercise_model::{Cause, ExerciseLog, Stamps};
 use std::alloc::{AllocError, Global};
 
 /// Moment of the next entry of a station, if it has one.
 fn next_turn<L: ExerciseLog>(
     course: &Course<'_, L>,
-    stamps: &[u64],
+    stamps: &Stamps,
     station: usize,
 ) -> Option<Moment>
     requires { AreStamps course.now.recording stamps.now }
@@ -29,7 +29,7 @@ fn next_turn<L: ExerciseLog>(
 {
     let entry = course.next_entry(station)?;
     Some(Moment {
-        stamp: stamp_at(stamps, entry),
+        stamp: stamps.at(entry),
         entry,
     })
 }
@@ -37,7 +37,7 @@ fn next_turn<L: ExerciseLog>(
 /// Gives each of these stations its turn.
 fn give_turns<L: ExerciseLog>(
     course: &Course<'_, L>,
-    stamps: &[u64],
+    stamps: &Stamps,
     turns: &mut Turns,
     stations: &[usize],
 )
@@ -75,7 +75,7 @@ fn wait_for<L: ExerciseLog>(
 fn take_turn<L: ExerciseLog>(
     alloc: Global,
     course: &mut Course<'_, L>,
-    stamps: &[u64],
+    stamps: &Stamps,
     waiting: &mut Waiting,
     turns: &mut Turns,
     turn: Turn,
@@ -109,7 +109,7 @@ fn take_turn<L: ExerciseLog>(
 fn take_earliest<L: ExerciseLog>(
     alloc: Global,
     course: &mut Course<'_, L>,
-    stamps: &[u64],
+    stamps: &Stamps,
     waiting: &mut Waiting,
     turns: &mut Turns,
 ) -> Result<bool, AllocError>
@@ -134,7 +134,7 @@ fn take_earliest<L: ExerciseLog>(
 fn first_turns<L: ExerciseLog>(
     alloc: Global,
     course: &Course<'_, L>,
-    stamps: &[u64],
+    stamps: &Stamps,
     stations: usize,
 ) -> Result<Turns, AllocError>
     requires stamps { AreStamps course.now.recording stamps.now }
@@ -149,7 +149,33 @@ fn first_turns<L: ExerciseLog>(
     Ok(turns)
 }
 
-/// Takes entries in the sequence of time, until no station can go on.
+/// Takes entries in the sequence of time from any beginning of it on, until no station can go on.
+fn take_others<L: ExerciseLog>(
+    alloc: Global,
+    log: &L,
+    course: &mut Course<'_, L>,
+) -> Result<(), AllocError>
+    requires recording { course.old.recording ≡ L.recording log.now }
+    requires course { IsCourse course.old }
+    requires timely { IsTimely course.old.recording course.old.steps }
+    ensures recording { course.new.recording ≡ course.old.recording }
+    ensures course { OnOk result (IsCourse course.new) }
+    ensures timely { OnOk result (IsTimely course.new.recording course.new.steps) }
+    ensures held { OnOk result ((s : ℕ) → s < length course.new.recording.setting.stations → IsHeld course.new.recording (so_far course.new) s) }
+{
+    let stamps = Stamps::of(alloc, log)?;
+    let mut waiting = no_waiting(alloc);
+    let mut turns = first_turns(alloc, course, &stamps, log.station_count())?;
+    loop {
+        if !take_earliest(alloc, course, &stamps, &mut waiting, &mut turns)? {
+            break;
+        }
+    }
+    Ok(())
+}
+
+/// Takes entries in the sequence of time, until no station can go on. As long as that is the
+/// sequence of the recording, no station needs a turn.
 pub(crate) fn take_entries<L: ExerciseLog>(
     alloc: Global,
     log: &L,
@@ -157,16 +183,13 @@ pub(crate) fn take_entries<L: ExerciseLog>(
 ) -> Result<(), AllocError>
     requires { course.old ≡ begun (L.recording log.now) }
     ensures recording { course.new.recording ≡ course.old.recording }
+    ensures course { OnOk result (IsCourse course.new) }
     ensures timely { OnOk result (IsTimely course.new.recording course.new.steps) }
     ensures held { OnOk result ((s : ℕ) → s < length course.new.recording.setting.stations → IsHeld course.new.recording (so_far course.new) s) }
 {
-    let stamps = stamps(alloc, log)?;
-    let mut waiting = no_waiting(alloc);
-    let mut turns = first_turns(alloc, course, stamps.as_slice(), log.station_count())?;
-    loop {
-        if !take_earliest(alloc, course, stamps.as_slice(), &mut waiting, &mut turns)? {
-            break;
-        }
+    take_first_entries(alloc, log, course)?;
+    if course.len() == log.entry_count() {
+        return Ok(());
     }
-    Ok(())
+    take_others(alloc, log, course)
 }

@@ -23,4 +23,5 @@ mod AlikeLogs
 mod Moved
 mod EarlyReceipts
 mod Parted
+mod Stamped
 pub mod Offered

@@ -2,6 +2,7 @@ pub mod Station
 pub mod Setting
 pub mod Entry
 pub mod Recording
+pub mod Stamps
 pub mod Held
 pub mod History
 pub mod Meaning

@@ -9,7 +9,7 @@
 //! [`first_answers_change_states`]. Forms: [`forms_decide_who_is_heard`]. Some of the stations
 //! alone: [`parts_are_explained`]. Receipts that stand earlier: [`early_receipts_are_allowed`]. Conversion to the second format: [`conversion_keeps_runs`].
 //!
-//! Only [`Recording::push`] and [`meaning_of`] take memory.
+//! Only [`Recording::push`], [`meaning_of`] and [`Stamps::of`] take memory.
 #![tactic(auto)]
 
 mod acknowledge;
@@ -23,6 +23,7 @@ mod log;
 mod meaning;
 mod recording;
 mod setting;
+mod stamps;
 mod state;
 mod station;
 
@@ -41,5 +42,6 @@ pub use log::ExerciseLog;
 pub use meaning::{meaning_again, meaning_of, meaning_view};
 pub use recording::{MOST_ENTRIES, Recording};
 pub use setting::Setting;
+pub use stamps::Stamps;
 pub use state::{Change, is_entity, scope_has, state_made};
 pub use station::{LARGEST_ENTITY, MOST_STATIONS, Station, are_stations, is_above, listed_state};

@@ -27,8 +27,8 @@ use crate::machines::{Beginning, CREATION, FIXED, Ordering, Taking, VARIABLE, ma
 use crate::pictures::Drawing;
 use crate::pieces::{Adding, Bringing, EndingJoin, no_pieces, to_add};
 use crate::recordings::{
-    APART, Carrying, Checking, Explaining, FetchingSteps, Pushing, Reading, ReadingSteps,
-    Searching, Seeing, recording_of, station, to_check,
+    APART, Carrying, Checking, Explaining, FetchingSteps, FindingLongest, Pushing, Reading,
+    ReadingSteps, Searching, Seeing, Stamping, recording_of, stamped, station, to_check,
 };
 use crate::reviews::{Putting, Reviewing, Telling};
 use crate::stations::{Issuing, Nudging, Serving, to_issue, to_nudge, to_serve};
@@ -42,7 +42,7 @@ use std::io;
 use std::io::Write;
 
 /// Names of the calls, in order.
-static CALLS: [&str; 34] = [
+static CALLS: [&str; 36] = [
     "decode",
     "encode",
     "to_pdu",
@@ -51,7 +51,9 @@ static CALLS: [&str; 34] = [
     "over",
     "push",
     "check",
+    "Stamps::of",
     "audit",
+    "longest_run",
     "explanation_of",
     "review_of",
     "Reviewed::of",
@@ -80,7 +82,7 @@ static CALLS: [&str; 34] = [
 ];
 
 /// Outcome of each call, in the order of [`CALLS`].
-fn call_outcomes(alloc: Global) -> [&'static str; 34] {
+fn call_outcomes(alloc: Global) -> [&'static str; 36] {
     [
         result_of::<Decoding, _>(alloc, Ok(())),
         result_of::<Encoding, _>(alloc, to_encode(alloc)),
@@ -90,7 +92,9 @@ fn call_outcomes(alloc: Global) -> [&'static str; 34] {
         result_of::<Seeing, _>(alloc, Ok(())),
         result_of::<Pushing, _>(alloc, recording_of(alloc, &RECORDING)),
         result_of::<Checking, _>(alloc, to_check(alloc)),
+        result_of::<Stamping, _>(alloc, stamped(alloc)),
         result_of::<Searching, _>(alloc, recording_of(alloc, &APART)),
+        result_of::<FindingLongest, _>(alloc, recording_of(alloc, &APART)),
         result_of::<Explaining, _>(alloc, recording_of(alloc, &APART)),
         result_of::<Reviewing, _>(alloc, recording_of(alloc, &APART)),
         result_of::<Telling, _>(alloc, recording_of(alloc, &APART)),
@@ -122,7 +126,7 @@ fn call_outcomes(alloc: Global) -> [&'static str; 34] {
 /// Makes each call, and prints its outcome.
 pub fn put_library_calls<W: Write>(alloc: Global, out: &mut W) -> io::Result<()> {
     let told = call_outcomes(alloc);
-    for place in 0..34 {
+    for place in 0..36 {
         writeln!(out, "{}: {}", CALLS[place], told[place])?;
     }
     Ok(())

@@ -2,13 +2,13 @@
 
 use crate::call::{LibraryCall, Said, refused, usual};
 use dis_records::{Address, EntityState};
-use exercise_audit::{Audit, Explanation, audit, explanation_of};
+use exercise_audit::{Audit, Explanation, LongestRun, audit, explanation_of, longest_run};
 use exercise_check::{
     Certificate, CertificateFault, CheckFault, Checked, NO_LINK, Step, check, fetch_certificate,
     read_certificate,
 };
 use exercise_findings::Findings;
-use exercise_model::{EntryView, ExerciseLog, LogEntry, LogFault, Recording, Station};
+use exercise_model::{EntryView, ExerciseLog, LogEntry, LogFault, Recording, Stamps, Station};
 use exercise_recording::{ConvertFault, RecordingFault, RecordingView, convert, read_recording};
 use std::alloc::{AllocError, Global};
 use std::io;
@@ -190,6 +190,42 @@ impl LibraryCall<Recording> for Searching {
             Ok(Audit::Explained(found)) => usual(found.steps.as_slice() == FOUND.as_slice()),
             Ok(Audit::Blocked(_)) => Said::Otherwise,
             Err(_) => Said::Memory,
+        }
+    }
+}
+
+/// Finds the longest run.
+pub(crate) struct FindingLongest;
+
+impl LibraryCall<Recording> for FindingLongest {
+    fn make(alloc: Global, log: &mut Recording) -> Said {
+        match longest_run(alloc, log) {
+            Ok(
+                LongestRun {
+                    certificate,
+                    blocks,
+                },
+            ) => usual(certificate.steps.as_slice() == FOUND.as_slice() && blocks.is_empty()),
+            Err(_) => refused(log.entry_count() == 4),
+        }
+    }
+}
+
+/// Makes the table of stamps.
+pub(crate) struct Stamping;
+
+/// The recording [`APART`], with the stamp 7 at its entry 1.
+pub(crate) fn stamped(alloc: Global) -> io::Result<Recording> {
+    let mut file = APART;
+    file[74] = 7;
+    recording_of(alloc, &file)
+}
+
+impl LibraryCall<Recording> for Stamping {
+    fn make(alloc: Global, log: &mut Recording) -> Said {
+        match Stamps::of(alloc, log) {
+            Ok(stamps) => usual(stamps.at(0) == 0 && stamps.at(1) == 7 && stamps.at(2) == 0),
+            Err(_) => refused(log.entry_count() == 4),
         }
     }
 }

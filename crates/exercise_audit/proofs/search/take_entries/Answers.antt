@@ -1,25 +1,14 @@
-use Rattle.std.proofs.Common.{◌≡◌, length, arith, ap, ◌∙◌}
+use Rattle.std.proofs.Common.{◌≡◌, length, sym, ap, ◌∙◌}
 use Rattle.exercise_model.specs.Recording.{PlainRecording}
-use Rattle.exercise_check.proofs.Offered.{good_few}
-use Rattle.exercise_audit.proofs.Onward.{all_held, few_stations, fewer_left}
+use Rattle.exercise_check.specs.Course.{CourseData}
+use Rattle.exercise_audit.proofs.InOrder.{all_done}
 use Rattle.exercise_audit.proofs.search.take_entries.Goals as goal
 
-pub loop-turns-smaller : goal.loop-turns-smaller
-loop-turns-smaller g c =
-    let v = c.take_earliest.new.course in
-    let search = c.in_ok-take_earliest.ensures.search in
-    let few = good_few v.recording search.course.limits v.steps search.course.good in
-    let same : length v.recording.entries ≡ length c.args.course.now.recording.entries = ap (λ (r : PlainRecording). length r.entries)
-    (c.take_earliest.ensures.recording ∙ c.loop-turns.invariant.recording) in
-    fewer_left (length c.args.course.now.recording.entries) (length c.loop-turns.course.steps) (length v.steps) (length v.recording.entries)
-    (c.in_ok-take_earliest.ensures.taken c.if-not-branch.false) few same
-
-pub returns-clause-held : goal.returns-clause-held
-returns-clause-held g c =
-    all_held c.take_earliest.new.course c.take_earliest.new.waiting c.take_earliest.new.turns c.in_ok-take_earliest.ensures.search
-    (c.in_ok-take_earliest.ensures.none c.if-not-branch.true)
-
-pub first_turns-requires-clause-few : goal.first_turns-requires-clause-few
-first_turns-requires-clause-few g c =
-    let few = few_stations (g.L.ExerciseLog.recording c.args.log.now) c.station_count.ensures.limits in
-    omega (arith, few, c.station_count.ensures.count)
+pub returns-then-len-entry_count-clause-held : goal.returns-then-len-entry_count-clause-held
+returns-then-len-entry_count-clause-held g c =
+    let v = c.take_first_entries.new.course in
+    let r = g.L.ExerciseLog.recording c.args.log.now in
+    let same : v.recording ≡ r = c.take_first_entries.ensures.recording ∙ ap (λ (c : CourseData). c.recording) c.requires in
+    let count : length v.steps ≡ length v.recording.entries =
+    sym c.len.ensures.steps ∙ c.if-len-entry_count.true ∙ c.entry_count.ensures.count ∙ ap (λ (r : PlainRecording). length r.entries) (sym same) in
+    λ s l. all_done v c.len.ensures.course count s

@@ -1,6 +1,6 @@
 use Rattle.std.proofs.Common.{sym, ap, subst}
 use Rattle.exercise_check.specs.Course.{CourseData}
-use Rattle.exercise_audit.specs.Stamps.{AreStamps}
+use Rattle.exercise_model.specs.Stamps.{AreStamps}
 use Rattle.exercise_audit.specs.Search.{IsSearch, HaveTurns}
 use Rattle.exercise_audit.proofs.Onward.{can_be_judged, one_longer, search_taken, barred_same, search_stopped}
 use Rattle.exercise_audit.proofs.search.take_turn.Goals as goal

@@ -1,5 +1,5 @@
 use Rattle.exercise_audit.proofs.Held.{next_of, barred_held, barred_block, held_takes_none}
-use Rattle.exercise_audit.proofs.searched.block_at.Goals as goal
+use Rattle.exercise_audit.proofs.longest.block_at.Goals as goal
 
 pub returns-in-Barred-clause-block : goal.returns-in-Barred-clause-block
 returns-in-Barred-clause-block g c =

@@ -1,7 +1,7 @@
 use Rattle.std.proofs.Common.{◌≡◌}
 use Rattle.exercise_check.specs.Course.{so_far}
 use Rattle.exercise_audit.specs.Audit.{AreBlocks}
-use Rattle.exercise_audit.proofs.searched.blocks.Given as goal
+use Rattle.exercise_audit.proofs.longest.blocks.Given as goal
 
 abbrev pub invariant-loop-station : goal.invariant-loop-station
 invariant-loop-station g l = record {

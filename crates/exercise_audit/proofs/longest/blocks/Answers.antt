@@ -3,8 +3,8 @@ use Rattle.std.proofs.lemmas.Grind.{common_steps}
 use Rattle.exercise_check.specs.Course.{CourseData, so_far}
 use Rattle.exercise_audit.specs.Audit.{AreBlocks, IsHeld, IsBlock, IsDone}
 use Rattle.exercise_audit.proofs.Held.{blocks_done, blocks_push}
-use Rattle.exercise_audit.proofs.searched.blocks.Goals as goal
-use Rattle.exercise_audit.proofs.searched.blocks.Goals.{in-Some+in_ok-push, in_default}
+use Rattle.exercise_audit.proofs.longest.blocks.Goals as goal
+use Rattle.exercise_audit.proofs.longest.blocks.Goals.{in-Some+in_ok-push, in_default}
 
 pub loop-station-init : goal.loop-station-init
 loop-station-init g c = record {

@@ -1,6 +1,6 @@
 use Rattle.std.proofs.Common.{◌≡◌, ◌-◌, length}
 use Rattle.exercise_audit.specs.Search.{IsSearch}
-use Rattle.exercise_audit.proofs.search.take_entries.Given as goal
+use Rattle.exercise_audit.proofs.search.take_others.Given as goal
 
 abbrev pub invariant-loop-turns : goal.invariant-loop-turns
 invariant-loop-turns g l = record {

@@ -107,7 +107,7 @@ complete -c siman -n '__siman_at 1' -a why -d 'Prints what contradicts what: in 
 complete -c siman -n '__siman_at 2 why' -a '(__siman_files dsrc)'
 complete -c siman -n '__siman_behind 3 why' -a '(__siman_files dsct)'
 complete -c siman -n '__siman_behind 3 why' -a '--json'
-complete -c siman -n '__siman_at 1' -a chart -d 'Draws an exercise in the sequence of its certificate, and writes the picture'
+complete -c siman -n '__siman_at 1' -a chart -d 'Draws an exercise in the sequence of its certificate, or up to where it is contradicted, and writes the picture'
 complete -c siman -n '__siman_at 2 chart' -a '(__siman_files dsrc)'
 complete -c siman -n '__siman_at 3 chart' -a '(__siman_files dsct)'
 complete -c siman -n '__siman_at 4 chart' -a '(__siman_folders)'

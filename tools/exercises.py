@@ -5,11 +5,12 @@
     python3 tools/exercises.py --write
 
 An exercise is a folder of examples/ with a script, a recorder or two machines, in Python or played by the program, and
-with the report, the review and the picture of its recording. The recording is made anew in a temporary folder; then `audit` has to find an order, what
-`check` and `review` print has to be report.txt and review.txt, and what `chart` draws picture.svg. All are compared,
-too, with what tools/pages computes of the recording, which knows nothing of the program. So are the pictures that the
-pages show: docs/losses.svg is that of examples/losses.dsrc, docs/staff/first.svg that of examples/first. --write makes
-all these files anew, of what tools/pages computes.
+with the report, the review and the picture of its recording. The recording is made anew in a temporary folder; then
+`audit` has to find an order, what `check` and `review` print has to be report.txt and review.txt, and what `chart` draws
+picture.svg. All are compared, too, with what tools/pages computes of the recording, which knows nothing of the program.
+So are the pictures that the pages show: docs/losses.svg is that of examples/losses.dsrc, docs/missing.svg that of
+examples/one_send_missing.dsrc, docs/staff/first.svg that of examples/first. --write makes all these files anew, of what
+tools/pages computes.
 
 The last line is `N tried, M wrong`, with status 1 where something is wrong. It is no part of the gate.
 """
@@ -31,6 +32,8 @@ EXAMPLES = TOP / "examples"
 LONGEST = 60  # seconds for a program
 # Where else the picture of an exercise stands.
 SHOWN = {"first": [TOP / "docs/staff/first.svg"]}
+# The recordings of which pages show the picture.
+DRAWN = {"losses.dsrc": [TOP / "docs/losses.svg"], "one_send_missing.dsrc": [TOP / "docs/missing.svg"]}
 
 
 def arguments():
@@ -51,6 +54,11 @@ def run(*words):
     """What a program prints that ends well; what it says where it does not."""
     done = subprocess.run(list(map(str, words)), capture_output=True, timeout=LONGEST, stdin=subprocess.DEVNULL)
     return done.stdout if done.returncode == 0 else done.stdout + done.stderr + f"status {done.returncode}\n".encode()
+
+
+def printed(told):
+    """What a program prints that answers so, as `run` has it."""
+    return told.out if told.status == 0 else told.out + told.errors + f"status {told.status}\n".encode()
 
 
 def free_address():
@@ -120,23 +128,24 @@ def compared_file(path, computed, printed, is_written):
 
 
 def compared_pictures(program, recording, certificate, paths, is_written):
-    """The line of a picture, and the picture under each of these paths."""
-    made = certificate.with_suffix(".svg")
-    told, drawn = answer_to_chart(recording.read_bytes(), certificate.read_bytes())
-    compared = [("chart", told.out, run(program, "chart", recording, certificate, made))]
+    """The lines of a picture, and the picture under each of these paths; without a certificate that of the recording alone."""
+    made = recording.with_suffix(".svg")
+    told, drawn = answer_to_chart(recording.read_bytes(), None if certificate == "-" else certificate.read_bytes())
+    compared = [("chart", printed(told), run(program, "chart", recording, certificate, made))]
     for path in paths:
         compared += compared_file(path, drawn.encode(), made.read_bytes(), is_written)
     return compared
 
 
-def compared_losses(program, folder, is_written):
-    """The picture of examples/losses.dsrc in the order that `audit` finds."""
-    lines = (EXAMPLES / "losses.dsrc.hex").read_text(encoding="ascii").splitlines()
-    recording, certificate = folder / "losses.dsrc", folder / "losses.dsct"
+def compared_recording(program, name, folder, is_written):
+    """The answer of `audit` about a recording of the examples, and the picture that the pages show of it, if they do."""
+    lines = (EXAMPLES / f"{name}.hex").read_text(encoding="ascii").splitlines()
+    recording, certificate = folder / name, folder / "order.dsct"
     recording.write_bytes(bytes.fromhex(" ".join(line.partition("#")[0] for line in lines)))
-    order = run(program, "audit", recording, certificate)
-    compared = [("audit", pages.answer_to_audit(recording.read_bytes()).out, order)]
-    return compared + compared_pictures(program, recording, certificate, [TOP / "docs/losses.svg"], is_written)
+    told = pages.answer_to_audit(recording.read_bytes())
+    compared = [("audit", printed(told), run(program, "audit", recording, certificate))]
+    order = certificate if told.status == 0 else "-"
+    return compared + compared_pictures(program, recording, order, DRAWN[name], is_written)
 
 
 def main():
@@ -144,13 +153,13 @@ def main():
     makers = ("exercise.script", "recorder.py", "machine.py", "run")
     names = given.exercises or sorted({path.parent.name for maker in makers for path in EXAMPLES.glob(f"*/{maker}")})
     tried = wrong = 0
-    for name in [*names, *([] if given.exercises else ["losses.dsrc"])]:
+    for name in [*names, *([] if given.exercises else DRAWN)]:
         with tempfile.TemporaryDirectory() as folder:
             exercise = EXAMPLES / name
             if exercise.is_dir():
                 compared = compared_texts(given.program, exercise, Path(folder), given.write)
             else:
-                compared = compared_losses(given.program, Path(folder), given.write)
+                compared = compared_recording(given.program, name, Path(folder), given.write)
             for told, expected, came in compared:
                 tried += 1
                 if expected != came:

@@ -5,10 +5,13 @@ It makes exercises of two to six stations, in which orders and reports are sent 
 late, come twice or come from outside, are sent again, answered, refused or left unanswered, and states are told, at
 stamps of any sort. The recording has the entries in another order than they happened, and the certificate the order in
 which they happened. For each it draws the whole, and some of the steps, with a clock or none, with the bars of all
-entities or of some, and compares:
+entities or of some, and the columns of all stations or of some. Then it takes an entry or two out of the recording, and
+draws what is left without a certificate, and it spoils a step of the certificate, and draws the steps before the first
+bad one. It compares:
 
 - the marks in the SVG with those that the logs say, by tools/pages/charts.py alone, and each byte of it with what
   tools/pages/drawings.py draws;
+- what is answered with what tools/pages/drawings.py answers;
 - where they stand: the rows one below the other, each arrow from the dot of its sender to the row and the column of its
   receiver, each bar from the row of the change that began it to that of the change that ended it, what was told of an
   entity on its bar, and what is lost level;
@@ -34,11 +37,12 @@ from xml.etree import ElementTree
 sys.dont_write_bytecode = True
 
 from cases.texts import certificate_text, pdu, received, recording_text, sent, told
+from cases.whys import altered
 from pages import (
     ACKNOWLEDGE, CREATE, DATA, DATA_QUERY, FIRST, NO_LINK, OPEN, START, STOP, TOLD, Course, Recording, Station, verdict,
 )  # fmt: skip
 from pages.charts import marks_in, text_of
-from pages.drawings import Drawing
+from pages.drawings import answer_to_chart, drawing_of
 from repairs import comment
 
 ALL = 0xFFFF
@@ -205,6 +209,7 @@ class Drawn:
     def __init__(self, svg, picture):
         self.elements, self.picture = list(ElementTree.fromstring(svg).iter()), picture
         self.rows = {int(row.get("data-entry")): int(row.get("y")) for row in self.marks("row")}
+        self.stops = {int(row.get("data-entry")): int(row.get("y")) for row in self.marks("blocked") if row.get("data-cause")}
         self.columns = {}
         for dot in [*self.marks("sent"), *self.marks("other")]:
             self.columns[self.station(int(dot.get("data-entry")))] = int(dot.get("x"))
@@ -221,6 +226,7 @@ class Drawn:
         yield from self.ends_that_stand_wrong()
         yield from self.bars_that_stand_wrong()
         yield from self.told_that_stand_wrong()
+        yield from self.stops_that_stand_wrong()
 
     def strange(self):
         for element in self.elements:
@@ -246,8 +252,11 @@ class Drawn:
 
     def ends_that_stand_wrong(self):
         for arrow in self.marks("arrow"):
-            for end, which in (("from", "1"), ("to", "2")):
-                yield from self.end_that_stands_wrong(arrow, int(arrow.get(f"data-{end}")), which)
+            yield from self.end_that_stands_wrong(arrow, int(arrow.get("data-to")), "2")
+            if self.picture.is_kept(int(arrow.get("data-from"))):
+                yield from self.end_that_stands_wrong(arrow, int(arrow.get("data-from")), "1")
+            elif arrow.get("y1") != arrow.get("y2"):
+                yield f"the short arrow to {arrow.get('data-to')} is not level"
         for loss in self.marks("lost"):
             yield from self.end_that_stands_wrong(loss, int(loss.get("data-from")), "1")
             if loss.get("y1") != loss.get("y2"):
@@ -269,6 +278,14 @@ class Drawn:
                 if change != "-" and int(change) in self.rows and not 0 <= self.rows[int(change)] - at <= 6:
                     yield f"bar of {bar.get('data-entity')} at {at}, the row of {change} at {self.rows[int(change)]}"
 
+    def stops_that_stand_wrong(self):
+        """What is blocked stands below all rows, in red, and its sign in its row."""
+        below = max(self.rows.values(), default=0)
+        for mark in self.marks("blocked"):
+            entry, y = int(mark.get("data-entry")), int(mark.get("y"))
+            is_row = mark.get("data-cause") is not None
+            if y <= below or mark.get("fill") != "#dc2626" or not (is_row or 0 <= self.stops.get(entry, 0) - y <= 6):
+                yield f"what is blocked at {entry} at height {y}"
 
     def told_that_stand_wrong(self):
         """A told state stands on the bars of its entity, if it has bars."""
@@ -288,42 +305,72 @@ def windows(chance, count):
 
 
 def choices(chance, recording):
-    """Words that choose a clock, or none, and the bars of some entities, or of all; and what they choose."""
-    unit, chosen = chance.choice([None, "us", "ms", "s"]), []
+    """Words that choose a clock, or none, the bars of some entities, or of all, and the columns of some stations, or of
+    all."""
+    unit = chance.choice([None, "us", "ms", "s"])
+    words = [f"clock={unit}"] if unit else []
     for _ in range(chance.choice([0, 0, 1, 3])):
         station = chance.choice(recording.stations)
-        chosen.append((station.site, station.application, chance.randint(1, 9)))
-    words = [f"clock={unit}"] if unit else []
-    return words + [f"entity={':'.join(map(str, entity))}" for entity in chosen], unit, chosen
+        words.append(f"entity={station.site}:{station.application}:{chance.randint(1, 9)}")
+    for _ in range(chance.choice([0, 0, 1, 2])):
+        station = chance.choice(recording.stations)
+        words.append(f"station={station.site}:{station.application}")
+    return words
 
 
-def draw(program, folder, window, count, chosen):
-    words = [program, "chart", folder / "made.dsrc", folder / "made.dsct", folder / "made.svg", "--force"]
-    if window != (0, count):
-        words += [f"from={window[0]}", f"to={window[1] - 1}"]
-    words += chosen
+def draw(program, folder, certificate, said):
+    """The status and the lines of the answer, and the picture, or why there is none."""
+    words = [program, "chart", folder / "made.dsrc", certificate, folder / "made.svg", "--force", *said]
     done = subprocess.run(words, capture_output=True, text=True, timeout=60)
-    return done.returncode, done.stdout, (folder / "made.svg").read_text() if done.returncode == 0 else done.stderr
+    return done.returncode, done.stdout, (folder / "made.svg").read_text() if done.returncode < 2 else done.stderr
 
 
-def fault_of(program, folder, recording, places, window, chosen):
+def fault_of(program, folder, files, said):
     """What is wrong with a picture, or None; and the marks that it is to have."""
-    said, unit, entities = chosen
-    picture = Drawing(recording, places, range(*window), entities, unit)
+    recording, certificate = files
+    (folder / "made.dsrc").write_bytes(recording)
+    if certificate is not None:
+        (folder / "made.dsct").write_bytes(certificate)
+    answer, wanted = answer_to_chart(recording, certificate, said)
+    status, lines, svg = draw(program, folder, "-" if certificate is None else folder / "made.dsct", said)
+    if wanted is None:
+        told = (status, svg.splitlines()[:1]) == (answer.status, answer.errors.decode().splitlines()[:1])
+        return None if told else f"status {status}: {svg}", []
+    picture = drawing_of(recording, certificate, said)
     marks = sorted(text_of(mark) for mark in picture.marks())
-    status, line, svg = draw(program, folder, window, len(places), said)
-    if (status, line) != (0, f"chart steps={window[1] - window[0]} stations={len(recording.stations)}\n"):
-        return f"status {status}: {line}{svg}", marks
+    if (status, lines.encode()) != (answer.status, answer.out):
+        return f"status {status}: {lines}", marks
     drawn = marks_in(svg)
     if drawn != marks:
         lacks, more = Counter(marks) - Counter(drawn), Counter(drawn) - Counter(marks)
         return f"lacks {sorted(lacks.elements())}, has {sorted(more.elements())}", marks
-    if svg != picture.text():
-        lines = zip(svg.splitlines(), picture.text().splitlines())
-        return f"drawn otherwise: {next((pair for pair in lines if pair[0] != pair[1]), 'longer')}", marks
+    if svg != wanted:
+        parts = zip(svg.splitlines(), wanted.splitlines())
+        return f"drawn otherwise: {next((pair for pair in parts if pair[0] != pair[1]), 'longer')}", marks
     if XMLLINT and subprocess.run([XMLLINT, "--noout", folder / "made.svg"], capture_output=True).returncode:
         return "no XML", marks
     return next(Drawn(svg, picture).faults(), None), marks
+
+
+def without(chance, recording):
+    """A recording that lacks an entry or two."""
+    entries = list(recording.entries)
+    for _ in range(chance.choice((1, 1, 2))):
+        if entries:
+            del entries[chance.randrange(len(entries))]
+    return recording._replace(entries=entries)
+
+
+def drawings(chance, recording, places, steps):
+    """Each recording and certificate, or none, that is to be drawn, and the words that say what of it."""
+    whole = recording_text(recording), certificate_text(steps)
+    for first, end in windows(chance, len(places)):
+        bounds = [] if (first, end) == (0, len(places)) else [f"from={first}", f"to={end - 1}"]
+        yield whole, bounds + choices(chance, recording)
+    yield (whole[0], None), choices(chance, recording)
+    bounds = [f"to={chance.randrange(len(places))}"] if chance.random() < 0.2 else []
+    yield (whole[0], certificate_text(altered(chance, recording, steps))), bounds + choices(chance, recording)
+    yield (recording_text(without(chance, recording)), None), bounds + choices(chance, recording)
 
 
 def faults_of(program, folder, chance, recording, places, counts):
@@ -331,16 +378,11 @@ def faults_of(program, folder, chance, recording, places, counts):
     answer = verdict(recording, steps)
     if answer.out.split()[0] != b"yes":
         return [f"the certificate is not good: {answer.out}"]
-    if not program:
-        return []
-    (folder / "made.dsrc").write_bytes(recording_text(recording))
-    (folder / "made.dsct").write_bytes(certificate_text(steps))
     faults = []
-    for window in windows(chance, len(places)):
-        chosen = choices(chance, recording)
-        fault, marks = fault_of(program, folder, recording, places, window, chosen)
+    for files, said in drawings(chance, recording, places, steps) if program else ():
+        fault, marks = fault_of(program, folder, files, said)
         counts.update(mark.split()[0] for mark in marks)
-        faults += [f"steps {window[0]} to {window[1] - 1} {chosen[0]}: {fault}"] if fault else []
+        faults += [f"{' '.join(said)}: {fault}"] if fault else []
     return faults
 
 

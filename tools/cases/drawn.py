@@ -13,8 +13,15 @@ from pictures import made_exercise, steps_of
 
 # The order of the worked exercise in which its entries happened.
 COURSE = [0, 1, 2, 3, 4, 5, 6, 7, 8, 9, 11, 13, 15, 10, 12, 14, 16, 17, 18, 22, 19, 20, 23, 24, 25, 26, 28, 27, 29, 21]
-LINES = (TOP / "examples/losses.dsrc.hex").read_text(encoding="ascii").splitlines()
-LOSSES = bytes.fromhex(" ".join(line.partition("#")[0] for line in LINES))
+
+
+def example(name):
+    """The bytes of an example, which stand in hexadecimal digits, with remarks."""
+    lines = (TOP / f"examples/{name}.hex").read_text(encoding="ascii").splitlines()
+    return bytes.fromhex(" ".join(line.partition("#")[0] for line in lines))
+
+
+LOSSES = example("losses.dsrc")
 ROWS = 2001
 BYTES = 50
 
@@ -42,9 +49,10 @@ class Files:
     def case(self, name, words, before=(), asked=None, answer=None):
         """A case whose words may name a recording, a certificate, the picture, and steps."""
         recording, certificate, picture, *steps = words
-        told, drawn = answer or answer_to_chart(self.texts.get(recording, b""), self.texts.get(certificate, b""), steps)
+        order = None if certificate == "-" else self.texts.get(certificate, b"")
+        told, drawn = answer or answer_to_chart(self.texts.get(recording, b""), order, steps)
         yield from ["", f"case {name}", *before, f"words chart {' '.join(words)}"]
-        asked = [recording, certificate] if asked is None else asked
+        asked = [recording, certificate][: 1 + (certificate != "-")] if asked is None else asked
         asked = asked + ([f"make {picture}"] if drawn is not None else [])
         yield from [f"asked {name}" for name in asked] or ["asked-nothing"]
         yield from [f"status {told.status}"] if told.status else []
@@ -73,7 +81,41 @@ def worked(files):
     for name, bad in [("swapped", swapped), ("linked", linked), ("short", steps[:-1]), ("none", [])]:
         kept = files.kept(name, texts.certificate_text(bad))
         yield from files.case(f"a-certificate-that-is-{name}", ["losses", name, "new"], kept)
-    yield from files.case("a-no-before-a-step-past-the-last", ["losses", "swapped", "new", "from=99"])
+    yield from files.case("a-step-past-the-first-bad-one", ["losses", "swapped", "new", "from=2"])
+    yield from files.case("the-last-step-before-the-first-bad-one", ["losses", "swapped", "new", "from=1"])
+    yield from files.case("not-the-last-step-before-the-first-bad-one", ["losses", "swapped", "new", "to=0"])
+
+
+def unexplained(files):
+    """What nothing explains, up to where no station can go on; and what audit finds a sequence of."""
+    yield from files.case("no-certificate-of-what-is-explained", ["losses", "-", "new"])
+    yield from files.case("some-steps-without-a-certificate", ["losses", "-", "new", "from=11", "to=12"])
+    missing = files.kept("missing", example("one_send_missing.dsrc"))
+    yield from files.case("a-send-is-missing", ["missing", "-", "new"], missing)
+    yield from files.case("a-send-is-missing-the-last-steps", ["missing", "-", "new", "from=5", "clock=us"])
+    yield from files.case("a-send-is-missing-not-the-last-step", ["missing", "-", "new", "to=5"])
+    yield from files.case("a-send-is-missing-two-columns", ["missing", "-", "new", "station=1:1", "station=2:4", "from=5"])
+    yield from files.case("a-send-is-missing-a-step-past-the-last", ["missing", "-", "new", "from=7"])
+    yield from files.case("every-cause", ["causes", "-", "new"], files.kept("causes", example("every_cause.dsrc")))
+    yield from files.case("nothing-can-happen", ["crossed", "-", "new"], files.kept("crossed", example("comments_crossed.dsrc")))
+    yield from files.case("nothing-can-happen-at-a-step", ["crossed", "-", "new", "to=0"])
+    joined = files.kept("joined", example("logs_joined.dsrc"))
+    for name in ("taken_twice", "no_such_entry", "wrong_link", "too_few_steps"):
+        kept = [*joined, *files.kept(name, example(f"{name}.dsct"))]
+        yield from files.case(f"the-certificate-{name.replace('_', '-')}", ["joined", name, "new"], kept)
+        joined = []
+
+
+def columns(files):
+    """The columns of some stations."""
+    words = ["losses", "order", "new"]
+    yield from files.case("one-column", [*words, "station=2:4"])
+    yield from files.case("two-columns", [*words, "station=2:4", "from=4", "to=16", "station=1:1"])
+    yield from files.case("a-column-twice", [*words, "station=2:3", "station=2:3", "from=28"])
+    yield from files.case("all-columns", [*words, "station=2:3", "station=2:4", "station=1:1", "from=28"])
+    yield from files.case("columns-with-a-clock", [*words, "clock=ms", "station=2:3", "from=26", "entity=2:3:7"])
+    for said in (["station=9:9"], ["station=2:3", "station=3:2", "to=0"], ["station=9:9", "to=30"], ["station=0:0"]):
+        yield from files.case(f"no-column-by-{'-'.join(said)}", [*words, *said])
 
 
 def windows(files):
@@ -94,11 +136,12 @@ def windows(files):
         yield from files.case(f"past-the-last-by-{'-'.join(past)}", [*words, *past])
     bad = [
         ["from"], ["from="], ["from=x"], ["from=1x"], ["from=-1"], ["from=+1"], ["from=4294967296"], ["From=1"],
-        ["step=1"], ["=1"], ["station=1:1"], ["from=1", "from=2"], ["to=2", "to=2"], ["from=5", "to=4"],
+        ["step=1"], ["=1"], ["station=1"], ["from=1", "from=2"], ["to=2", "to=2"], ["from=5", "to=4"],
         ["to=4", "from=5"], ["from=1", "to=2", "to=3"], ["x", "from=1"], ["from=9", "to=8", "x"], ["from=1=2"],
         ["clock="], ["clock=m"], ["clock=US"], ["clock=s", "clock=s"], ["clock=us", "from=1", "clock=ms"], ["clock"],
         ["entity="], ["entity=7"], ["entity=2:3"], ["entity=2:3:7:1"], ["entity=2:3:65536"], ["entity=2:3:x"],
-        ["from=2", "entity=2:3:7", "to=1"],
+        ["from=2", "entity=2:3:7", "to=1"], ["station="], ["station=1:1:1"], ["station=1:65536"], ["station=1:x"], ["station"],
+        ["station=2:4", "Station=2:4"],
     ]  # fmt: skip
     for said in bad:
         yield from files.case(f"no-step-by-{'-'.join(said)}", [*words, *said], asked=[])
@@ -173,10 +216,12 @@ def writings(files):
         out = told.out.decode()[: 10 * (at - 1)]
         yield from ["", f"case a-line-whose-write-fails-at-call-{at}", f"words {said}", "out", *pieces(out), f"calls 10 {at} other"]
         yield from ["status 2", "errors", "text output: write", "discarded", *pieces(drawn)]
-    no = answer_to_chart(LOSSES, files.texts["swapped"])[0].out.decode()
-    for at in (1, 2):
-        yield from ["", f"case a-no-whose-write-fails-at-call-{at}", "words chart losses swapped new", "asked losses", "asked swapped"]
-        yield from ["status 2", "out", *pieces(no[: 10 * (at - 1)]), f"calls 10 {at} other", "errors", "text output: write"]
+    no, drawn = answer_to_chart(LOSSES, files.texts["swapped"])
+    said = "chart losses swapped new"
+    yield from write_fails("a-picture-of-a-no-whose-write-fails", said, drawn[:most], f"{most} 2 other")
+    for at in (1, 2, 6):
+        yield from ["", f"case a-no-whose-write-fails-at-call-{at}", f"words {said}", "out", *pieces(no.out.decode()[: 10 * (at - 1)])]
+        yield from [f"calls 10 {at} other", "status 2", "errors", "text output: write", "discarded", *pieces(drawn)]
 
 
 def limits(files):
@@ -236,15 +281,15 @@ def usage_fault(told):
 
 
 HELP = """\
-Draws an exercise in the sequence of its certificate, and writes the picture
+Draws an exercise in the sequence of its certificate, or up to where it is contradicted, and writes the picture
 
 Usage: siman chart <REC> <CERT> <SVG> [CHOICE]... [--force]
 
 Arguments:
   <REC>        The file of the recording
-  <CERT>       The file of the certificate
+  <CERT>       The file of the certificate; - draws the sequence that audit finds, or what comes before its blocked list
   <SVG>        The file of the picture, in SVG; it must not be there yet, or be empty
-  [CHOICE]...  What is shown: from=STEP the first step, to=STEP the last, counted from 0; clock=us, clock=ms or clock=s the time of day, of stamps in that unit; each may stand once; entity=S:A:E bars of this entity and of no other than those named
+  [CHOICE]...  What is shown: from=STEP the first step, to=STEP the last, counted from 0; clock=us, clock=ms or clock=s the time of day, of stamps in that unit; each may stand once; entity=S:A:E bars of this entity, station=S:A the column of this station, and of no other than those named
 
 Options:
       --force  Replaces a file that has the name of the one that is made
@@ -273,7 +318,7 @@ def usages():
 def cases():
     files = Files()
     yield "# Pictures of exercises: each is drawn to the byte. The lines were made by tools/cases/drawn.py."
-    for part in (worked, windows, empty_word, openings, readings, writings, limits, others):
+    for part in (worked, unexplained, windows, columns, empty_word, openings, readings, writings, limits, others):
         yield from part(files)
     yield from usages()
 

@@ -11,6 +11,7 @@ KEYS = {
     "row": ["step", "entry"], "sent": ["entry"], "other": ["entry"], "told": ["entry"], "arrow": ["from", "to"],
     "outside": ["by", "to"], "lost": ["from", "at"], "bar": ["entity", "state", "from", "to"],
     "undrawn": ["at", "entities"], "unanswered": ["entry"], "clock": ["entry", "stamp"],
+    "blocked": ["entry", "cause"], "stop": ["entry"],
 }  # fmt: skip
 
 
@@ -19,12 +20,16 @@ def marks_of(recording, places, first, end, chosen=()):
     return sorted(text_of(mark) for mark in Picture(recording, places, range(first, end), chosen).marks())
 
 
+def name_of(element):
+    """The name of a mark: of what is blocked, the row, which says the cause, and the sign on its column have one class."""
+    is_sign = element.get("class") == "blocked" and element.get("data-cause") is None
+    return "stop" if is_sign else element.get("class")
+
+
 def marks_in(svg):
     """The marks that stand in a picture."""
-    marks = (element for element in ElementTree.fromstring(svg).iter() if element.get("class"))
-    return sorted(
-        text_of((mark.get("class"), *(mark.get(f"data-{key}") for key in KEYS[mark.get("class")]))) for mark in marks
-    )
+    marks = ((name_of(element), element) for element in ElementTree.fromstring(svg).iter() if element.get("class"))
+    return sorted(text_of((name, *(mark.get(f"data-{key}") for key in KEYS[name]))) for name, mark in marks)
 
 
 def text_of(mark):
@@ -36,14 +41,22 @@ def text_of(mark):
 
 class Picture:
     """A recording, the entries in the order of a certificate, which of its steps are shown, the entities that are
-    chosen, if any are, and what the stamps count, if the picture has a clock."""
+    chosen, if any are, what the stamps count, if the picture has a clock, the addresses of the stations whose columns
+    are kept, if not all are, and the entries, each with its cause, of what is blocked."""
 
-    def __init__(self, recording, places, rows, chosen=(), unit=None):
+    def __init__(self, recording, places, rows, chosen=(), unit=None, kept=(), blocked=()):
         self.story, self.places, self.rows = Story(recording), places, rows
         self.chosen, self.unit, self.known = set(chosen), unit, {}
+        self.blocked = [(entry, cause) for entry, cause in blocked if entry < len(recording.entries)]
+        stations = (at for at in range(len(recording.stations)) if not kept or tuple(self.story.address(at)) in kept)
+        self.columns = {station: column for column, station in enumerate(stations)}
         self.steps = {}
         for step, place in enumerate(places):
             self.steps.setdefault(place, step)
+
+    def is_kept(self, entry):
+        """Whether the station of an entry has a column."""
+        return self.story.entries[entry].station in self.columns
 
     def is_shown(self, entry):
         return self.steps.get(entry, len(self.places)) in self.rows
@@ -58,15 +71,27 @@ class Picture:
                 yield "clock", self.places[step], self.stamp(self.places[step])
             yield from self.marks_at(self.places[step])
         for entry, source in enumerate(self.story.sources):
-            if source is not None and (self.is_shown(entry) or self.is_shown(source)):
+            if source is not None and self.is_kept(entry) and (self.is_shown(entry) or self.is_shown(source)):
                 yield "arrow", source, entry
-        for station in range(len(self.story.stations)):
+        for station in self.columns:
             yield from self.bars(station)
-        yield from self.unanswered()
+        yield from ((name, entry) for name, entry in self.unanswered() if self.is_kept(entry))
+        yield from self.stops()
+
+    def stops(self):
+        """What stands in the rows of what is blocked."""
+        for entry, cause in self.blocked:
+            yield "blocked", entry, cause
+            if self.unit:
+                yield "clock", entry, self.stamp(entry)
+            if self.is_kept(entry):
+                yield "stop", entry
 
     def marks_at(self, index):
         """What stands in the row of an entry."""
         entry, pdu = self.story.entries[index], self.story.meanings[index]
+        if not self.is_kept(index):
+            return
         if entry.kind == TOLD or not pdu:
             yield ("told" if entry.kind == TOLD else "other"), index
         elif entry.kind == SENT:
@@ -81,7 +106,7 @@ class Picture:
         if index != self.copies(entry.datagram, SENT, entry.station)[0]:
             return
         for station in self.story.addressed(pdu.target):
-            if station != entry.station and not self.copies(entry.datagram, RECEIVED, station):
+            if station != entry.station and station in self.columns and not self.copies(entry.datagram, RECEIVED, station):
                 yield station
 
     def copies(self, datagram, kind, station):

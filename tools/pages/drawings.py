@@ -4,11 +4,12 @@ import re
 from .charts import MOST_ENTITIES, Picture
 from .datagrams import BODIES, REQUESTS, Outcome, fault, identifier_text
 from .files import RUNNING, SENT, STATES, TOLD, Fault, read_certificate, read_recording
-from .histories import is_answer, request_of, same_order, verdict
+from .histories import CAUSES, is_answer, judged, request_of, same_order, search, searched, timely, verdict
 from .reviews import told_at, word_of
 
 LEFT, TOP, ROW, BLOCK, MOST_ROWS = 40, 128, 20, 36, 2000
-SHEET, ACROSS = 1195, 1152
+SHEET, ACROSS = 1195, 432
+COLUMN, SLOT, MOST_BLOCKED = 108, 12, 256
 MOST_STEP = 0xFFFF_FFFF
 TONES = {"request": "#1d4ed8", "able": "#15803d", "unable": "#c2410c", "other": "#475569", "notice": "#7c3aed"}
 WORD_TONES = {"able": "able", "complete": "able", "data": "able", "unable": "unable", "rejected": "unable"}
@@ -31,6 +32,7 @@ SIGNS = (
     '<rect id="other" x="-4" y="-4" width="8" height="8"/>\n'
     '<path id="told" d="M0 -6L6 0L0 6L-6 0z" stroke="#1f2933" stroke-width="2"/>\n'
     '<g id="unanswered" stroke="#dc2626" stroke-width="2"><circle r="6"/><path d="M-3 -3L3 3"/></g>\n'
+    '<path id="blocked" d="M-2 -6h4l4 4v4l-4 4h-4l-4 -4v-4z"/>\n'
 )
 BODY = '<marker id="drawn" markerUnits="userSpaceOnUse" overflow="visible"><use href="#lines"/></marker>\n'
 
@@ -72,19 +74,22 @@ def tone_of(pdu):
 class Drawing(Picture):
     """A picture as it is drawn."""
 
-    def __init__(self, recording, places, rows, chosen=(), unit=None):
-        super().__init__(recording, places, rows, chosen, unit)
+    def __init__(self, recording, places, rows, chosen=(), unit=None, kept=(), blocked=()):
+        super().__init__(recording, places, rows, chosen, unit, kept, blocked)
         self.exercise, self.count = recording.exercise, len(recording.stations)
-        self.is_wide = self.count <= 4
         self.shown = min(max(rows.stop - rows.start, 0), MOST_ROWS)
+        self.drawn = self.shown + min(len(self.blocked), MOST_BLOCKED)
 
     # Where things stand.
 
+    def column_x(self, column):
+        return LEFT + COLUMN * column
+
     def x(self, station):
-        return LEFT + (108 if self.is_wide else 72) * station
+        return self.column_x(self.columns.get(station, 0))
 
     def slot_x(self, station, slot):
-        return self.x(station) + (12 if self.is_wide else 8) * min(slot, MOST_ENTITIES)
+        return self.x(station) + SLOT * min(slot, MOST_ENTITIES)
 
     def step(self, entry):
         return self.steps.get(entry, len(self.places))
@@ -97,11 +102,16 @@ class Drawing(Picture):
         step = self.step(entry)
         if step < self.rows.start:
             return TOP + 10
-        return self.row_y(min(max(min(step, self.rows.stop) - self.rows.start, 0), MOST_ROWS))
+        if step >= self.rows.stop:
+            return self.bottom
+        return self.row_y(min(step - self.rows.start, MOST_ROWS))
+
+    def blocked_y(self, number):
+        return self.row_y(self.shown + min(number, MOST_BLOCKED))
 
     @property
     def rows_x(self):
-        return self.x(self.count)
+        return self.column_x(len(self.columns))
 
     @property
     def step_x(self):
@@ -121,7 +131,7 @@ class Drawing(Picture):
 
     @property
     def bottom(self):
-        return self.row_y(self.shown)
+        return self.row_y(self.drawn)
 
     def column(self, entry):
         return self.x(self.story.entries[entry].station)
@@ -129,14 +139,16 @@ class Drawing(Picture):
     # The parts.
 
     def text(self):
-        under = self.heading() + self.rows_text() + '<g id="lines">\n' + self.columns() + self.bars_text()
-        over = self.arrows() + self.outsiders() + self.losses() + self.deeds() + self.all_unanswered()
+        under = self.heading() + self.rows_text() + '<g id="lines">\n' + self.column_lines() + self.bars_text()
+        over = self.arrows() + self.outsiders() + self.losses() + self.deeds() + self.all_unanswered() + self.all_blocked()
         return f"{under}{over}</g>\n{self.names()}</g>\n{self.sheets_text()}</svg>\n"
 
     def heading(self):
         width, height = self.width, self.bottom + 24
         entries, steps = len(self.story.entries), self.rows.stop - self.rows.start
-        counts = f"{self.count} stations, {entries} entries, {steps} steps from step {self.rows.start} on"
+        kept = f" ({len(self.columns)} shown)" if len(self.columns) < self.count else ""
+        counts = f"{self.count} stations{kept}, {entries} entries, {steps} steps from step {self.rows.start} on"
+        counts += f", then {len(self.blocked)} blocked" if self.blocked else ""
         return (
             f'<svg xmlns="http://www.w3.org/2000/svg" width="{width}" height="{height}" style="--sheets:{self.down * self.across}" '
             'font-family="Helvetica,Arial,sans-serif" font-size="11">\n'
@@ -168,16 +180,29 @@ class Drawing(Picture):
         )
 
     def rows_text(self):
-        return group("".join(map(self.row, self.rows)))
+        return group("".join(map(self.row, self.rows)) + "".join(map(self.blocked_row, range(len(self.blocked)))))
 
     def row(self, step):
         entry = self.places[step]
-        y, (block, place) = self.y(entry), divmod(step - self.rows.start, BLOCK)
-        begun = "" if place else f'</g>\n<g id="rows{block}" fill="#1f2933">\n'
-        rule = element("line", ("x1", 16), ("y1", y), ("x2", self.rows_x - 8), ("y2", y), ("stroke", "#e2e8f0"))
+        y = self.y(entry)
         number = words(step, ("x", self.step_x), ("y", y + 4), ("text-anchor", "end"))
         keys = [("x", self.words_x), ("y", y + 4), ("class", "row"), ("data-step", step), ("data-entry", entry)]
-        return begun + rule + number + self.clock(entry, y + 4) + words(self.row_words(entry), *keys)
+        begun = self.row_begun(step - self.rows.start, y) + number
+        return begun + self.clock(entry, y + 4) + words(self.row_words(entry), *keys)
+
+    def row_begun(self, number, y):
+        """The beginning of a block, before its first row, and the rule of a row."""
+        block, place = divmod(number, BLOCK)
+        begun = "" if place else f'</g>\n<g id="rows{block}" fill="#1f2933">\n'
+        rule = element("line", ("x1", 16), ("y1", y), ("x2", self.rows_x - 8), ("y2", y), ("stroke", "#e2e8f0"))
+        return begun + rule
+
+    def blocked_row(self, number):
+        (entry, cause), y = self.blocked[number], self.blocked_y(number)
+        keys = [("x", self.words_x), ("y", y + 4), ("fill", "#dc2626"), ("class", "blocked"), ("data-entry", entry)]
+        said = f"{self.row_words(entry)} cause={cause} {CAUSES[cause]}"
+        begun = self.row_begun(self.shown + number, y)
+        return begun + self.clock(entry, y + 4) + words(said, *keys, ("data-cause", cause))
 
     def clock(self, entry, y):
         if not self.unit:
@@ -210,17 +235,16 @@ class Drawing(Picture):
         is_repeat = pdu.kind in REQUESTS and any(same_order(pdu, other) for other in before)
         return " (repeat)" if is_repeat else ""
 
-    def columns(self):
+    def column_lines(self):
         lines = (
-            element("line", ("x1", self.x(s)), ("y1", TOP), ("x2", self.x(s)), ("y2", self.bottom))
-            for s in range(self.count)
+            element("line", ("x1", self.x(s)), ("y1", TOP), ("x2", self.x(s)), ("y2", self.bottom)) for s in self.columns
         )
         return group("".join(lines), stroke="#94a3b8")
 
     def bars_text(self):
-        bars = "".join(self.station_bars(station) for station in range(self.count))
-        bars += "".join(self.undrawn(station) for station in range(self.count))
-        return group(bars, fill="#1f2933", writing_mode="vertical-rl", font_size=13 if self.is_wide else 8)
+        bars = "".join(self.station_bars(station) for station in self.columns)
+        bars += "".join(self.undrawn(station) for station in self.columns)
+        return group(bars, fill="#1f2933", writing_mode="vertical-rl", font_size=13)
 
     def station_bars(self, station):
         shown, entities = self.lives(station)
@@ -246,9 +270,9 @@ class Drawing(Picture):
         entity, state, since, until = life
         begins = TOP + 10 if since is None else self.y(since.entry)
         ends = self.bottom if until is None else self.y(until.entry)
-        x, (half, width) = self.slot_x(station, slot), ((6, 11) if self.is_wide else (4, 7))
+        x = self.slot_x(station, slot)
         return element(
-            "rect", ("x", x - half), ("y", begins), ("width", width), ("height", max(ends - begins, 0)),
+            "rect", ("x", x - 6), ("y", begins), ("width", 11), ("height", max(ends - begins, 0)),
             ("fill", "#4ade80" if state == RUNNING else "#fbbf24"), ("class", "bar"),
             ("data-entity", identifier_text((*self.story.address(station), entity))), ("data-state", STATES[state]),
             ("data-from", since.entry if since else "-"), ("data-to", until.entry if until else "-"),
@@ -258,14 +282,17 @@ class Drawing(Picture):
         ends = enumerate(self.story.sources)
         arrows = (
             self.arrow(source, entry) for entry, source in ends
-            if source is not None and (self.is_shown(entry) or self.is_shown(source))
+            if source is not None and (self.is_shown(entry) or self.is_shown(source)) and self.is_kept(entry)
         )  # fmt: skip
         return group("".join(arrows), stroke_width=2)
 
     def arrow(self, source, entry):
         tone = tone_of(self.story.meanings[entry])
+        begins = self.column(entry) - 24, self.y(entry)
+        if self.is_kept(source):
+            begins = self.column(source), self.y(source)
         return element(
-            "line", ("x1", self.column(source)), ("y1", self.y(source)), ("x2", self.column(entry)),
+            "line", ("x1", begins[0]), ("y1", begins[1]), ("x2", self.column(entry)),
             ("y2", self.y(entry)), ("stroke", TONES[tone]), ("marker-end", f"url(#to-{tone})"), ("class", "arrow"),
             ("data-from", source), ("data-to", entry),
         )  # fmt: skip
@@ -299,12 +326,13 @@ class Drawing(Picture):
             ("data-at", at),
         )  # fmt: skip
 
-    def sign(self, name, entry, colour, x=None):
-        x = self.column(entry) if x is None else x
+    def sign(self, name, entry, colour, x=None, y=None):
+        if not self.is_kept(entry):
+            return ""
+        x, y = self.column(entry) if x is None else x, self.y(entry) if y is None else y
         return element(
-            "use", ("href", f"#{name}"), ("x", x), ("y", self.y(entry)), ("fill", colour),
-            ("class", name), ("data-entry", entry),
-        )  # fmt: skip
+            "use", ("href", f"#{name}"), ("x", x), ("y", y), ("fill", colour), ("class", name), ("data-entry", entry)
+        )
 
     def deeds(self):
         return "".join(self.deed(self.places[step]) for step in self.rows)
@@ -320,8 +348,12 @@ class Drawing(Picture):
     def all_unanswered(self):
         return "".join(self.sign(name, entry, "#ffffff") for name, entry in self.unanswered())
 
+    def all_blocked(self):
+        signs = enumerate(self.blocked)
+        return "".join(self.sign("blocked", entry, "#dc2626", y=self.blocked_y(at)) for at, (entry, _) in signs)
+
     def names(self):
-        return "".join(map(self.names_above, range(self.shown // BLOCK + 1)))
+        return "".join(map(self.names_above, range(self.drawn // BLOCK + 1)))
 
     def names_above(self, block):
         return group(
@@ -333,7 +365,7 @@ class Drawing(Picture):
 
     @property
     def down(self):
-        return max(self.shown - 1, 0) // BLOCK + 1
+        return max(self.drawn - 1, 0) // BLOCK + 1
 
     @property
     def is_narrow(self):
@@ -341,26 +373,31 @@ class Drawing(Picture):
 
     @property
     def across(self):
-        return 1 if self.is_narrow else (self.count + 15) // 16 + 1
+        return 1 if self.is_narrow else max((len(self.columns) + 3) // 4, 1)
 
     def sheets_text(self):
         return group("".join(map(self.sheet, range(self.down * self.across))), id="sheets")
 
     def sheet(self, number):
         block, place = divmod(number, self.across)
-        x, width = (0, SHEET) if self.is_narrow else (self.rows_x - 8, SHEET)
-        if not self.is_narrow and 16 * place < self.count:
-            x = 4 + ACROSS * place
-            width = min(ACROSS, self.rows_x - 8 - x)
+        begun = f'<svg y="{100 * number}vh" width="980" height="716" viewBox="0 0 1195 873">\n<use href="#heading"/>\n'
+        if self.is_narrow:
+            return f"{begun}{self.part(0, 0, SHEET, block)}</svg>\n"
+        x, edge = 4 + ACROSS * place, self.rows_x - 8
+        columns = self.part(0, x, min(ACROSS, max(edge - x, 0)), block)
+        return f"{begun}{columns}{self.part(ACROSS, edge, SHEET - ACROSS, block)}</svg>\n"
+
+    @staticmethod
+    def part(at, x, width, block):
+        """What a sheet shows of a block, from x on."""
         return (
-            f'<svg y="{100 * number}vh" width="980" height="716" viewBox="0 0 1195 873">\n<use href="#heading"/>\n'
-            f'<svg y="116" width="{width}" height="740" viewBox="{x} {116 + 740 * block} {width} 740">\n'
+            f'<svg x="{at}" y="116" width="{width}" height="740" viewBox="{x} {116 + 740 * block} {width} 740">\n'
             f'<use href="#rows{block}"/>\n<path d="M0 0h1" marker-start="url(#drawn)"/>\n<use href="#names{block}"/>\n'
-            "</svg>\n</svg>\n"
+            "</svg>\n"
         )
 
     def names_at(self, y):
-        stations = "".join(words(self.address(s), ("x", self.x(s)), ("y", y)) for s in range(self.count))
+        stations = "".join(words(self.address(s), ("x", self.x(s)), ("y", y)) for s in self.columns)
         step = words("step", ("x", self.step_x), ("y", y), ("text-anchor", "end"))
         clock = words("UTC", ("x", self.clock_x), ("y", y), ("text-anchor", "start")) if self.unit else ""
         return stations + step + clock + words("entry", ("x", self.words_x), ("y", y), ("text-anchor", "start"))
@@ -392,6 +429,8 @@ def legend():
     for x, colour, said in ((554, "#fbbf24", "stopped"), (630, "#4ade80", "running")):
         bar = element("rect", ("x", x), ("y", 82), ("width", 8), ("height", 12), ("fill", colour))
         yield bar[:-1] + words(said, ("x", x + 14), ("y", 92))
+    sign = element("use", ("href", "#blocked"), ("x", 670), ("y", 68), ("fill", "#dc2626"))
+    yield sign[:-1] + words("blocked", ("x", 680), ("y", 72))
 
 
 LEGEND = "".join(legend())
@@ -405,21 +444,22 @@ def choice_of(word):
         return (found[1], int(found[2])) if int(found[2]) <= MOST_STEP else None
     if found := re.fullmatch("clock=(us|ms|s)", word):
         return "clock", found[1]
-    if found := re.fullmatch("entity=([0-9]+):([0-9]+):([0-9]+)", word):
-        entity = tuple(map(int, found.groups()))
-        return ("entity", entity) if max(entity) <= 0xFFFF else None
+    for key, parts in (("entity", 3), ("station", 2)):
+        if found := re.fullmatch(f"{key}={':'.join(['([0-9]+)'] * parts)}", word):
+            chosen = tuple(map(int, found.groups()))
+            return (key, chosen) if max(chosen) <= 0xFFFF else None
     return None
 
 
 def choices_of(said):
-    """What words choose: the first and the last step, the unit of the clock and the entities; or the first word that
-    chooses nothing, or a second time, or a first step above the last."""
-    chosen = {"entity": []}
+    """What words choose: the first and the last step, the unit of the clock, the entities and the stations; or the first
+    word that chooses nothing, or a second time, or a first step above the last."""
+    chosen = {"entity": [], "station": []}
     for word in said:
         key, value = choice_of(word) or (None, None)
-        if key is None or (key != "entity" and key in chosen):
+        if key is None or (key not in ("entity", "station") and key in chosen):
             return None, word
-        if key == "entity":
+        if key in ("entity", "station"):
             chosen[key].append(value)
         else:
             chosen[key] = value
@@ -428,29 +468,70 @@ def choices_of(said):
     return chosen, None
 
 
-def answer_to_chart(text, certificate, said=()):
-    """What chart answers to a recording and a certificate by their bytes, and the picture, if it is made."""
+def halted(recording, steps):
+    """What is drawn of a certificate, or of the sequence of time without one: the lines before the answer's, the entries
+    in their order, and the entries that cannot happen next, each with its cause."""
+    if steps is None:
+        course, blocks = searched(recording)
+        lines = search(recording).out if blocks else b""
+        return lines, [place for place, _ in timely(recording)], [(at, course.cause_of_event(at)) for _, at in blocks]
+    bad = judged(recording, steps)[1]
+    places = [place for place, _ in steps]
+    if bad is None:
+        return b"", places, []
+    index, cause = bad
+    blocked = [(places[index], cause)] if cause > 2 else []
+    return verdict(recording, steps).out, places[:index], blocked
+
+
+def bad_word(recording, said, count):
+    """The first word that names a step past the last one; else the first that names a station that is not there."""
+    bounds = (word for word in said if word.startswith(("from=", "to=")))
+    past = next((word for word in bounds if int(word.partition("=")[2]) >= count), None)
+    there = {station[:2] for station in recording.stations}
+    named = ((word, choice_of(word)) for word in said)
+    return past or next((word for word, (key, value) in named if key == "station" and value not in there), None)
+
+
+class Undrawn(Exception):
+    """Why there is no picture: the subject and what is said of it."""
+
+
+def drawn_of(text, certificate, said):
+    """The lines before that of the picture, and the picture."""
     chosen, bad = choices_of(said)
     if bad is not None:
-        return fault(f"filter: {bad}"), None
+        raise Undrawn(f"filter: {bad}")
     try:
         recording = read_recording(text)
     except Fault as why:
-        return fault(f"recording: {why}"), None
+        raise Undrawn(f"recording: {why}") from why
     try:
-        steps = read_certificate(certificate)
+        steps = None if certificate is None else read_certificate(certificate)
     except Fault as why:
-        return fault(f"certificate: {why}"), None
-    judged = verdict(recording, steps)
-    if judged.status != 0:
-        return judged, None
-    bounds = (word for word in said if word.startswith(("from=", "to=")))
-    past = next((word for word in bounds if int(word.partition("=")[2]) >= len(steps)), None)
-    if past is not None:
-        return fault(f"filter: {past}"), None
-    rows = range(chosen.get("from", 0), chosen.get("to", len(steps) - 1) + 1)
+        raise Undrawn(f"certificate: {why}") from why
+    lines, places, blocked = halted(recording, steps)
+    if (bad := bad_word(recording, said, len(places))) is not None:
+        raise Undrawn(f"filter: {bad}")
+    rows = range(chosen.get("from", 0), chosen.get("to", len(places) - 1) + 1)
     if len(rows) > MOST_ROWS:
-        return fault("chart: over-limit"), None
-    line = f"chart steps={len(rows)} stations={len(recording.stations)}\n"
-    drawing = Drawing(recording, [place for place, _ in steps], rows, chosen["entity"], chosen.get("clock"))
-    return Outcome(0, line.encode(), b""), drawing.text()
+        raise Undrawn("chart: over-limit")
+    blocked = blocked if rows.stop == len(places) else []
+    return lines, Drawing(recording, places, rows, chosen["entity"], chosen.get("clock"), chosen["station"], blocked)
+
+
+def drawing_of(text, certificate, said=()):
+    """The picture of a recording and a certificate by their bytes, or of a recording alone (None)."""
+    return drawn_of(text, certificate, said)[1]
+
+
+def answer_to_chart(text, certificate, said=()):
+    """What chart answers to a recording and a certificate by their bytes, or to a recording alone (None), and the
+    picture, if it is made."""
+    try:
+        lines, drawing = drawn_of(text, certificate, said)
+    except Undrawn as why:
+        return fault(str(why)), None
+    line = f"chart steps={len(drawing.rows)} stations={len(drawing.columns)}"
+    line += f" blocked={len(drawing.blocked)}" if lines else ""
+    return Outcome(1 if lines else 0, lines + f"{line}\n".encode(), b""), drawing.text()

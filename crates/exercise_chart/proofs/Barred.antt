@@ -1,11 +1,10 @@
 -- The bars of a good certificate have the states of their entities.
-use Rattle.std.proofs.Common.{◌≡◌, ⊎_elim, ℕ, zero, suc, ◌+◌, ◌-◌, ◌<◌, ◌≤◌, List, [], ◌∷◌, ◌++◌, length, map, take, cond, Bool, true, false, Option, Some, None, refl, sym, ap, ◌∙◌, subst, arith}
+use Rattle.std.proofs.Common.{◌≡◌, ⊎_elim, ℕ, zero, suc, ◌+◌, ◌-◌, ◌<◌, ◌≤◌, List, [], ◌∷◌, ◌++◌, length, take, cond, Bool, true, false, Option, Some, None, refl, sym, ap, ◌∙◌, subst, arith}
 use Rattle.std.specs.Prelude.{All, IfSome, is_some, ◌&&◌, nat_le, nat_lt, nat_eq, slice_get, slice_index_or, option_map, option_and_then, if◌then◌else◌}
 use Rattle.std.specs.Option.{option_map_or}
-use Rattle.std.proofs.Math.Numerals.{add-one}
-use Rattle.std.proofs.lemmas.Bool.{and_parts, cases_lt, eqb-true, eq-eqb, lt-ltb, le-leb, ltb-true, leb-true}
+use Rattle.std.proofs.lemmas.Bool.{and_parts, cases_lt, eqb-true, lt-ltb, le-leb, ltb-true, leb-true}
 use Rattle.std.proofs.lemmas.List.{get_or-take, length-take-le, take-take}
-use Rattle.std.proofs.lemmas.List.Elements.{All-nil, All-cons, All-append, All-map, All-head, All-tail, All-weaker}
+use Rattle.std.proofs.lemmas.List.Elements.{All-nil, All-cons, All-append, All-map, All-head, All-tail}
 use Rattle.std.proofs.lemmas.Option.{slice_get_within}
 use Rattle.dis_records.specs.declared.entity.EntityId.{EntityId}
 use Rattle.dis_records.specs.declared.entity_state.EntityState.{EntityState}
@@ -13,7 +12,7 @@ use Rattle.dis_records.specs.Entity.{entity_of}
 use Rattle.exercise_model.specs.declared.station.TheConstants.{LARGEST_ENTITY}
 use Rattle.exercise_model.specs.Station.{is_absent}
 use Rattle.exercise_model.specs.Entry.{Entry}
-use Rattle.exercise_model.specs.Recording.{PlainRecording, IsRecording}
+use Rattle.exercise_model.specs.Recording.{PlainRecording}
 use Rattle.exercise_model.specs.History.{Event, History, event_of, station_of, log_at, log_of, station_at}
 use Rattle.exercise_model.specs.State.{state_after}
 use Rattle.exercise_model.specs.Place.{event_at, own_event, log_before}
@@ -26,17 +25,17 @@ use Rattle.exercise_check.proofs.Offered.{good_logs, good_step, length-steps-mor
 use Rattle.exercise_review.specs.declared.life.Stretch.{Stretch}
 use Rattle.exercise_review.specs.declared.span.Span.{Span}
 use Rattle.exercise_review.specs.Life.{state_before, lives_of, is_after, is_no_later, covers, states_at, if_there}
-use Rattle.exercise_check.specs.Links.{step_at, IsNamedOnce}
-use Rattle.exercise_review.specs.Span.{span_of, entity_spans, spans_of_next, spans_of}
-use Rattle.exercise_chart.specs.declared.bar.Bar.{Bar}
+use Rattle.exercise_check.specs.Links.{step_at}
+use Rattle.exercise_review.specs.Span.{span_of, spans_of_next, spans_of}
 use Rattle.exercise_chart.specs.declared.bar.BarSlots.{BarSlots}
 use Rattle.exercise_chart.specs.declared.bar.TheConstants.{MOST_ENTITIES}
 use Rattle.exercise_chart.specs.declared.point.Rows.{Rows}
+use Rattle.exercise_chart.specs.declared.selection.BlockedEntry.{BlockedEntry}
 use Rattle.exercise_chart.specs.Point.{step_of}
 use Rattle.exercise_chart.specs.Scene.{SceneData, point_in}
 use Rattle.exercise_chart.specs.Bar.{is_shown, no_slots, next_slots, bar_of, bars_in, bars_from, station_bars, bars_of}
 use Rattle.exercise_chart.specs.Marks.{scene_of}
-use Rattle.exercise_chart.specs.Picture.{is_done, is_ahead, bar_covers, state_at_step, HasState}
+use Rattle.exercise_chart.specs.Picture.{is_done, is_ahead, state_at_step, HasState}
 use Rattle.exercise_chart.proofs.Downwards.{AreNamedOnce, step_is, all_below}
 use Rattle.exercise_chart.proofs.Lives.{IsOwn, HasOwnEnds, lives_own}
 
@@ -285,31 +284,31 @@ ahead_is : (c : SceneData) (change : Option ℕ) (k : ℕ) → is_ahead (option_
 ahead_is c None k = refl
 ahead_is c (Some i) k = refl
 
-bar_said : (r : PlainRecording) (steps : List Step) (w : Rows) (chosen : List EntityId) (s slot : ℕ) (x : Span) → SpanSaid r steps s x → HasState r steps (bar_of (scene_of r steps w chosen) s slot x)
-bar_said r steps w chosen s slot x said = record {
+bar_said : (r : PlainRecording) (steps : List Step) (w : Rows) (chosen : List EntityId) (blocked : List BlockedEntry) (s slot : ℕ) (x : Span) → SpanSaid r steps s x → HasState r steps (bar_of (scene_of r steps w chosen blocked) s slot x)
+bar_said r steps w chosen blocked s slot x said = record {
   after = λ k within covering.
-      let parts = and_parts (is_done (option_map (point_in (scene_of r steps w chosen)) x.from) k) _ covering in
-      said k within (sym (done_is (scene_of r steps w chosen) x.from k) ∙ parts.0) (sym (ahead_is (scene_of r steps w chosen) x.to k) ∙ parts.1);
+      let parts = and_parts (is_done (option_map (point_in (scene_of r steps w chosen blocked)) x.from) k) _ covering in
+      said k within (sym (done_is (scene_of r steps w chosen blocked) x.from k) ∙ parts.0) (sym (ahead_is (scene_of r steps w chosen blocked) x.to k) ∙ parts.1);
 }
 
-bars_said : (r : PlainRecording) (steps : List Step) (w : Rows) (chosen : List EntityId) (s : ℕ) (l : BarSlots) (xs : List Span) → All (SpanSaid r steps s) xs
-    → All (HasState r steps) (bars_from (scene_of r steps w chosen) s l xs)
+bars_said : (r : PlainRecording) (steps : List Step) (w : Rows) (chosen : List EntityId) (blocked : List BlockedEntry) (s : ℕ) (l : BarSlots) (xs : List Span) → All (SpanSaid r steps s) xs
+    → All (HasState r steps) (bars_from (scene_of r steps w chosen blocked) s l xs)
 unfolding bars_from
-bars_said r steps w chosen s l [] said = All-nil (HasState r steps)
-bars_said r steps w chosen s l (x ∷ xs) said =
+bars_said r steps w chosen blocked s l [] said = All-nil (HasState r steps)
+bars_said r steps w chosen blocked s l (x ∷ xs) said =
     elim (is_shown c x) as (λ b. All (HasState r steps) (if b then bars_in c s (next_slots l x.entity.entity) x ++ bars_from c s (next_slots l x.entity.entity) xs else bars_from c s l xs)) [
-      | false ↦ bars_said r steps w chosen s l xs (All-tail (SpanSaid r steps s) x xs said)
+      | false ↦ bars_said r steps w chosen blocked s l xs (All-tail (SpanSaid r steps s) x xs said)
       | true ↦ All-append (HasState r steps) (bars_in c s (next_slots l x.entity.entity) x) (bars_from c s (next_slots l x.entity.entity) xs)
-          (one (next_slots l x.entity.entity)) (bars_said r steps w chosen s (next_slots l x.entity.entity) xs (All-tail (SpanSaid r steps s) x xs said))
+          (one (next_slots l x.entity.entity)) (bars_said r steps w chosen blocked s (next_slots l x.entity.entity) xs (All-tail (SpanSaid r steps s) x xs said))
     ]
   where
     c : SceneData
-    c = scene_of r steps w chosen
+    c = scene_of r steps w chosen blocked
 
     one : (m : BarSlots) → All (HasState r steps) (bars_in c s m x)
     one m =
         elim (nat_le m.used MOST_ENTITIES) as (λ b. All (HasState r steps) (if b then bar_of c s (m.used - 1) x ∷ [] else [])) [
-          | true ↦ All-cons (HasState r steps) (bar_of c s (m.used - 1) x) [] (bar_said r steps w chosen s (m.used - 1) x (All-head (SpanSaid r steps s) x xs said)) (All-nil (HasState r steps))
+          | true ↦ All-cons (HasState r steps) (bar_of c s (m.used - 1) x) [] (bar_said r steps w chosen blocked s (m.used - 1) x (All-head (SpanSaid r steps s) x xs said)) (All-nil (HasState r steps))
           | false ↦ All-nil (HasState r steps)
         ]
 
@@ -321,9 +320,9 @@ spans_said r steps s good named states =
     All-map (SpanSaid r steps s) (span_of r id) (lives_of r s (n + 1)) (stretches_said r steps s (n + 1) good named states))
 
 -- THE BARS HAVE THE STATES of their entities
-pub bars_have_states : (r : PlainRecording) (steps : List Step) (w : Rows) (chosen : List EntityId) → IsGood r steps → AreNamedOnce r steps → AreStatesOf r
-    → All (HasState r steps) (bars_of (scene_of r steps w chosen))
+pub bars_have_states : (r : PlainRecording) (steps : List Step) (w : Rows) (chosen : List EntityId) (blocked : List BlockedEntry) → IsGood r steps → AreNamedOnce r steps → AreStatesOf r
+    → All (HasState r steps) (bars_of (scene_of r steps w chosen blocked))
 unfolding bars_of station_bars
-bars_have_states r steps w chosen good named states =
-    all_below (HasState r steps) (station_bars (scene_of r steps w chosen)) (length r.setting.stations)
-    (λ s _. bars_said r steps w chosen s no_slots (spans_of r s) (spans_said r steps s good named states))
+bars_have_states r steps w chosen blocked good named states =
+    all_below (HasState r steps) (station_bars (scene_of r steps w chosen blocked)) (length r.setting.stations)
+    (λ s _. bars_said r steps w chosen blocked s no_slots (spans_of r s) (spans_said r steps s good named states))

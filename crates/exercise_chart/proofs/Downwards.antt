@@ -1,12 +1,11 @@
 -- The arrows of a good certificate lead down from the sources of receipts.
-use Rattle.std.proofs.Common.{◌≡◌, ⊎_elim, ℕ, zero, suc, ◌+◌, ◌<◌, ◌≤◌, List, [], ◌∷◌, ◌++◌, length, take, cond, Bool, true, false, Option, Some, None, refl, sym, ap, ◌∙◌, subst, arith}
-use Rattle.std.specs.Prelude.{All, Contains, ◌||◌, nat_eq, nat_lt, unwrap_or, slice_get, slice_index_or, option_map, option_and_then, if◌then◌else◌}
+use Rattle.std.proofs.Common.{◌≡◌, ⊎_elim, ℕ, zero, suc, ◌<◌, ◌≤◌, List, [], ◌∷◌, length, take, Bool, true, false, Option, Some, None, refl, sym, ap, ◌∙◌, subst, arith}
+use Rattle.std.specs.Prelude.{All, Contains, ◌||◌, unwrap_or, slice_get, option_and_then, if◌then◌else◌}
 use Rattle.std.specs.Option.{option_map_or, option_or, option_to_list}
 use Rattle.std.proofs.lemmas.Bool.{cases_lt, eqb-true, eq-eqb, lt-ltb}
 use Rattle.std.proofs.lemmas.List.{get_or-take, length-take-le}
 use Rattle.std.proofs.lemmas.List.Elements.{All-nil, All-cons, All-append, Contains-append_left, Contains-append_right, Contains-push}
-use Rattle.std.proofs.lemmas.Option.{none-some, slice_get_within}
-use Rattle.siman_pdus.specs.declared.pdu.Pdu.{Pdu}
+use Rattle.std.proofs.lemmas.Option.{slice_get_within}
 use Rattle.exercise_model.specs.Entry.{Entry, Sent, Received, Told}
 use Rattle.exercise_model.specs.Recording.{PlainRecording, IsRecording}
 use Rattle.exercise_model.specs.History.{Get, event_of}
@@ -15,18 +14,18 @@ use Rattle.exercise_model.specs.Setting.{must_have_sent}
 use Rattle.exercise_model.specs.Cause.{sends}
 use Rattle.exercise_model.specs.Place.{first_below}
 use Rattle.exercise_model.specs.Account.{pair_of_entry, pair_of, sender_of}
-use Rattle.exercise_model.proofs.Offered.{IsFirst, first_found, first_is}
+use Rattle.exercise_model.proofs.Offered.{first_found}
 use Rattle.exercise_findings.specs.Source.{sends_here, first_send, source_of_pdu, source_of_entry, source_of}
 use Rattle.exercise_check.specs.declared.certificate.Step.{Step}
 use Rattle.exercise_check.specs.Sequence.{first_sender, sender_link, link_of, link_number}
-use Rattle.exercise_check.specs.Goodness.{no_step, IsGoodStep, GoodBelow, IsGood}
+use Rattle.exercise_check.specs.Goodness.{no_step, IsGood}
 use Rattle.exercise_check.proofs.Offered.{entry_within, good_step}
 use Rattle.exercise_findings.proofs.Offered.{source_here}
 use Rattle.exercise_check.specs.Links.{log_link, step_at, IsNamedOnce}
 use Rattle.exercise_review.specs.Room.{lists_below}
 use Rattle.dis_records.specs.declared.entity.EntityId.{EntityId}
 use Rattle.exercise_chart.specs.declared.point.Rows.{Rows}
-use Rattle.exercise_chart.specs.declared.arrow.Arrow.{Arrow}
+use Rattle.exercise_chart.specs.declared.selection.BlockedEntry.{BlockedEntry}
 use Rattle.exercise_chart.specs.Window.{is_row}
 use Rattle.exercise_chart.specs.Point.{takes, first_step, step_of}
 use Rattle.exercise_chart.specs.Scene.{SceneData}
@@ -164,18 +163,18 @@ AreNamedOnce r steps = (i : ℕ) → i < length r.entries → IsNamedOnce steps 
 abbrev pub AreLinked : PlainRecording → List Step → Type 0
 AreLinked r steps = (k : ℕ) → k < length steps → (step_at steps k).link ≡ link_number (log_link r (step_at steps k).place)
 
-arrow_down : (r : PlainRecording) (steps : List Step) (w : Rows) (chosen : List EntityId) (i : ℕ) → IsRecording r → IsGood r steps
+arrow_down : (r : PlainRecording) (steps : List Step) (w : Rows) (chosen : List EntityId) (blocked : List BlockedEntry) (i : ℕ) → IsRecording r → IsGood r steps
     → AreNamedOnce r steps → AreLinked r steps
-    → i < length r.entries → All (LeadsDown r steps w) (arrows_to (scene_of r steps w chosen) i)
+    → i < length r.entries → All (LeadsDown r steps w) (arrows_to (scene_of r steps w chosen blocked) i)
 unfolding arrow_to
-arrow_down r steps w chosen i limits good once said within =
+arrow_down r steps w chosen blocked i limits good once said within =
     elim (source_of r i) as (λ o. source_of r i ≡ o → All (LeadsDown r steps w) (option_to_list (option_and_then (arrow_from c i) o))) [
       | None ↦ λ _. All-nil (LeadsDown r steps w)
       | Some j ↦ λ source. from j source
     ] refl
   where
     c : SceneData
-    c = scene_of r steps w chosen
+    c = scene_of r steps w chosen blocked
 
     from : (j : ℕ) → source_of r i ≡ Some j → All (LeadsDown r steps w) (option_to_list (arrow_from c i j))
     from j source =
@@ -205,12 +204,12 @@ contains_below f (suc n) k x within has =
     (cases_lt k n)
 
 -- THE ARROWS LEAD DOWN
-pub arrows_down : (r : PlainRecording) (steps : List Step) (w : Rows) (chosen : List EntityId) → IsRecording r → IsGood r steps
+pub arrows_down : (r : PlainRecording) (steps : List Step) (w : Rows) (chosen : List EntityId) (blocked : List BlockedEntry) → IsRecording r → IsGood r steps
     → AreNamedOnce r steps → AreLinked r steps
-    → All (LeadsDown r steps w) (arrows_of (scene_of r steps w chosen))
+    → All (LeadsDown r steps w) (arrows_of (scene_of r steps w chosen blocked))
 unfolding arrows_of
-arrows_down r steps w chosen limits good once said =
-    all_below (LeadsDown r steps w) (arrows_to (scene_of r steps w chosen)) (length r.entries) (λ i within. arrow_down r steps w chosen i limits good once said within)
+arrows_down r steps w chosen blocked limits good once said =
+    all_below (LeadsDown r steps w) (arrows_to (scene_of r steps w chosen blocked)) (length r.entries) (λ i within. arrow_down r steps w chosen blocked i limits good once said within)
 
 source_entry : (r : PlainRecording) (i j : ℕ) → source_of r i ≡ Some j → i < length r.entries
 unfolding source_of
@@ -221,16 +220,16 @@ source_entry r i j =
     ] refl
 
 -- OF EACH RECEIPT WITH A SOURCE there is one, where one of the two is in a row
-pub arrow_drawn : (r : PlainRecording) (steps : List Step) (w : Rows) (chosen : List EntityId) (j i : ℕ) → source_of r i ≡ Some j
+pub arrow_drawn : (r : PlainRecording) (steps : List Step) (w : Rows) (chosen : List EntityId) (blocked : List BlockedEntry) (j i : ℕ) → source_of r i ≡ Some j
     → (is_row w (step_of r steps j) || is_row w (step_of r steps i)) ≡ true
-    → Contains (arrows_of (scene_of r steps w chosen)) (arrow_between (scene_of r steps w chosen) j i)
+    → Contains (arrows_of (scene_of r steps w chosen blocked)) (arrow_between (scene_of r steps w chosen blocked) j i)
 unfolding arrows_of arrow_to
-arrow_drawn r steps w chosen j i source shown =
+arrow_drawn r steps w chosen blocked j i source shown =
     contains_below (arrows_to c) (length r.entries) i (arrow_between c j i) (source_entry r i j source)
     (subst (λ xs. Contains xs (arrow_between c j i)) (sym is) (Contains-append_right [] (arrow_between c j i ∷ []) (arrow_between c j i) (first (arrow_between c j i))))
   where
     c : SceneData
-    c = scene_of r steps w chosen
+    c = scene_of r steps w chosen blocked
 
     is : option_to_list (option_and_then (arrow_from c i) (source_of r i)) ≡ arrow_between c j i ∷ []
     is = ap (λ o. option_to_list (option_and_then (arrow_from c i) o)) source ∙ ap (λ (t : Bool). option_to_list (if t then Some (arrow_between c j i) else None)) shown

@@ -2,7 +2,6 @@ mod Lists
 mod Firsts
 mod Stations
 mod Steps
-mod Stamps
 mod Shown
 mod Downwards
 mod Lives
@@ -10,3 +9,4 @@ mod Barred
 mod Behind
 mod Below
 mod DrawnStations
+mod KeptStations

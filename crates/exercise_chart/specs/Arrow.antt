@@ -1,7 +1,6 @@
 -- The arrows of a picture: receipts, each with its source (profile).
-use Rattle.std.specs.Prelude.{ℕ, List, length, ◌||◌, Option, Some, None, option_map, option_and_then, slice_get, if◌then◌else◌}
+use Rattle.std.specs.Prelude.{ℕ, List, length, ◌||◌, Option, Some, None, option_map, option_and_then, if◌then◌else◌}
 use Rattle.std.specs.Option.{option_to_list}
-use Rattle.siman_pdus.specs.declared.pdu.Pdu.{Pdu}
 use Rattle.exercise_findings.specs.Source.{source_of}
 use Rattle.exercise_review.specs.Entries.{pdu_at}
 use Rattle.exercise_review.specs.Room.{lists_below}

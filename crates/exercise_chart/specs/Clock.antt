@@ -1,28 +1,7 @@
 -- The clock of a row: the time of day, in UTC, of the stamp of its entry (profile).
-use Rattle.std.specs.Prelude.{◌≡◌, ◌<◌, ℕ, zero, suc, ◌+◌, ◌*◌, ◌/◌, ◌%◌, List, ◌++◌, length, codes, decimal, unwrap_or, slice_index_or}
-use Rattle.exercise_model.specs.Recording.{PlainRecording}
-use Rattle.exercise_review.specs.Outcome.{stamp_at}
+use Rattle.std.specs.Prelude.{ℕ, ◌/◌, ◌%◌, List, ◌++◌, codes, decimal}
 use Rattle.exercise_chart.specs.declared.clock.ClockUnit.{ClockUnit}
 use Rattle.exercise_chart.specs.declared.clock.ClockUnit.TheVariants as units
-
--- ---- stamps
-
--- the stamp of what was last sent or received among the first n entries of the file; 0 if nothing was
-unfoldable pub stamp_after : PlainRecording → ℕ → ℕ
-stamp_after r zero = 0
-stamp_after r (suc n) = unwrap_or (stamp_at r n) (stamp_after r n)
-
--- THE STAMP OF ENTRY i: its own; a told state, which has none, takes that of what was last sent or
--- received before it in the file, by whichever station; 0 if nothing was
-abbrev pub entry_stamp : PlainRecording → ℕ → ℕ
-entry_stamp r i = stamp_after r (i + 1)
-
--- the stamps of the first n entries
-pub record AreStamps (r : PlainRecording) (n : ℕ) (stamps : List ℕ) : Type 0 where
-  pub count : length stamps ≡ n
-  pub each : (i : ℕ) → i < n → slice_index_or stamps i 0 ≡ entry_stamp r i
-
--- ---- the time of day
 
 abbrev pub two_digits : ℕ → List ℕ
 two_digits n = decimal (n / 10) ++ decimal (n % 10)

@@ -1,36 +1,44 @@
 -- The part of a picture above the rows: title, style, signs and legend (profile).
-use Rattle.std.specs.Prelude.{ℕ, ◌-◌, List, [], ◌∷◌, ◌++◌, length, codes, decimal}
+use Rattle.std.specs.Prelude.{ℕ, ◌-◌, List, [], ◌∷◌, ◌++◌, length, codes, decimal, nat_lt, if◌then◌else◌}
 use Rattle.exercise_model.specs.Recording.{PlainRecording}
-use Rattle.exercise_chart.specs.declared.frame.Frame.{Frame}
 use Rattle.exercise_chart.specs.Element.{element_text, number, word}
 use Rattle.exercise_chart.specs.Sheets.{sheets_of}
-use Rattle.exercise_chart.specs.Frame.{width_of, height_of}
+use Rattle.exercise_chart.specs.Frame.{FrameData, width_of, height_of}
 
 -- the size of the picture, and the number of sheets that it is printed on
-abbrev pub size_text : Frame → List ℕ
+abbrev pub size_text : FrameData → List ℕ
 size_text f =
     codes "<svg xmlns=\"http://www.w3.org/2000/svg\" width=\"" ++ decimal (width_of f) ++ codes "\" height=\"" ++ decimal (height_of f) ++ codes "\""
 
-abbrev pub print_text : Frame → List ℕ
+abbrev pub print_text : FrameData → List ℕ
 print_text f =
     codes " style=\"--sheets:" ++ decimal (sheets_of f)
     ++ codes "\" font-family=\"Helvetica,Arial,sans-serif\" font-size=\"11\">\n"
 
 -- the start tag of the picture
-unfoldable pub opening_text : Frame → List ℕ
+unfoldable pub opening_text : FrameData → List ℕ
 opening_text f = size_text f ++ print_text f
 
+-- how many stations have columns, if not all have
+abbrev pub kept_words : (kept stations : ℕ) → List ℕ
+kept_words kept stations = if nat_lt kept stations then codes " (" ++ decimal kept ++ codes " shown)" else []
+
+-- the number of blocked rows, if there are any
+abbrev pub blocked_words : (blocked : ℕ) → List ℕ
+blocked_words blocked = if nat_lt 0 blocked then codes ", then " ++ decimal blocked ++ codes " blocked" else []
+
 -- the number of stations and entries, and the range of shown steps
-unfoldable pub counts_text : Frame → PlainRecording → List ℕ
+unfoldable pub counts_text : FrameData → PlainRecording → List ℕ
 counts_text f r =
-    decimal (length r.setting.stations) ++ codes " stations, " ++ decimal (length r.entries) ++ codes " entries, "
-    ++ decimal (f.rows.end - f.rows.first) ++ codes " steps from step " ++ decimal f.rows.first ++ codes " on"
+    decimal (length r.setting.stations) ++ codes " stations" ++ kept_words f.kept (length r.setting.stations) ++ codes ", "
+    ++ decimal (length r.entries) ++ codes " entries, " ++ decimal (f.rows.end - f.rows.first) ++ codes " steps from step "
+    ++ decimal f.rows.first ++ codes " on" ++ blocked_words f.blocked
 
 abbrev pub title_text : PlainRecording → List ℕ
 title_text r = codes "<title>Exercise " ++ decimal r.setting.exercise ++ codes "</title>\n<desc>"
 
 -- TITLE AND DESCRIPTION, for readers who do not see the picture
-unfoldable pub about_text : Frame → PlainRecording → List ℕ
+unfoldable pub about_text : FrameData → PlainRecording → List ℕ
 about_text f r =
     title_text r ++ counts_text f r
     ++ codes ". Stations are columns, steps are rows, from above; behind each row stands its entry in words.</desc>\n"
@@ -73,11 +81,12 @@ signs_text =
     ++ codes "<rect id=\"other\" x=\"-4\" y=\"-4\" width=\"8\" height=\"8\"/>\n"
     ++ codes "<path id=\"told\" d=\"M0 -6L6 0L0 6L-6 0z\" stroke=\"#1f2933\" stroke-width=\"2\"/>\n"
     ++ codes "<g id=\"unanswered\" stroke=\"#dc2626\" stroke-width=\"2\"><circle r=\"6\"/><path d=\"M-3 -3L3 3\"/></g>\n"
+    ++ codes "<path id=\"blocked\" d=\"M-2 -6h4l4 4v4l-4 4h-4l-4 -4v-4z\"/>\n"
     ++ codes "<marker id=\"drawn\" markerUnits=\"userSpaceOnUse\" overflow=\"visible\"><use href=\"#lines\"/></marker>\n"
     ++ codes "</defs>\n"
 
 -- the white background
-unfoldable pub paper_text : Frame → List ℕ
+unfoldable pub paper_text : FrameData → List ℕ
 paper_text f =
     element_text (codes "rect") (number (codes "width") (width_of f) ∷ number (codes "height") (height_of f) ∷ word (codes "fill") (codes "#ffffff") ∷ [])
 
@@ -88,7 +97,7 @@ abbrev pub name_text : PlainRecording → List ℕ
 name_text r = codes "Exercise " ++ decimal r.setting.exercise ++ codes "</text>\n<text x=\"24\" y=\"48\">"
 
 -- THE CAPTION inside the picture: exercise number and counts
-unfoldable pub caption_text : Frame → PlainRecording → List ℕ
+unfoldable pub caption_text : FrameData → PlainRecording → List ℕ
 caption_text f r = caption_begin ++ name_text r ++ counts_text f r ++ codes "</text>\n"
 
 -- THE LEGEND of colours and signs
@@ -105,7 +114,8 @@ legend_text =
     ++ codes "<use href=\"#other\" x=\"440\" y=\"88\" fill=\"#475569\"/><text x=\"452\" y=\"92\">means nothing</text>\n"
     ++ codes "<rect x=\"554\" y=\"82\" width=\"8\" height=\"12\" fill=\"#fbbf24\"/><text x=\"568\" y=\"92\">stopped</text>\n"
     ++ codes "<rect x=\"630\" y=\"82\" width=\"8\" height=\"12\" fill=\"#4ade80\"/><text x=\"644\" y=\"92\">running</text>\n"
+    ++ codes "<use href=\"#blocked\" x=\"670\" y=\"68\" fill=\"#dc2626\"/><text x=\"680\" y=\"72\">blocked</text>\n"
     ++ codes "</g>\n"
 
-unfoldable pub heading_text : Frame → PlainRecording → List ℕ
+unfoldable pub heading_text : FrameData → PlainRecording → List ℕ
 heading_text f r = opening_text f ++ about_text f r ++ style_text ++ signs_text ++ paper_text f ++ caption_text f r ++ legend_text

@@ -10,9 +10,11 @@ pub mod Outside
 pub mod Loss
 pub mod Bar
 pub mod Unanswered
+pub mod Blocked
 pub mod Marks
 pub mod Picture
 pub mod Element
+pub mod Kept
 pub mod Frame
 pub mod Tone
 pub mod Words

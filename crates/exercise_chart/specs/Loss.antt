@@ -1,5 +1,5 @@
 -- The losses of a picture (profile).
-use Rattle.std.specs.Prelude.{ℕ, ◌+◌, List, [], length, Bool, ◌&&◌, not, ◌==◌, Option, Some, None, is_none, option_and_then, slice_get, if◌then◌else◌}
+use Rattle.std.specs.Prelude.{ℕ, ◌+◌, List, length, Bool, ◌&&◌, not, ◌==◌, Option, Some, None, is_none, option_and_then, slice_get, if◌then◌else◌}
 use Rattle.std.specs.Option.{option_to_list}
 use Rattle.dis_records.specs.Entity.{is_addressed}
 use Rattle.siman_pdus.specs.declared.pdu.Pdu.{Pdu}

@@ -1,5 +1,5 @@
 -- THE MARKS OF A PICTURE of a range of steps of a certificate of a recording (profile).
-use Rattle.std.specs.Prelude.{◌≡◌, ℕ, ◌<◌, ◌⊎◌, List, Result, Ok, Err}
+use Rattle.std.specs.Prelude.{◌≡◌, ◌<◌, ◌⊎◌, List, Result, Ok, Err}
 use Rattle.dis_records.specs.declared.entity.EntityId.{EntityId}
 use Rattle.exercise_model.specs.Recording.{PlainRecording}
 use Rattle.exercise_check.specs.declared.certificate.Step.{Step}
@@ -11,6 +11,8 @@ use Rattle.exercise_chart.specs.declared.outside.OutsideReceipt.{OutsideReceipt}
 use Rattle.exercise_chart.specs.declared.loss.Loss.{Loss}
 use Rattle.exercise_chart.specs.declared.bar.Bar.{Bar}
 use Rattle.exercise_chart.specs.declared.bar.Undrawn.{Undrawn}
+use Rattle.exercise_chart.specs.declared.blocked.BlockedRow.{BlockedRow}
+use Rattle.exercise_chart.specs.declared.selection.BlockedEntry.{BlockedEntry}
 use Rattle.exercise_chart.specs.declared.marks.Marks.{Marks}
 use Rattle.exercise_chart.specs.declared.marks.TheConstants.{MOST_ROWS}
 use Rattle.exercise_chart.specs.declared.fault.ChartFault.{ChartFault}
@@ -22,6 +24,7 @@ use Rattle.exercise_chart.specs.Outside.{outside_receipts}
 use Rattle.exercise_chart.specs.Loss.{losses_of}
 use Rattle.exercise_chart.specs.Bar.{bars_of, all_undrawn, IsOverfull}
 use Rattle.exercise_chart.specs.Unanswered.{unanswered_of}
+use Rattle.exercise_chart.specs.Blocked.{blocked_rows}
 
 -- | Mark       | One for each                                                                                                              |
 -- |------------|---------------------------------------------------------------------------------------------------------------------------|
@@ -32,6 +35,7 @@ use Rattle.exercise_chart.specs.Unanswered.{unanswered_of}
 -- | bar        | span that began in the last row or before and did not end before the first, of the 8 least chosen entities of a station that have one |
 -- | undrawn    | station more than 8 of whose chosen entities have such a span, with how many more                                           |
 -- | unanswered | first receipt, in a row, of a request at a receiver whose fate there is unanswered                                        |
+-- | blocked    | next entry, of those given, of a station that cannot go on: its row behind the shown steps, with the cause against it        |
 pub record MarksData : Type 0 where
   pub rows : List Row
   pub arrows : List Arrow
@@ -40,6 +44,7 @@ pub record MarksData : Type 0 where
   pub bars : List Bar
   pub undrawn : List Undrawn
   pub unanswered : List Point
+  pub blocked : List BlockedRow
 
 abbrev pub marks_in : SceneData → MarksData
 marks_in c = record {
@@ -50,15 +55,16 @@ marks_in c = record {
   bars = bars_of c;
   undrawn = all_undrawn c;
   unanswered = unanswered_of c;
+  blocked = blocked_rows c;
 }
 
-abbrev pub scene_of : PlainRecording → List Step → Rows → (chosen : List EntityId) → SceneData
-scene_of r steps rows chosen = record { recording = r; steps = steps; rows = rows; chosen = chosen }
+abbrev pub scene_of : PlainRecording → List Step → Rows → (chosen : List EntityId) → (blocked : List BlockedEntry) → SceneData
+scene_of r steps rows chosen blocked = record { recording = r; steps = steps; rows = rows; chosen = chosen; blocked = blocked }
 
 -- THE MARKS of a range of steps of a certificate, with bars of the chosen entities, or of all where
--- none is chosen
-abbrev pub marks_of : PlainRecording → List Step → Rows → (chosen : List EntityId) → MarksData
-marks_of r steps rows chosen = marks_in (scene_of r steps rows chosen)
+-- none is chosen, and with rows of these entries that cannot happen next
+abbrev pub marks_of : PlainRecording → List Step → Rows → (chosen : List EntityId) → (blocked : List BlockedEntry) → MarksData
+marks_of r steps rows chosen blocked = marks_in (scene_of r steps rows chosen blocked)
 
 -- the marks in a value of the program
 abbrev pub marks_data : Marks → MarksData
@@ -70,6 +76,7 @@ marks_data m = record {
   bars = m.bars.items;
   undrawn = m.undrawn.items;
   unanswered = m.unanswered.items;
+  blocked = m.blocked.items;
 }
 
 -- ---- results of functions

@@ -1,10 +1,9 @@
 -- The receipts from outside in a picture (profile).
-use Rattle.std.specs.Prelude.{ℕ, ◌+◌, List, Option, Some, None, option_map, option_and_then, slice_get, if◌then◌else◌}
+use Rattle.std.specs.Prelude.{ℕ, ◌+◌, List, Option, Some, None, option_and_then, slice_get, if◌then◌else◌}
 use Rattle.std.specs.Option.{option_to_list}
 use Rattle.dis_records.specs.Entity.{site_application_of}
 use Rattle.siman_pdus.specs.declared.pdu.Pdu.{Pdu}
 use Rattle.exercise_model.specs.Entry.{Entry, Sent, Received, Told}
-use Rattle.exercise_model.specs.History.{event_of, station_of}
 use Rattle.exercise_model.specs.Meaning.{meaning}
 use Rattle.exercise_review.specs.Order.{is_outside}
 use Rattle.exercise_review.specs.Room.{lists_below}

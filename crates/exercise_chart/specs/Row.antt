@@ -6,6 +6,7 @@ use Rattle.siman_pdus.specs.Answers.{same_id}
 use Rattle.exercise_model.specs.Entry.{Entry, Sent, Received, Told}
 use Rattle.exercise_model.specs.History.{event_of, station_of}
 use Rattle.exercise_model.specs.Meaning.{meaning}
+use Rattle.exercise_model.specs.Stamps.{stamp_of}
 use Rattle.exercise_review.specs.Order.{head_of}
 use Rattle.exercise_review.specs.Room.{lists_below}
 use Rattle.exercise_chart.specs.declared.row.Repetition.{Repetition}
@@ -14,7 +15,6 @@ use Rattle.exercise_chart.specs.declared.row.Activity.{Activity}
 use Rattle.exercise_chart.specs.declared.row.Activity.TheVariants as deeds
 use Rattle.exercise_chart.specs.declared.row.Row.{Row}
 use Rattle.exercise_chart.specs.Point.{place_at}
-use Rattle.exercise_chart.specs.Clock.{entry_stamp}
 use Rattle.exercise_chart.specs.Deeds.{first_sent}
 use Rattle.exercise_chart.specs.Saying.{pdu_summary}
 use Rattle.exercise_chart.specs.Scene.{SceneData}
@@ -46,7 +46,7 @@ activity_of c i (Told s e y) = deeds.Told e y
 
 -- the row of a step that takes entry i
 abbrev pub row_of : SceneData → (step i : ℕ) → Entry → Row
-row_of c step i e = record { at = record { entry = i; step = step; station = station_of (event_of e) }; did = activity_of c i e; stamp = entry_stamp c.recording i }
+row_of c step i e = record { at = record { entry = i; step = step; station = station_of (event_of e) }; did = activity_of c i e; stamp = stamp_of c.recording i }
 
 abbrev pub row_taking : SceneData → (step i : ℕ) → Option Row
 row_taking c step i = option_map (row_of c step i) (slice_get c.recording.entries i)

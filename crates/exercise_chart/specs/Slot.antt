@@ -1,8 +1,7 @@
 -- The slots of entities: where the bars of an entity stand, and what was told of it (profile).
-use Rattle.std.specs.Prelude.{ℕ, List, [], ◌∷◌, Bool, true, false, ◌&&◌, ◌||◌, ◌==◌, Option, Some, None, if◌then◌else◌}
+use Rattle.std.specs.Prelude.{ℕ, List, [], ◌∷◌, Bool, false, ◌&&◌, ◌||◌, ◌==◌, Option, Some, None, if◌then◌else◌}
 use Rattle.exercise_chart.specs.declared.bar.Bar.{Bar}
 use Rattle.exercise_chart.specs.declared.bar.TheConstants.{MOST_ENTITIES}
-use Rattle.exercise_chart.specs.declared.frame.Frame.{Frame}
 use Rattle.exercise_chart.specs.Frame.{column_x, slot_x}
 
 -- a bar is of entity e of station s
@@ -21,14 +20,15 @@ has_bars s (b ∷ bars) = (b.station == s) || has_bars s bars
 
 -- the middle of what was told of an entity without bars: to the right of the bars of its station, if it
 -- has bars, else on the column
-abbrev pub barless_x : Frame → List Bar → (s : ℕ) → ℕ
-barless_x f bars s = if has_bars s bars then slot_x f s MOST_ENTITIES else column_x f s
+abbrev pub barless_x : (column : ℕ) → List Bar → (s : ℕ) → ℕ
+barless_x c bars s = if has_bars s bars then slot_x c MOST_ENTITIES else column_x c
 
 -- the middle of what was told of an entity with bars in this slot, or with none
-abbrev pub slotted_x : Frame → List Bar → (s : ℕ) → Option ℕ → ℕ
-slotted_x f bars s (Some slot) = slot_x f s slot
-slotted_x f bars s None = barless_x f bars s
+abbrev pub slotted_x : (column : ℕ) → List Bar → (s : ℕ) → Option ℕ → ℕ
+slotted_x c bars s (Some slot) = slot_x c slot
+slotted_x c bars s None = barless_x c bars s
 
--- THE MIDDLE OF A TOLD STATE of entity e of station s: that of its entity's bars, if it has bars
-unfoldable pub told_x : Frame → List Bar → (s e : ℕ) → ℕ
-told_x f bars s e = slotted_x f bars s (slot_of s e bars)
+-- THE MIDDLE OF A TOLD STATE of entity e of station s in its column: that of its entity's bars, if it has
+-- bars
+unfoldable pub told_x : (column : ℕ) → List Bar → (s e : ℕ) → ℕ
+told_x c bars s e = slotted_x c bars s (slot_of s e bars)

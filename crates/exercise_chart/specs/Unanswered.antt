@@ -1,6 +1,6 @@
 -- Requests in a picture that were received and never answered (profile).
-use Rattle.std.specs.Prelude.{ℕ, List, [], ◌∷◌, length, Option, Some, None, option_map, if◌then◌else◌}
-use Rattle.std.specs.Option.{option_map_or, option_to_list}
+use Rattle.std.specs.Prelude.{ℕ, List, [], ◌∷◌, length, Option, if◌then◌else◌}
+use Rattle.std.specs.Option.{option_map_or}
 use Rattle.std.specs.List.{flat_map}
 use Rattle.exercise_review.specs.declared.fate.Fate.{Fate}
 use Rattle.exercise_review.specs.declared.fate.Fate.TheVariants as fates

@@ -1,11 +1,9 @@
 //! The clock of a row: the time of day, in UTC, of the stamp of its entry.
 
-ghost use Rattle.std.specs.Prelude.{◌≡◌, ◌<◌, ◌++◌, length, unwrap_or, IfOk, OnOk, string_bytes};
-ghost use Rattle.exercise_review.specs.Outcome.{stamp_at};
-ghost use Rattle.exercise_chart.specs.Clock.{AreStamps, two_digits, three_digits, six_digits, day_text, clock_text};
+ghost use Rattle.std.specs.Prelude.{◌≡◌, ◌++◌, OnOk, string_bytes};
+ghost use Rattle.exercise_chart.specs.Clock.{two_digits, three_digits, six_digits, day_text, clock_text};
 
-use exercise_model::{EntryView, ExerciseLog};
-use std::alloc::{AllocError, Global};
+use std::alloc::AllocError;
 
 /// What the stamps of a recording count since 1970-01-01, in UTC.
 #[derive(Clone, Copy)]
@@ -13,31 +11,6 @@ pub enum ClockUnit {
     Microsecond,
     Millisecond,
     Second,
-}
-
-/// The stamp of an entry, or the last one before it, if the entry is a told state.
-#[tactic(auto, unfolding(exercise_review::specs::Outcome::stamp_at))]
-fn next_stamp<L: ExerciseLog>(log: &L, entry: usize, last: u64) -> u64
-    requires { entry < length (L.recording log.now).entries }
-    ensures { result ≡ unwrap_or (stamp_at (L.recording log.now) entry) last }
-{
-    match log.entry(entry) {
-        EntryView::Sent { stamp, .. } | EntryView::Received { stamp, .. } => stamp,
-        EntryView::Told { .. } => last,
-    }
-}
-
-/// The stamps of all entries. The list takes memory.
-pub(crate) fn stamps_of<L: ExerciseLog>(alloc: Global, log: &L) -> Result<Vec<u64>, AllocError>
-    ensures { let r = L.recording log.now in IfOk result (λ stamps. AreStamps r (length r.entries) stamps.items) }
-{
-    let mut last = 0;
-    let mut stamps = Vec::new(alloc);
-    for entry in 0..log.entry_count() {
-        last = next_stamp(log, entry, last);
-        stamps.push(last)?;
-    }
-    Ok(stamps)
 }
 
 /// Writes two digits.

@@ -9,7 +9,7 @@ use thiserror::Error;
 /// Why a picture has no marks.
 #[derive(Clone, Copy, Debug, PartialEq, Eq, Error)]
 pub enum ChartFault {
-    /// The picture would have more than 2,000 rows, or the entities of a station have more than
+    /// The range of steps has more than 2,000 rows, or the entities of a station have more than
     /// 4,194,304 spans.
     #[error("over-limit")]
     OverLimit,

@@ -2,7 +2,7 @@
 
 ghost use Rattle.std.specs.Prelude.{◌≡◌, ◌<◌, ◌^◌, ◌-◌, ◌++◌, length, OnOk, string_bytes};
 ghost use Rattle.exercise_chart.specs.Frame.{rows_shown, width_of, height_of};
-ghost use Rattle.exercise_chart.specs.Heading.{opening_text, about_text, counts_text, style_text, signs_text, paper_text, caption_text, legend_text, heading_text};
+ghost use Rattle.exercise_chart.specs.Heading.{opening_text, about_text, kept_words, blocked_words, counts_text, style_text, signs_text, paper_text, caption_text, legend_text, heading_text};
 
 use crate::element::{Attribute, Shown, put_element};
 use crate::frame::Frame;
@@ -12,8 +12,8 @@ use std::alloc::AllocError;
 
 /// Writes the start tag of the picture, with its size and the number of its sheets.
 #[tactic(auto, unfolding(crate::specs::Heading::opening_text))]
-fn put_opening(text: &mut String, frame: Frame) -> Result<(), AllocError>
-    ensures { OnOk result (string_bytes text.new ≡ string_bytes text.old ++ opening_text frame) }
+fn put_opening(text: &mut String, frame: &Frame<'_>) -> Result<(), AllocError>
+    ensures { OnOk result (string_bytes text.new ≡ string_bytes text.old ++ opening_text frame.now) }
 {
     let width = frame.width();
     let height = frame.height();
@@ -29,26 +29,59 @@ fn put_opening(text: &mut String, frame: Frame) -> Result<(), AllocError>
     Ok(())
 }
 
-/// Writes the number of stations and entries, and the range of shown steps.
+/// Writes how many stations have columns, if not all have.
+fn put_kept(text: &mut String, kept: u16, stations: usize) -> Result<(), AllocError>
+    ensures { OnOk result (string_bytes text.new ≡ string_bytes text.old ++ kept_words kept stations) }
+{
+    if usize::from(kept) < stations {
+        write!(text, " ({kept} shown)")
+    } else {
+        Ok(())
+    }
+}
+
+/// Writes the number of blocked rows, if there are any.
+fn put_blocked_count(text: &mut String, blocked: usize) -> Result<(), AllocError>
+    ensures { OnOk result (string_bytes text.new ≡ string_bytes text.old ++ blocked_words blocked) }
+{
+    if blocked > 0 {
+        write!(text, ", then {blocked} blocked")
+    } else {
+        Ok(())
+    }
+}
+
+/// Writes the number of stations and entries, the range of shown steps, and what is blocked.
 #[tactic(auto, unfolding(crate::specs::Heading::counts_text))]
-fn put_counts<L: ExerciseLog>(text: &mut String, frame: Frame, log: &L) -> Result<(), AllocError>
-    ensures { OnOk result (string_bytes text.new ≡ string_bytes text.old ++ counts_text frame (L.recording log.now)) }
+fn put_counts<L: ExerciseLog>(
+    text: &mut String,
+    frame: &Frame<'_>,
+    log: &L,
+) -> Result<(), AllocError>
+    ensures { OnOk result (string_bytes text.new ≡ string_bytes text.old ++ counts_text frame.now (L.recording log.now)) }
 {
     let stations = log.station_count();
     let entries = log.entry_count();
     let steps = frame.rows.count();
     let first = frame.rows.first;
+    write!(text, "{stations} stations")?;
+    put_kept(text, frame.kept, stations)?;
     write!(
         text,
-        "{stations} stations, {entries} entries, {steps} steps from step {first} on"
+        ", {entries} entries, {steps} steps from step {first} on"
     )?;
+    put_blocked_count(text, frame.blocked)?;
     Ok(())
 }
 
 /// Writes the title and a description, for readers who do not see the picture.
 #[tactic(auto, unfolding(crate::specs::Heading::about_text))]
-fn put_about<L: ExerciseLog>(text: &mut String, frame: Frame, log: &L) -> Result<(), AllocError>
-    ensures { OnOk result (string_bytes text.new ≡ string_bytes text.old ++ about_text frame (L.recording log.now)) }
+fn put_about<L: ExerciseLog>(
+    text: &mut String,
+    frame: &Frame<'_>,
+    log: &L,
+) -> Result<(), AllocError>
+    ensures { OnOk result (string_bytes text.new ≡ string_bytes text.old ++ about_text frame.now (L.recording log.now)) }
 {
     let exercise = log.exercise();
     write!(text, "<title>Exercise {exercise}</title>\n<desc>")?;
@@ -105,6 +138,7 @@ fn put_signs(text: &mut String) -> Result<(), AllocError>
     <rect id=\"other\" x=\"-4\" y=\"-4\" width=\"8\" height=\"8\"/>\n\
     <path id=\"told\" d=\"M0 -6L6 0L0 6L-6 0z\" stroke=\"#1f2933\" stroke-width=\"2\"/>\n\
     <g id=\"unanswered\" stroke=\"#dc2626\" stroke-width=\"2\"><circle r=\"6\"/><path d=\"M-3 -3L3 3\"/></g>\n\
+    <path id=\"blocked\" d=\"M-2 -6h4l4 4v4l-4 4h-4l-4 -4v-4z\"/>\n\
     <marker id=\"drawn\" markerUnits=\"userSpaceOnUse\" overflow=\"visible\"><use href=\"#lines\"/></marker>\n\
     </defs>\n",
     )?;
@@ -113,8 +147,8 @@ fn put_signs(text: &mut String) -> Result<(), AllocError>
 
 /// Writes the white background.
 #[tactic(auto, unfolding(crate::specs::Heading::paper_text))]
-fn put_paper(text: &mut String, frame: Frame) -> Result<(), AllocError>
-    ensures { OnOk result (string_bytes text.new ≡ string_bytes text.old ++ paper_text frame) }
+fn put_paper(text: &mut String, frame: &Frame<'_>) -> Result<(), AllocError>
+    ensures { OnOk result (string_bytes text.new ≡ string_bytes text.old ++ paper_text frame.now) }
 {
     let paper = [
         Attribute("width", Shown::Number(frame.width())),
@@ -127,8 +161,12 @@ fn put_paper(text: &mut String, frame: Frame) -> Result<(), AllocError>
 
 /// Writes the caption inside the picture: exercise number and counts.
 #[tactic(auto, unfolding(crate::specs::Heading::caption_text))]
-fn put_caption<L: ExerciseLog>(text: &mut String, frame: Frame, log: &L) -> Result<(), AllocError>
-    ensures { OnOk result (string_bytes text.new ≡ string_bytes text.old ++ caption_text frame (L.recording log.now)) }
+fn put_caption<L: ExerciseLog>(
+    text: &mut String,
+    frame: &Frame<'_>,
+    log: &L,
+) -> Result<(), AllocError>
+    ensures { OnOk result (string_bytes text.new ≡ string_bytes text.old ++ caption_text frame.now (L.recording log.now)) }
 {
     let exercise = log.exercise();
     text.push_str(
@@ -157,6 +195,7 @@ fn put_legend(text: &mut String) -> Result<(), AllocError>
     <use href=\"#other\" x=\"440\" y=\"88\" fill=\"#475569\"/><text x=\"452\" y=\"92\">means nothing</text>\n\
     <rect x=\"554\" y=\"82\" width=\"8\" height=\"12\" fill=\"#fbbf24\"/><text x=\"568\" y=\"92\">stopped</text>\n\
     <rect x=\"630\" y=\"82\" width=\"8\" height=\"12\" fill=\"#4ade80\"/><text x=\"644\" y=\"92\">running</text>\n\
+    <use href=\"#blocked\" x=\"670\" y=\"68\" fill=\"#dc2626\"/><text x=\"680\" y=\"72\">blocked</text>\n\
     </g>\n",
     )?;
     Ok(())
@@ -166,10 +205,10 @@ fn put_legend(text: &mut String) -> Result<(), AllocError>
 #[tactic(auto, unfolding(crate::specs::Heading::heading_text))]
 pub(crate) fn put_heading<L: ExerciseLog>(
     text: &mut String,
-    frame: Frame,
+    frame: &Frame<'_>,
     log: &L,
 ) -> Result<(), AllocError>
-    ensures { OnOk result (string_bytes text.new ≡ string_bytes text.old ++ heading_text frame (L.recording log.now)) }
+    ensures { OnOk result (string_bytes text.new ≡ string_bytes text.old ++ heading_text frame.now (L.recording log.now)) }
 {
     put_opening(text, frame)?;
     put_about(text, frame, log)?;

@@ -9,6 +9,7 @@ ghost use Rattle.exercise_findings.specs.Source.{source_of};
 ghost use Rattle.exercise_check.specs.declared.certificate.Step.{Step};
 ghost use Rattle.exercise_check.specs.Goodness.{IsGood};
 ghost use Rattle.exercise_chart.specs.declared.point.Rows.{Rows};
+ghost use Rattle.exercise_chart.specs.declared.selection.BlockedEntry.{BlockedEntry};
 ghost use Rattle.exercise_chart.specs.Window.{is_row};
 ghost use Rattle.exercise_chart.specs.Point.{step_of};
 ghost use Rattle.exercise_chart.specs.Arrow.{arrow_between};
@@ -18,7 +19,8 @@ ghost use Rattle.exercise_chart.specs.Picture.{row_fact, step_fact, LeadsDown, H
 use exercise_check::links_are_of_the_logs;
 use exercise_review::lives_are_states;
 
-/// The law of pictures: properties of the marks of a good certificate, whichever entities are chosen.
+/// The law of pictures: properties of the marks of a good certificate, whichever entities are chosen
+/// and whichever entries are said to be blocked.
 ///
 /// - `rows`: the rows are the shown steps, in their order, each with the entry that it takes.
 /// - `arrows`: an arrow leads from the source of a receipt down to the receipt, and at least one of
@@ -26,15 +28,15 @@ use exercise_review::lives_are_states;
 /// - `drawn`: every receipt with a source has an arrow, if one of the two is in a row.
 /// - `bars`: after each step that a bar covers, its entity has the state of the bar.
 pub fn pictures_are_runs()
-    ensures rows { (r : PlainRecording) (steps : List Step) (w : Rows) (chosen : List EntityId) → IsGood r steps → w.end ≤ length steps
-        → map row_fact (marks_of r steps w chosen).rows ≡ values_below (step_fact steps w) (w.end - w.first) }
-    ensures arrows { (r : PlainRecording) (steps : List Step) (w : Rows) (chosen : List EntityId) → IsRecording r → IsGood r steps
-        → All (LeadsDown r steps w) (marks_of r steps w chosen).arrows }
-    ensures drawn { (r : PlainRecording) (steps : List Step) (w : Rows) (chosen : List EntityId) (j i : ℕ) → source_of r i ≡ Some j
+    ensures rows { (r : PlainRecording) (steps : List Step) (w : Rows) (chosen : List EntityId) (blocked : List BlockedEntry) → IsGood r steps → w.end ≤ length steps
+        → map row_fact (marks_of r steps w chosen blocked).rows ≡ values_below (step_fact steps w) (w.end - w.first) }
+    ensures arrows { (r : PlainRecording) (steps : List Step) (w : Rows) (chosen : List EntityId) (blocked : List BlockedEntry) → IsRecording r → IsGood r steps
+        → All (LeadsDown r steps w) (marks_of r steps w chosen blocked).arrows }
+    ensures drawn { (r : PlainRecording) (steps : List Step) (w : Rows) (chosen : List EntityId) (blocked : List BlockedEntry) (j i : ℕ) → source_of r i ≡ Some j
         → (is_row w (step_of r steps j) || is_row w (step_of r steps i)) ≡ true
-        → Contains (marks_of r steps w chosen).arrows (arrow_between (scene_of r steps w chosen) j i) }
-    ensures bars { (r : PlainRecording) (steps : List Step) (w : Rows) (chosen : List EntityId) → IsRecording r → IsGood r steps
-        → All (HasState r steps) (marks_of r steps w chosen).bars }
+        → Contains (marks_of r steps w chosen blocked).arrows (arrow_between (scene_of r steps w chosen blocked) j i) }
+    ensures bars { (r : PlainRecording) (steps : List Step) (w : Rows) (chosen : List EntityId) (blocked : List BlockedEntry) → IsRecording r → IsGood r steps
+        → All (HasState r steps) (marks_of r steps w chosen blocked).bars }
 {
     links_are_of_the_logs();
     lives_are_states();

@@ -2,10 +2,11 @@
 //! certificate of it, and the chart drawn from them as an SVG text. Stations are columns, steps are
 //! rows, and each row ends with its entry in words.
 //!
-//! [`marks_of`] computes the [`Marks`] of a range of steps: a row for each step, an arrow for each
-//! receipt with a source, losses, receipts from outside, requests that were never answered, and a
-//! bar for each span of an entity's life. [`draw`] draws them. Neither opens a file or writes to a
-//! stream, and neither judges the certificate: whether it is good is for the checker to say.
+//! [`marks_of`] computes the [`Marks`] of a [`Selection`]: a row for each step of a range, an arrow
+//! for each receipt with a source, losses, receipts from outside, requests that were never answered,
+//! a bar for each span of an entity's life, and behind the steps a row for each of the entries that
+//! are said to be blocked. [`draw`] draws them. Neither opens a file or writes to a stream, and
+//! neither judges the certificate or the blocked entries: that is for the checker to say.
 //!
 //! A caller may use the law [`pictures_are_runs`] for the marks of a good certificate: the rows are
 //! its steps, no arrow points upwards, and a bar has the state that the entity has after each step
@@ -17,6 +18,7 @@
 mod arrow;
 mod bar;
 mod bars;
+mod blocked;
 mod clock;
 mod columns;
 mod deeds;
@@ -24,6 +26,7 @@ mod element;
 mod fault;
 mod frame;
 mod heading;
+mod kept;
 mod laws;
 mod lines;
 mod loss;
@@ -35,6 +38,7 @@ mod row;
 mod rows;
 mod saying;
 mod scene;
+mod selection;
 mod sheets;
 mod signs;
 mod slot;
@@ -45,8 +49,10 @@ mod words;
 
 pub use arrow::Arrow;
 pub use bar::{Bar, MOST_ENTITIES, MOST_STRETCHES, Undrawn};
+pub use blocked::BlockedRow;
 pub use clock::ClockUnit;
 pub use fault::ChartFault;
+pub use kept::column_count;
 pub use laws::pictures_are_runs;
 pub use loss::Loss;
 pub use marks::{MOST_ROWS, Marks, marks_of};
@@ -55,3 +61,4 @@ pub use picture::draw;
 pub use point::{Point, Rows};
 pub use row::{Activity, Repetition, Row};
 pub use saying::Saying;
+pub use selection::{BlockedEntry, Selection};

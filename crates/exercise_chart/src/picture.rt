@@ -3,32 +3,42 @@
 ghost use Rattle.std.specs.Prelude.{◌≡◌, ◌-◌, ◌≤◌, ◌++◌, length, OnOk, IfOk, string_bytes};
 ghost use Rattle.exercise_model.specs.Recording.{IsRecording};
 ghost use Rattle.exercise_chart.specs.Marks.{marks_data};
+ghost use Rattle.exercise_chart.specs.Kept.{AreKept};
 ghost use Rattle.exercise_chart.specs.Drawing.{AreOfStations, frame_of, under_text, over_text, picture_in, Draws};
 
 use crate::bars::put_bars;
 use crate::columns::{put_columns, put_names};
 use crate::frame::Frame;
 use crate::heading::put_heading;
+use crate::kept::{KeptColumns, kept_columns};
 use crate::lines::{put_arrows, put_losses, put_outsiders};
 use crate::rows::put_rows;
 use crate::sheets::put_sheets;
-use crate::signs::{put_activity_signs, put_unanswered};
-use crate::{ChartFault, ClockUnit, MOST_ROWS, Marks, Rows, marks_of};
-use dis_records::EntityId;
+use crate::signs::{put_activity_signs, put_blocked_signs, put_unanswered};
+use crate::{ChartFault, MOST_ROWS, Marks, Selection, marks_of};
 use exercise_check::Step;
 use exercise_model::ExerciseLog;
 use exercise_review::Register;
 use std::alloc::{AllocError, Global};
 
-/// The frame of the shown rows of a recording.
-fn frame_of<L: ExerciseLog>(log: &L, rows: Rows, clock: Option<ClockUnit>) -> Frame
-    ensures frame { result ≡ frame_of (L.recording log.now) rows clock }
+/// The frame of what is selected of a recording.
+fn frame_of<'a, L: ExerciseLog>(
+    log: &L,
+    selection: &Selection<'_>,
+    columns: &'a KeptColumns,
+    blocked: usize,
+) -> Frame<'a>
+    requires { AreKept (L.recording log.now) selection.now.stations.now columns.now }
+    ensures frame { result ≡ frame_of (L.recording log.now) selection.now.rows selection.now.stations.now selection.now.clock blocked }
     ensures limits { IsRecording (L.recording log.now) }
 {
     Frame {
-        rows,
+        rows: selection.rows,
         stations: log.station_count() as u16,
-        clock,
+        columns: &columns.columns,
+        kept: columns.kept,
+        clock: selection.clock,
+        blocked,
     }
 }
 
@@ -36,15 +46,16 @@ fn frame_of<L: ExerciseLog>(log: &L, rows: Rows, clock: Option<ClockUnit>) -> Fr
 #[tactic(auto, unfolding(crate::specs::Drawing::under_text))]
 fn put_under<L: ExerciseLog>(
     text: &mut String,
-    frame: Frame,
+    frame: &Frame<'_>,
     log: &L,
     marks: &Marks,
 ) -> Result<(), AllocError>
-    requires { AreOfStations (length (L.recording log.now).setting.stations) (marks_data marks.now) }
-    ensures { OnOk result (string_bytes text.new ≡ string_bytes text.old ++ under_text frame (L.recording log.now) (marks_data marks.now)) }
+    requires columns { length frame.now.columns ≡ length (L.recording log.now).setting.stations }
+    requires marks { AreOfStations (length (L.recording log.now).setting.stations) (marks_data marks.now) }
+    ensures { OnOk result (string_bytes text.new ≡ string_bytes text.old ++ under_text frame.now (L.recording log.now) (marks_data marks.now)) }
 {
     put_heading(text, frame, log)?;
-    put_rows(text, frame, log, &marks.rows)?;
+    put_rows(text, frame, log, &marks.rows, &marks.blocked)?;
     put_columns(text, frame)?;
     put_bars(text, frame, log, &marks.bars, &marks.undrawn)
 }
@@ -53,19 +64,20 @@ fn put_under<L: ExerciseLog>(
 #[tactic(auto, unfolding(crate::specs::Drawing::over_text))]
 fn put_over<L: ExerciseLog>(
     text: &mut String,
-    frame: Frame,
+    frame: &Frame<'_>,
     log: &L,
     marks: &Marks,
 ) -> Result<(), AllocError>
-    requires stations { frame.stations ≡ length (L.recording log.now).setting.stations }
-    requires marks { AreOfStations (length (L.recording log.now).setting.stations) (marks_data marks.now) }
-    ensures { OnOk result (string_bytes text.new ≡ string_bytes text.old ++ over_text frame (L.recording log.now) (marks_data marks.now)) }
+    requires stations { frame.now.stations ≡ length (L.recording log.now).setting.stations }
+    requires columns { length frame.now.columns ≡ length (L.recording log.now).setting.stations }
+    ensures { OnOk result (string_bytes text.new ≡ string_bytes text.old ++ over_text frame.now (L.recording log.now) (marks_data marks.now)) }
 {
     put_arrows(text, frame, &marks.arrows)?;
     put_outsiders(text, frame, &marks.outside)?;
     put_losses(text, frame, log, &marks.losses)?;
     put_activity_signs(text, frame, &marks.bars, &marks.rows)?;
     put_unanswered(text, frame, &marks.unanswered)?;
+    put_blocked_signs(text, frame, &marks.blocked)?;
     text.push_str("</g>\n")?;
     put_names(text, frame, log)?;
     text.push_str("</g>\n")?;
@@ -76,13 +88,14 @@ fn put_over<L: ExerciseLog>(
 /// The picture of marks in a frame. The text takes memory.
 fn picture_in<L: ExerciseLog>(
     alloc: Global,
-    frame: Frame,
+    frame: &Frame<'_>,
     log: &L,
     marks: &Marks,
 ) -> Result<String, AllocError>
-    requires stations { frame.stations ≡ length (L.recording log.now).setting.stations }
+    requires stations { frame.now.stations ≡ length (L.recording log.now).setting.stations }
+    requires columns { length frame.now.columns ≡ length (L.recording log.now).setting.stations }
     requires marks { AreOfStations (length (L.recording log.now).setting.stations) (marks_data marks.now) }
-    ensures { IfOk result (λ text. string_bytes text ≡ picture_in frame (L.recording log.now) (marks_data marks.now)) }
+    ensures { IfOk result (λ text. string_bytes text ≡ picture_in frame.now (L.recording log.now) (marks_data marks.now)) }
 {
     let mut text = String::new(alloc);
     put_under(&mut text, frame, log, marks)?;
@@ -90,24 +103,22 @@ fn picture_in<L: ExerciseLog>(
     Ok(text)
 }
 
-/// Draws a range of steps of a certificate of a recording; the certificate need not be good. Bars are
-/// of the chosen entities, or of all where none is chosen. With a unit each row has the time of day of
-/// its stamp.
-/// `OverLimit` if the range has more than 2,000 rows, or the entities of a station have more than
-/// 4,194,304 spans. The text takes memory.
+/// Draws what is selected of a recording and a certificate of it; the certificate need not be good.
+/// `OverLimit` if the range of steps has more than 2,000 rows, or the entities of a station have
+/// more than 4,194,304 spans. The text takes memory.
 pub fn draw<L: ExerciseLog>(
     alloc: Global,
     register: &Register<'_, L>,
     steps: &[Step],
-    rows: Rows,
-    chosen: &[EntityId],
-    clock: Option<ClockUnit>,
+    selection: &Selection<'_>,
 ) -> Result<String, ChartFault>
-    ensures picture { Draws register.now steps.now rows chosen.now clock result }
-    ensures few { OnOk result (rows.end - rows.first ≤ MOST_ROWS) }
+    ensures picture { Draws register.now steps.now selection.now.rows selection.now.entities.now selection.now.stations.now selection.now.clock selection.now.blocked.now result }
+    ensures few { OnOk result (selection.now.rows.end - selection.now.rows.first ≤ MOST_ROWS) }
 {
-    let marks = marks_of(alloc, register, steps, rows, chosen)?;
+    let marks = marks_of(alloc, register, steps, selection)?;
     let log = register.log();
-    let text = picture_in(alloc, frame_of(log, rows, clock), log, &marks)?;
+    let columns = kept_columns(alloc, log, selection.stations)?;
+    let frame = frame_of(log, selection, &columns, marks.blocked.len());
+    let text = picture_in(alloc, &frame, log, &marks)?;
     Ok(text)
 }

@@ -45,7 +45,7 @@ pub enum Activity {
 pub struct Row {
     pub at: Point,
     pub did: Activity,
-    /// The stamp of the entry; of a told state the last one before it in the file, or 0.
+    /// The stamp of the entry; of a told state the nearest one before it in the recording, or 0.
     pub stamp: u64,
 }
 
@@ -118,7 +118,11 @@ fn activity_of<L: ExerciseLog>(scene: &Scene<'_, L>, entry: usize, view: EntryVi
 }
 
 /// The row of a step with its entry, if the recording has that entry.
-fn row_taking<L: ExerciseLog>(scene: &Scene<'_, L>, step: usize, entry: usize) -> Option<Row>
+pub(crate) fn row_taking<L: ExerciseLog>(
+    scene: &Scene<'_, L>,
+    step: usize,
+    entry: usize,
+) -> Option<Row>
     ensures { result ≡ row_taking scene.now step entry }
 {
     match scene.entry_at(entry) {

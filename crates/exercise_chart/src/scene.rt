@@ -6,33 +6,36 @@ ghost use Rattle.siman_pdus.specs.Reading.{pdu_of};
 ghost use Rattle.exercise_model.specs.Entry.{is_entry};
 ghost use Rattle.exercise_model.specs.Held.{shown};
 ghost use Rattle.exercise_model.specs.Meaning.{meaning};
+ghost use Rattle.exercise_model.specs.Stamps.{stamp_of};
 ghost use Rattle.exercise_chart.specs.Point.{first_step, step_of, station_of_entry, place_at};
-ghost use Rattle.exercise_chart.specs.Clock.{entry_stamp};
 ghost use Rattle.exercise_chart.specs.Deeds.{first_sent, first_received};
-ghost use Rattle.exercise_chart.specs.Scene.{SceneData, point_in};
+ghost use Rattle.exercise_chart.specs.Scene.{point_in};
+ghost use Rattle.exercise_chart.specs.Marks.{scene_of};
 
-use crate::clock::stamps_of;
 use crate::deeds::{DatagramFirsts, StationDatagram, first_receipt_index, first_send_index};
 use crate::point::{Point, Rows};
+use crate::selection::{BlockedEntry, Selection};
 use crate::taken::steps_taken;
 use dis_records::EntityId;
 use exercise_check::Step;
-use exercise_model::{EntryView, ExerciseLog, meaning_view};
+use exercise_model::{EntryView, ExerciseLog, Stamps, meaning_view};
 use exercise_review::Register;
 use siman_pdus::PduView;
 use std::alloc::{AllocError, Global};
 use std::marker::Model;
 
-/// A recording, the steps of a certificate of it, the range of steps to show and the chosen entities,
-/// with indexes. Contracts see these four; the indexes are private.
+/// A recording, the steps of a certificate of it, the range of steps to show, the chosen entities
+/// and the next entries of stations that cannot go on, with indexes. Contracts see these five; the
+/// indexes are private.
 #[derive(Drop)]
 pub(crate) struct Scene<'a, L: ExerciseLog> {
     register: &'a Register<'a, L>,
     steps: &'a [Step],
     rows: Rows,
     chosen: &'a [EntityId],
+    blocked: &'a [BlockedEntry],
     taken: Vec<Option<usize>>,
-    stamps: Vec<u64>,
+    stamps: Stamps,
     sent: DatagramFirsts<'a>,
     got: DatagramFirsts<'a>,
 }
@@ -42,9 +45,9 @@ impl<'a, L: ExerciseLog> Model for Scene<'a, L> {
 
     ghost Value = { SceneData };
 
-    ghost view = { λ x. record { recording = x.register.now; steps = x.steps.now; rows = x.rows; chosen = x.chosen.now } };
+    ghost view = { λ x. record { recording = x.register.now; steps = x.steps.now; rows = x.rows; chosen = x.chosen.now; blocked = x.blocked.now } };
 
-    ghost invariant = { λ x. IsScene x.register.now x.steps.now x.taken.items x.stamps.items x.sent x.got };
+    ghost invariant = { λ x. IsScene x.register.now x.steps.now x.taken.items x.stamps x.sent x.got };
 }
 
 impl<'a, L: ExerciseLog> Scene<'a, L> {
@@ -53,21 +56,21 @@ impl<'a, L: ExerciseLog> Scene<'a, L> {
         alloc: Global,
         register: &'a Register<'a, L>,
         steps: &'a [Step],
-        rows: Rows,
-        chosen: &'a [EntityId],
+        selection: &Selection<'a>,
     ) -> Result<Scene<'a, L>, AllocError>
-        ensures { let drawn : SceneData = record { recording = register.now; steps = steps.now; rows = rows; chosen = chosen.now } in IfOk result (λ scene. scene ≡ drawn) }
+        ensures { IfOk result (λ scene. scene ≡ scene_of register.now steps.now selection.now.rows selection.now.entities.now selection.now.blocked.now) }
     {
         let log = register.log();
         let taken = steps_taken(alloc, steps, log.entry_count())?;
-        let stamps = stamps_of(alloc, log)?;
+        let stamps = Stamps::of(alloc, log)?;
         let sent = first_send_index(alloc, log)?;
         let got = first_receipt_index(alloc, log)?;
         Ok(Scene {
             register,
             steps,
-            rows,
-            chosen,
+            rows: selection.rows,
+            chosen: selection.entities,
+            blocked: selection.blocked,
             taken,
             stamps,
             sent,
@@ -101,6 +104,20 @@ impl<'a, L: ExerciseLog> Scene<'a, L> {
         ensures { result.now ≡ self.now.chosen }
     {
         self.chosen
+    }
+
+    /// The next entries of stations that cannot go on.
+    pub(crate) fn blocked(&self) -> &'a [BlockedEntry]
+        ensures { result.now ≡ self.now.blocked }
+    {
+        self.blocked
+    }
+
+    /// The number of all steps.
+    pub(crate) fn step_count(&self) -> usize
+        ensures { result ≡ length self.now.steps }
+    {
+        self.steps.len()
     }
 
     /// The entry that a step takes, if the certificate has that step.
@@ -155,12 +172,12 @@ impl<'a, L: ExerciseLog> Scene<'a, L> {
         }
     }
 
-    /// The stamp of an entry; of a told state the last one before it in the file, or 0.
+    /// The stamp of an entry; of a told state the nearest one before it in the recording, or 0.
     pub(crate) fn stamp_of(&self, entry: usize) -> u64
         requires { entry < length self.now.recording.entries }
-        ensures { result ≡ entry_stamp self.now.recording entry }
+        ensures { result ≡ stamp_of self.now.recording entry }
     {
-        self.stamps[entry]
+        self.stamps.at(entry)
     }
 
     /// The station of an entry; 0 if the recording does not have the entry.

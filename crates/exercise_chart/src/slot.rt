@@ -3,7 +3,7 @@
 ghost use Rattle.std.specs.Prelude.{◌≡◌};
 ghost use Rattle.exercise_chart.specs.Slot.{is_bar_of, slot_of, has_bars, barless_x, told_x};
 
-use crate::frame::Frame;
+use crate::frame::{column_x, slot_x};
 use crate::{Bar, MOST_ENTITIES};
 
 /// Whether a bar is of an entity of a station.
@@ -43,23 +43,23 @@ fn has_bars(bars: &[Bar], station: u16) -> bool
 
 /// The middle of what was told of an entity without bars: to the right of the bars of its station, if
 /// it has bars, else on the column.
-fn barless_x(frame: Frame, bars: &[Bar], station: u16) -> u64
-    ensures { result ≡ barless_x frame bars.now station }
+fn barless_x(column: u16, bars: &[Bar], station: u16) -> u64
+    ensures { result ≡ barless_x column bars.now station }
 {
     if has_bars(bars, station) {
-        frame.slot_x(station, MOST_ENTITIES)
+        slot_x(column, MOST_ENTITIES)
     } else {
-        frame.x(station)
+        column_x(column)
     }
 }
 
-/// The middle of a told state: that of the bars of its entity, if it has bars.
+/// The middle of a told state in the column of its station: that of the bars of its entity, if it has bars.
 #[tactic(auto, unfolding(crate::specs::Slot::told_x))]
-pub(crate) fn told_x(frame: Frame, bars: &[Bar], station: u16, entity: u16) -> u64
-    ensures { result ≡ told_x frame bars.now station entity }
+pub(crate) fn told_x(column: u16, bars: &[Bar], station: u16, entity: u16) -> u64
+    ensures { result ≡ told_x column bars.now station entity }
 {
     match slot_of(bars, station, entity) {
-        Some(slot) => frame.slot_x(station, slot),
-        None => barless_x(frame, bars, station),
+        Some(slot) => slot_x(column, slot),
+        None => barless_x(column, bars, station),
     }
 }

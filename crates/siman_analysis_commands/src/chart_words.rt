@@ -1,11 +1,14 @@
-//! The words of a picture: which steps it shows, its clock, and the entities chosen for bars.
+//! The words of a picture: which steps it shows, its clock, the entities chosen for bars, and the
+//! stations whose columns are kept.
 
 ghost use Rattle.std.specs.Prelude.{◌≡◌, ◌≤◌, ◌++◌, Ok, Err, IfOk, IfErr, OnOk, map, option_map};
-ghost use Rattle.siman_analysis_commands.specs.ChartWords.{unit_of, choice_by, choice_of, is_turned, narrowed, with_word, window_of, entity_named, entities_of, names_past, is_past, past_of, AreShown};
+ghost use Rattle.siman_analysis_commands.specs.ChartWords.{unit_of, choice_by, choice_of, is_turned, narrowed, with_word, window_of, entity_named, entities_of, station_named, stations_of, names_past, is_past, past_of, names_unknown, is_unknown, unknown_of, AreShown};
 
+use crate::filter_words::outsider_of;
 use byte_files::{number_32, split_once};
-use dis_records::EntityId;
-use exercise_chart::{ClockUnit, Rows};
+use dis_records::{EntityId, SiteApplication};
+use exercise_chart::{ClockUnit, Rows, column_count};
+use exercise_model::ExerciseLog;
 use siman_scripts::target_of;
 use std::alloc::{AllocError, Global};
 
@@ -20,6 +23,8 @@ pub(crate) enum ChartChoice {
     Clock(ClockUnit),
     /// An entity that bars are drawn for.
     Entity(EntityId),
+    /// A station whose column is kept.
+    Kept(SiteApplication),
 }
 
 /// The bounds of the selected steps, and the clock.
@@ -65,10 +70,13 @@ fn choice_by(key: &[u8], word: &[u8]) -> Option<ChartChoice>
     if key == b"entity".as_slice() {
         return Some(ChartChoice::Entity(target_of(word)?));
     }
+    if key == b"station".as_slice() {
+        return Some(ChartChoice::Kept(outsider_of(word)?));
+    }
     None
 }
 
-/// The choice that a word `from=STEP`, `to=STEP`, `clock=UNIT` or `entity=S:A:E` names.
+/// The choice that a word `from=STEP`, `to=STEP`, `clock=UNIT`, `entity=S:A:E` or `station=S:A` names.
 fn choice_of(word: &[u8]) -> Option<ChartChoice>
     ensures { result ≡ choice_of word.now }
 {
@@ -87,7 +95,7 @@ fn is_turned(window: Window) -> bool
 }
 
 /// The bounds and the clock with one more choice; `None` if that was named before, or the first step
-/// would be after the last. An entity may be named any number of times.
+/// would be after the last. An entity or a station may be named any number of times.
 fn narrowed(window: Window, choice: ChartChoice) -> Option<Window>
     ensures { result ≡ narrowed window choice }
 {
@@ -99,7 +107,7 @@ fn narrowed(window: Window, choice: ChartChoice) -> Option<Window>
             next.clock = Some(unit);
             return Some(next);
         }
-        ChartChoice::Entity(_) => return Some(window),
+        ChartChoice::Entity(_) | ChartChoice::Kept(_) => return Some(window),
         _ => return None,
     }
     if is_turned(next) { None } else { Some(next) }
@@ -112,7 +120,8 @@ fn with_word(window: Window, word: &[u8]) -> Option<Window>
 }
 
 /// The bounds and the clock that words name, or the first word that is bad: it names no choice, its
-/// key was used before and is not `entity`, or the first step would be after the last.
+/// key was used before and is neither `entity` nor `station`, or the first step would be after the
+/// last.
 pub(crate) fn window_of<'a>(words: &'a [&'a str]) -> Result<Window, &'a str>
     ensures said { IfOk result (λ window. window_of (map (λ word. word.now) words.now) ≡ Ok window) }
     ensures bad { IfErr result (λ word. window_of (map (λ word. word.now) words.now) ≡ Err word.now) }
@@ -154,6 +163,63 @@ pub(crate) fn entities_of(alloc: Global, words: &[&str]) -> Result<Vec<EntityId>
         others = rest;
     }
     Ok(entities)
+}
+
+/// Adds the station whose column a word keeps, if it keeps one.
+fn push_station(stations: &mut Vec<SiteApplication>, word: &[u8]) -> Result<(), AllocError>
+    ensures { OnOk result (stations.new.items ≡ stations.old.items ++ station_named word.now) }
+{
+    match choice_of(word) {
+        Some(ChartChoice::Kept(address)) => Ok(stations.push(address)?),
+        _ => Ok(()),
+    }
+}
+
+/// The addresses of the stations whose columns words keep, in their order. The list takes memory.
+pub(crate) fn stations_of(alloc: Global, words: &[&str]) -> Result<Vec<SiteApplication>, AllocError>
+    ensures { IfOk result (λ stations. stations.items ≡ stations_of (map (λ word. word.now) words.now)) }
+{
+    let mut stations = Vec::new(alloc);
+    let mut others = words;
+    while let [word, rest @ ..] = others {
+        push_station(&mut stations, word.as_bytes())?;
+        others = rest;
+    }
+    Ok(stations)
+}
+
+/// Whether a choice is of a station that the recording does not have.
+fn names_unknown<L: ExerciseLog>(log: &L, choice: ChartChoice) -> bool
+    ensures { result ≡ names_unknown (L.recording log.now) choice }
+{
+    match choice {
+        ChartChoice::Kept(address) => column_count(log, &[address]) == 0,
+        _ => false,
+    }
+}
+
+/// Whether a word names a station that the recording does not have.
+fn is_unknown<L: ExerciseLog>(log: &L, word: &[u8]) -> bool
+    ensures { result ≡ is_unknown (L.recording log.now) word.now }
+{
+    match choice_of(word) {
+        Some(choice) => names_unknown(log, choice),
+        None => false,
+    }
+}
+
+/// The first word that names a station that the recording does not have.
+pub(crate) fn unknown_of<'a, L: ExerciseLog>(log: &L, words: &'a [&'a str]) -> Option<&'a str>
+    ensures { option_map (λ word. word.now) result ≡ unknown_of (L.recording log.now) (map (λ word. word.now) words.now) }
+{
+    let mut others = words;
+    while let [word, rest @ ..] = others {
+        if is_unknown(log, word.as_bytes()) {
+            return Some(word);
+        }
+        others = rest;
+    }
+    None
 }
 
 /// Whether a choice is of a step past the last of `steps` steps.

@@ -10,7 +10,7 @@ use siman_outside::ViewWord;
 use siman_scripts::target_of;
 
 /// The site and the application that a word `S:A` spells.
-fn outsider_of(word: &[u8]) -> Option<SiteApplication>
+pub(crate) fn outsider_of(word: &[u8]) -> Option<SiteApplication>
     ensures { result ≡ outsider_of word.now }
 {
     let (site, application) = split_once(word, b':')?;

@@ -11,11 +11,14 @@
 
 mod chart;
 mod chart_words;
+mod drawn;
 mod filter_words;
 mod log;
+mod picture;
 mod review;
 mod view;
 
-pub use chart::{PictureTexts, chart_named};
+pub use chart::chart_named;
 pub use filter_words::filter_of;
+pub use picture::PictureTexts;
 pub use view::View;

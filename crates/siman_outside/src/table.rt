@@ -315,11 +315,15 @@ pub(crate) const ROWS: [CommandRow; 18] = [
         name: "chart",
         takes: Takes::Picture,
         usage: "siman chart <REC> <CERT> <SVG> [CHOICE]... [--force]",
-        about: "Draws an exercise in the sequence of its certificate, and writes the picture",
+        about: "Draws an exercise in the sequence of its certificate, or up to where it is contradicted, and writes the picture",
         example: "Example:\n  siman chart exercise.dsrc exercise.dsct exercise.svg",
         words: &[
             REC,
-            CERT,
+            CommandWord {
+                name: "CERT",
+                often: Often::Once,
+                about: "The file of the certificate; - draws the sequence that audit finds, or what comes before its blocked list",
+            },
             CommandWord {
                 name: "SVG",
                 often: Often::Once,
@@ -328,7 +332,7 @@ pub(crate) const ROWS: [CommandRow; 18] = [
             CommandWord {
                 name: "CHOICE",
                 often: Often::AnyTimes,
-                about: "What is shown: from=STEP the first step, to=STEP the last, counted from 0; clock=us, clock=ms or clock=s the time of day, of stamps in that unit; each may stand once; entity=S:A:E bars of this entity and of no other than those named",
+                about: "What is shown: from=STEP the first step, to=STEP the last, counted from 0; clock=us, clock=ms or clock=s the time of day, of stamps in that unit; each may stand once; entity=S:A:E bars of this entity, station=S:A the column of this station, and of no other than those named",
             },
         ],
     },

@@ -22,7 +22,7 @@ const FORCE: &str = "Replaces a file that has the name of the one that is made";
 /// The exit statuses, for the end of the help, and the example of a call without words.
 const STATUSES: &str = "Exit status:
   0  the answer is on standard output; of `check` or `why` it is yes, of `audit` or `why` explained
-  1  a datagram is refused, or the answer of `check`, `why` or `chart` is no, of `audit` or `why` blocked
+  1  a datagram is refused, or the answer of `check`, `why` or `chart` is no, of `audit`, `why` or `chart` blocked
   2  a fault of usage, hex text, files, scripts, worlds, lines or writing, told on standard error
   3  memory ran out
 

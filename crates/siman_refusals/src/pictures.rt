@@ -2,7 +2,7 @@
 
 use crate::call::{LibraryCall, Said, refused, usual};
 use crate::recordings::FOUND;
-use exercise_chart::{ChartFault, Rows, draw};
+use exercise_chart::{ChartFault, Rows, Selection, draw};
 use exercise_findings::Findings;
 use exercise_model::{ExerciseLog, Recording};
 use exercise_review::Register;
@@ -19,14 +19,14 @@ fn is_of_creation(picture: &str) -> bool {
 /// The picture of a log.
 fn drawn(alloc: Global, log: &Recording) -> Result<String, ChartFault> {
     let register = Register::of(alloc, Findings::of(alloc, log)?)?;
-    draw(
-        alloc,
-        &register,
-        &FOUND,
-        Rows { first: 0, end: 4 },
-        &[],
-        None,
-    )
+    let all = Selection {
+        rows: Rows { first: 0, end: 4 },
+        entities: &[],
+        stations: &[],
+        clock: None,
+        blocked: &[],
+    };
+    draw(alloc, &register, &FOUND, &all)
 }
 
 impl LibraryCall<Recording> for Drawing {

@@ -4,7 +4,7 @@
 use crate::input::RandomInput;
 
 /// Words that may replace others.
-const WORDS: [&str; 93] = [
+const WORDS: [&str; 96] = [
     "pdu",
     "pdus",
     "show",
@@ -77,6 +77,9 @@ const WORDS: [&str; 93] = [
     "station=2:3",
     "request=1:1/1",
     "entity=2:3:7",
+    "station=9:9",
+    "clock=us",
+    "clock=x",
     "from=0",
     "from=2",
     "to=2",
@@ -104,7 +107,7 @@ const WORDS: [&str; 93] = [
 const MOST: usize = 10;
 
 /// Correct command lines, of every command.
-const LINES: [&[&str]; 28] = [
+const LINES: [&[&str]; 30] = [
     &[],
     &[
         "pdu",
@@ -143,6 +146,8 @@ const LINES: [&[&str]; 28] = [
     &["why", "done", "order", "--json"],
     &["chart", "done", "order", "new", "from=1", "to=2"],
     &["chart", "done", "order", "picture", "--force"],
+    &["chart", "done", "-", "new", "clock=ms"],
+    &["chart", "rec", "-", "picture", "--force", "station=2:3"],
     &[
         "station",
         "script",

@@ -10,10 +10,10 @@ loop-block-init g c = texts_begin _ _
 
 pub loop-block-preserved : goal.loop-block-preserved
 loop-block-preserved g c =
-    texts_next (names_above c.args.frame (g.L.ExerciseLog.recording c.args.log.now)) c.loop-block.block _ _ _ c.loop-block.invariant c.in_ok-put_names_above.ensures
+    texts_next (names_above c.args.frame.now (g.L.ExerciseLog.recording c.args.log.now)) c.loop-block.block _ _ _ c.loop-block.invariant c.in_ok-put_names_above.ensures
 
 pub returns : goal.returns
 unfolding names_text
 returns g c =
-    let all : c.loop-block.block ≡ blocks_of c.args.frame = omega (arith, c.blocks-block-end.ensures) in
-    c.loop-block.invariant ∙ ap (λ n. string_bytes c.args.text.now ++ texts_below (names_above c.args.frame (g.L.ExerciseLog.recording c.args.log.now)) n) all
+    let all : c.loop-block.block ≡ blocks_of c.args.frame.now = omega (arith, c.blocks-block-end.ensures) in
+    c.loop-block.invariant ∙ ap (λ n. string_bytes c.args.text.now ++ texts_below (names_above c.args.frame.now (g.L.ExerciseLog.recording c.args.log.now)) n) all

@@ -11,5 +11,5 @@ unfolding names_above
 returns g c =
     let r : PlainRecording = g.L.ExerciseLog.recording c.args.log.now in
     let here = rw c.names_y.ensures at c.in_ok-put_names_at.ensures in
-    behind _ _ _ (names_begin c.args.block ++ names_at c.args.frame r (names_y c.args.block)) (codes "</g>\n")
-    (behind _ _ _ (names_begin c.args.block) (names_at c.args.frame r (names_y c.args.block)) c.in_ok-begin_names.ensures here) c.in_ok-push_str.ensures.bytes
+    behind _ _ _ (names_begin c.args.block ++ names_at c.args.frame.now r (names_y c.args.block)) (codes "</g>\n")
+    (behind _ _ _ (names_begin c.args.block) (names_at c.args.frame.now r (names_y c.args.block)) c.in_ok-begin_names.ensures here) c.in_ok-push_str.ensures.bytes

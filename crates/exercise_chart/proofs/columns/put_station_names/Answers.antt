@@ -7,4 +7,4 @@ loop-station-init g c = texts_begin _ _
 
 pub loop-station-preserved : goal.loop-station-preserved
 loop-station-preserved g c =
-    texts_next (name_text c.args.frame (g.L.ExerciseLog.recording c.args.log.now) c.args.y) c.loop-station.station _ _ _ c.loop-station.invariant c.in_ok-put_name.ensures
+    texts_next (name_text c.args.frame.now (g.L.ExerciseLog.recording c.args.log.now) c.args.y) c.loop-station.station _ _ _ c.loop-station.invariant c.in_ok-put_name.ensures

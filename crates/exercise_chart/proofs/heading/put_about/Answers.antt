@@ -8,6 +8,6 @@ pub returns : goal.returns
 unfolding about_text
 returns g c =
     let r : PlainRecording = g.L.ExerciseLog.recording c.args.log.now in
-    behind _ _ _ (title_text r ++ counts_text c.args.frame r) _
-    (behind _ _ _ (title_text r) (counts_text c.args.frame r) (rw c.exercise-exercise.ensures at c.in_ok-write.ensures.bytes) c.in_ok-put_counts.ensures)
+    behind _ _ _ (title_text r ++ counts_text c.args.frame.now r) _
+    (behind _ _ _ (title_text r) (counts_text c.args.frame.now r) (rw c.exercise-exercise.ensures at c.in_ok-write.ensures.bytes) c.in_ok-put_counts.ensures)
     c.in_ok-push_str.ensures.bytes

@@ -8,8 +8,8 @@ pub returns : goal.returns
 unfolding caption_text
 returns g c =
     let r : PlainRecording = g.L.ExerciseLog.recording c.args.log.now in
-    behind _ _ _ (caption_begin ++ name_text r ++ counts_text c.args.frame r) _
-    (behind _ _ _ (caption_begin ++ name_text r) (counts_text c.args.frame r)
+    behind _ _ _ (caption_begin ++ name_text r ++ counts_text c.args.frame.now r) _
+    (behind _ _ _ (caption_begin ++ name_text r) (counts_text c.args.frame.now r)
     (behind _ _ _ caption_begin (name_text r) c.in_ok-push_str.ensures.bytes (rw c.exercise-exercise.ensures at c.in_ok-write.ensures.bytes))
     c.in_ok-put_counts.ensures)
     c.in_ok-push_str-2.ensures.bytes

@@ -11,4 +11,4 @@ returns-in-Err g c =
     (inl (c.in-Err.word.now, Filter c.in-Err.word, c.in-Err.ensures.bad, append-nil (codes "filter: " ++ c.in-Err.word.now), refl, refl, Keeps-refl (g.W.Write.contents c.args.out.now)))
 
 pub returns-in-Ok : goal.returns-in-Ok
-returns-in-Ok g c = did_so g.O.Outside.deeds g.O.Outside.holds _ _ _ _ (λ deeds did. inr (c.in-Ok.window, c.in-Ok.ensures.said, did)) c.chart_of_files.ensures
+returns-in-Ok g c = did_so g.O.Outside.deeds g.O.Outside.holds _ _ _ _ (λ deeds did. inr (c.in-Ok.window, c.in-Ok.ensures.said, did)) c.chart_of.ensures

@@ -12,6 +12,9 @@ The parts, all of them if none is named:
 - peers: a station among peers that are not siman, whose datagrams are damaged, foreign, of another version, too long or
   in its own name. What it sends, records, prints and tells is what tools/pages computes, byte by byte.
 - calls: in order of its calls of the system, each datagram that it sends stands whole in its file before its first sendto.
+- waiting: what comes while nobody types, at a pipe and a terminal, is answered and printed within 50 ms; files and
+  /dev/null; an idle station; 2,000 Entity States a second beside 50 orders; and more than the socket holds, which is
+  counted as the system counts it.
 - flood: 100,000 datagrams as fast as a peer can send them: what came is recorded and answered, or was thrown away by the
   system; and what is only foreign takes no memory.
 
@@ -28,11 +31,11 @@ from pathlib import Path
 
 sys.dont_write_bytecode = True
 
-from cases import exercises, floods, hostile_peer
+from cases import exercises, floods, hostile_peer, waiting
 from cases.examples import TOP
 from cases.trials import Trials, described
 
-PARTS = ("exercises", "peers", "calls", "flood")
+PARTS = ("exercises", "peers", "calls", "waiting", "flood")
 
 
 def arguments():
@@ -84,9 +87,11 @@ def main():
         trials = Trials(str(given.program.resolve()), Path(folder).resolve())
         add_tasks(trials, given)
         tried, wrong = told(trials)
-        if "flood" in (given.parts or PARTS):
-            # With nothing else at work, so that its figures say something.
-            trials.tasks = [lambda: floods.try_orders(trials), lambda: floods.try_foreign(trials)]
+        # With nothing else at work, so that their figures say something.
+        alone = list(waiting.TRIES) if "waiting" in (given.parts or PARTS) else []
+        alone += [floods.try_orders, floods.try_foreign] if "flood" in (given.parts or PARTS) else []
+        for one in alone:
+            trials.tasks = [lambda one=one: one(trials)]
             more, worse = told(trials)
             tried, wrong = tried + more, wrong + worse
     if exercises.FATES:

@@ -85,7 +85,7 @@ def try_files(trials, examples):
     trials.expect(["chart", "none.dsrc", "-", "never"], pages.unopened("none.dsrc"))
     trials.expect(["chart", good, "./-", "never"], pages.unopened("./-"))
     trials.expect(["chart", good, "-", good], pages.fault(f"output: same as {good}"))
-    for words in ([good, "-", "unread.svg"], ["-", certificate, "unread.svg", "--force"]):
+    for words in ([good, "-", "unread.svg"], ["-", certificate, "read.svg", "--force"]):
         drawn = answer_to_chart(*read(trials, good, certificate))[0]
         trials.expect(["chart", *words], drawn, given=read(trials, good)[0] if words[0] == "-" else b"nothing of this is read")
     for name in ["examples", "none/there.svg", "", "x" * 300, "/dev/full"]:

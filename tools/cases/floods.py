@@ -26,12 +26,12 @@ def most_memory(process):
         return next(int(line.split()[1]) for line in file if line.startswith("VmHWM:"))
 
 
-def flood(trials, name, datagram_of, count):
+def flood(trials, name, datagram_of, count, *words):
     """So many datagrams come as fast as they can be sent, while the station is served again and again; how many it
     recorded, how many the system threw away, its memory, and what came back."""
     (trials.folder / f"{name}.script").write_bytes(SETUP)
     peer, own = bound(), free_address()
-    player = Player(trials.program, trials.folder, f"{name}.script", OWN, f"{name}.dsrc", own, [peer.getsockname()])
+    player = Player(trials.program, trials.folder, f"{name}.script", OWN, f"{name}.dsrc", own, [peer.getsockname()], *words)
     player.is_up()
     started = time.monotonic()
     for number in range(count):
@@ -75,11 +75,13 @@ def try_orders(trials):
 
 
 def try_foreign(trials):
-    """What is only foreign takes no memory: of 100,000 datagrams no more than of 1,000."""
+    """What is only foreign takes no memory: of 100,000 datagrams no more than of 1,000. It is recorded where all is kept."""
     foreign = bytes(1000)
-    _, outcome, few, _, least = flood(trials, "foreign.few", lambda _: foreign, 1000)
-    _, other, many, _, most = flood(trials, "foreign.many", lambda _: foreign, FLOOD)
+    _, outcome, few, _, least = flood(trials, "foreign.few", lambda _: foreign, 1000, "keep=all")
+    _, other, many, _, most = flood(trials, "foreign.many", lambda _: foreign, FLOOD, "keep=all")
+    _, passing, none, _, _ = flood(trials, "foreign.passed", lambda _: foreign, 1000)
     return [
+        Verdict("a station that passes foreign datagrams over ends well, and records none", ((0, 0),), (passing.status, none)),
         Verdict("stations among foreign datagrams end well", ((0, 0),), (outcome.status, other.status)),
         Verdict("foreign datagrams are recorded", (True,), few > 0 and many > few),
         Verdict("memory that 99,000 foreign datagrams take, less than 1024 KiB", (True,), most - least < 1024),
@@ -102,15 +104,27 @@ def calls_of(trace, recording):
             yield written, int(re.search(r'"[^"]*"(?:\.\.\.)?, (\d+)', rest)[1])
 
 
+def is_settled(trace, recording):
+    """Whether the last call of a trace that writes or settles the recording settles it."""
+    number, last = None, None
+    for line in trace.read_text(encoding="latin-1").splitlines():
+        call = re.search(r"(\w+)\(([^,)]*)(.*)\) += (-?\d+)", line)
+        if call and call[1] == "openat" and f'"{recording}"' in call[3] and int(call[4]) >= 0 and "O_CREAT" in call[3]:
+            number = call[4]
+        elif call and call[1] in ("write", "fsync") and call[2] == number:
+            last = call[1], call[4]
+    return last == ("fsync", "0")
+
+
 def try_order_of_calls(trials):
     """In order of its calls of the system each datagram that a station sends stands whole in its file before its first
-    sendto."""
+    sendto, and the file is settled on the disk at the end."""
     if shutil.which("strace") is None:
         trials.skipped.append("the order of the calls of a station: no strace")
         return []
     (trials.folder / "traced.script").write_bytes(SETUP)
     peers, own, trace = [bound(), bound()], free_address(), trials.folder / "traced.calls"
-    before = ["strace", "-f", "-s", "16", "-o", trace, "-e", "trace=openat,write,sendto"]
+    before = ["strace", "-f", "-s", "16", "-o", trace, "-e", "trace=openat,write,fsync,sendto"]
     player = Player(trials.program, trials.folder, "traced.script", OWN, "traced.dsrc", own, [it.getsockname() for it in peers], before=before)
     player.is_up()
     for number in range(40):
@@ -129,6 +143,7 @@ def try_order_of_calls(trials):
         Verdict("a station that is traced ends well", (0,), outcome.status),
         Verdict("how often it sent, to two peers", (2 * len(ends),), len(calls)),
         Verdict("what is sent stands whole in the file before", (True,), stand and len(ends) == 80),
+        Verdict("the recording is settled at the end", (True,), is_settled(trace, "traced.dsrc")),
     ]
 
 

@@ -71,7 +71,8 @@ def try_seed(trials, seed):
     (trials.folder / f"{name}.script").write_bytes(SETUP)
     peers, stranger, own = [bound(), bound()], bound(), free_address()
     hears_all = seed % 3 == 2
-    words = ["from=any"] if hears_all else []
+    keeps_all = seed % 2 == 1
+    words = ["from=any"] * hears_all + ["keep=all"] * keeps_all
     player = Player(trials.program, trials.folder, f"{name}.script", OWN, f"{name}.dsrc", own, [it.getsockname() for it in peers], *words)
     post, is_up, heard = Post(SETUP, OWN), player.is_up(), True
     for number in range(STEPS):
@@ -81,7 +82,7 @@ def try_seed(trials, seed):
             if sender is stranger and not hears_all:
                 post.strangers += 1
             else:
-                post.hear(datagram)
+                post.hear(datagram, keeps_all)
         lines = [b"", *some_lines(chances, number), b"tell 2:3 7"]
         player.say(*lines)
         for line in lines:

@@ -8,7 +8,7 @@ import threading
 import time
 from pathlib import Path
 
-from cases.trials import PATIENCE, without_reasons
+from cases.trials import PATIENCE, steady, without_reasons
 from pages import Outcome
 
 
@@ -49,7 +49,7 @@ def bound(address=None):
 
 class Player:
     """A process of `station`, which takes lines until it is closed or killed. What it tells of faults is kept in `errors`
-    as it came; its outcome has that without the second lines of faults."""
+    as it came; its outcome has that without the second lines of faults, and `buffer=N` for what the system gives."""
 
     def __init__(self, program, folder, script, station, recording, own, peers, *more, before=(), **how):
         self.recording = folder / recording
@@ -113,4 +113,4 @@ class Player:
             status = f"none in {PATIENCE} seconds"
         for reader in self.readers:
             reader.join(PATIENCE)
-        return Outcome(status, b"".join(self.lines), without_reasons(self.errors))
+        return Outcome(status, steady(b"".join(self.lines)), without_reasons(self.errors))

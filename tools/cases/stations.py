@@ -25,7 +25,7 @@ action 2:3 40
 tick 1:1
 """
 OWN, MANAGER = (2, 3), (1, 1, 0)
-COUNTS = b"station records=0 dropped=0 strangers=0\n"
+COUNTS = b"station records=0 dropped=0 strangers=0 other=0 lost=0 buffer=N\n"
 # Each move, and a line that is none.
 BAD, BAD_AT = b"moves", b"line 5: bad-line"
 LINES = (
@@ -93,6 +93,7 @@ def try_words(trials):
         (["none", "2:4", stands, "127.0.0.1", "y"], "station: address 127.0.0.1"),
         (["none", "2:4", stands, busy, there, "127.0.0.256:1", "z"], "station: address 127.0.0.256:1"),
         (["none", "2:4", stands, busy, "from=any", there], "station: address from=any"),
+        (["none", "2:4", stands, busy, there, "keep=all", "keep=all"], "station: address keep=all"),
         (["none", "2:4", stands, busy, there], "file: none: no such file"),
         ([trials.file(b"exercise 1\n"), "2:4", stands, busy, there], "script: bad-line at line 2"),
         (["examples", "2:4", stands, busy, there], "file: examples: is a directory"),
@@ -147,9 +148,11 @@ def try_heard(trials):
                     post.hear(order(number))
             station.hears(order(1000))
             post.hear(order(1000))
-            # A receive passes over 64 strangers, and then finds nothing: what came behind them comes after the next line.
-            station.player.say(b"", b"", b"tell 2:3 7")
-            for line in (b"", b"", b"tell 2:3 7"):
+            # A receive passes over 64 strangers, and then finds nothing: what came behind them is found by the next wait.
+            station.player.say(b"")
+            station.player.wait_for(lambda post=post, player=station.player: len(player.lines) >= len(post.entries))
+            station.player.say(b"tell 2:3 7")
+            for line in (b"", b"tell 2:3 7"):
                 post.take(line)
             outcome, left = station.ends()
             stranger.close()
@@ -240,7 +243,9 @@ def refused(trials, library, alone):
         is_refused = os.read(reader, 1) != b""
         os.close(reader)
         # Some refusals it gets over.
-        is_right = (outcome, left) == usual or is_refused and is_as_refused(outcome, left, station.sent())
+        # What is lost is not known where the system's list of sockets cannot be read, as here for want of memory.
+        known = outcome._replace(out=outcome.out.replace(b" lost=- ", b" lost=0 "))
+        is_right = (known, left) == usual or is_refused and is_as_refused(outcome, left, station.sent())
         which = f"allocation {first}{'' if alone else ' and all later'} refused"
         verdicts.append(Verdict(f"station, {which}", (True,), is_right))
         if not is_refused:

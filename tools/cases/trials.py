@@ -19,6 +19,11 @@ Case = namedtuple("Case", "words accepted given before behind", defaults=(b"", "
 Verdict = namedtuple("Verdict", "told expected came")
 
 
+def steady(out):
+    """What a station printed, with `buffer=N` for what the system gives."""
+    return re.sub(rb" buffer=\d+\n$", b" buffer=N\n", out)
+
+
 def first_lines(errors):
     """What is told on standard error, without the second lines of faults and without warnings.
 
@@ -102,7 +107,7 @@ class Trials:
         except subprocess.TimeoutExpired:
             return Outcome(f"none in {PATIENCE} seconds", b"", b"")
         is_whole = any(map(has_second_lines, case.accepted))
-        return Outcome(done.returncode, done.stdout or b"", done.stderr if is_whole else first_lines(done.stderr))
+        return Outcome(done.returncode, steady(done.stdout or b""), done.stderr if is_whole else first_lines(done.stderr))
 
     def verdict(self, case):
         return Verdict(told(case), case.accepted, self.run(case))

@@ -28,7 +28,7 @@ class Post(World):
                     self.take_line(line)
         self.address = address
         self.told, self.number, self.status = [], 0, 0
-        self.dropped = self.strangers = 0
+        self.dropped = self.strangers = self.others = 0
 
     def refuse(self, why):
         """Something is told of the line that was taken last."""
@@ -73,8 +73,12 @@ class Post(World):
         state = self.stations[self.address].entities.get(entity, 0)
         self.entries.append(struct.pack(">BHHB", TOLD, 0, entity, state))
 
-    def hear(self, datagram):
-        """A datagram comes, and is answered where an answer is due."""
+    def hear(self, datagram, keeps=False):
+        """A datagram comes from a peer, and is answered where an answer is due; of another protocol family it is passed over,
+        unless it keeps all."""
+        if not keeps and len(datagram) > 3 and datagram[3] != 5:
+            self.others += 1
+            return
         if len(datagram) > LONGEST_DATAGRAM:
             self.dropped += 1
             return
@@ -98,6 +102,6 @@ class Post(World):
         return b"".join(line + b"\n" for line in shown[-1 - len(self.entries) : -1])
 
     def outcome(self):
-        counts = f"station records={len(self.entries)} dropped={self.dropped} strangers={self.strangers}\n"
+        counts = f"station records={len(self.entries)} dropped={self.dropped} strangers={self.strangers} other={self.others} lost=0 buffer=N\n"
         return Outcome(self.status, self.lines() + counts.encode(), "".join(self.told).encode())
 

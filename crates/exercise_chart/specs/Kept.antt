@@ -1,13 +1,11 @@
 -- The columns of a picture: those of the stations that are kept, by rising index, from the left (profile).
-use Rattle.std.specs.Prelude.{◌≡◌, ℕ, zero, suc, ◌+◌, List, [], ◌∷◌, length, Bool, true, false, ◌&&◌, ◌||◌, ◌==◌, Option, Some, None, if◌then◌else◌}
+use Rattle.std.specs.Prelude.{◌≡◌, ℕ, zero, suc, ◌+◌, List, [], ◌∷◌, length, Bool, true, false, ◌||◌, Option, Some, None, if◌then◌else◌}
 use Rattle.dis_records.specs.declared.address.SiteApplication.{SiteApplication}
 use Rattle.exercise_chart.specs.declared.kept.KeptColumns.{KeptColumns}
 use Rattle.exercise_model.specs.Account.{values_below}
 use Rattle.exercise_model.specs.History.{station_at}
 use Rattle.exercise_model.specs.Recording.{PlainRecording}
-
-abbrev pub same_address : SiteApplication → SiteApplication → Bool
-same_address p q = (p.site == q.site) && (p.application == q.application)
+use Rattle.exercise_review.specs.Filter.{same_address}
 
 -- an address is among these
 abbrev pub has_address : List SiteApplication → SiteApplication → Bool

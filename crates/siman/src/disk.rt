@@ -1,11 +1,11 @@
 //! The operating system's files and sockets, as the `Outside` and the `Links` of the commands.
 
+use crate::host_line::HostLine;
 use crate::part::{PartFile, begin_part};
 use crate::sockets::{line_at, lines_of};
 use siman_console::{
-    Endpoint, FileKind, Known, Links, Outside, SystemCall, SystemFault, file_kind_of,
+    Endpoint, FileKind, Known, Links, Listening, Outside, SystemCall, SystemFault, file_kind_of,
 };
-use siman_lines::UdpLine;
 use std::alloc::Global;
 use std::fs::{File, Metadata, OpenOptions};
 use std::io::{ErrorKind, Read, Seek, SeekFrom, Stdin, Write};
@@ -315,6 +315,8 @@ impl Outside for Disk<'_> {
 
     fn close(&mut self, file: MadeFile) {
         self.keep_writes(&file);
+        // A device or a pipe has no disk to settle on, and answers so.
+        let _ = file.file.sync_all();
     }
 
     fn known(&self) -> Known {
@@ -322,10 +324,10 @@ impl Outside for Disk<'_> {
     }
 }
 
-impl Links for Disk<'_> {
-    type Line = UdpLine;
+impl<'a> Links for Disk<'a> {
+    type Line = HostLine<'a>;
 
-    fn lines(&mut self, alloc: Global, stations: usize) -> io::Result<Vec<UdpLine>> {
+    fn lines(&mut self, alloc: Global, stations: usize) -> io::Result<Vec<Self::Line>> {
         let lines = lines_of(self.rt, alloc, stations);
         self.keep(SystemCall::BindLoopback, lines)
     }
@@ -335,9 +337,9 @@ impl Links for Disk<'_> {
         alloc: Global,
         bind: Endpoint,
         peers: &[Endpoint],
-        anyone: bool,
-    ) -> io::Result<UdpLine> {
-        let line = line_at(self.rt, alloc, bind, peers, anyone);
+        listening: Listening,
+    ) -> io::Result<Self::Line> {
+        let line = line_at(self.rt, alloc, bind, peers, listening);
         self.keep(SystemCall::Bind(bind), line)
     }
 }

@@ -8,10 +8,13 @@
 #![tactic(auto)]
 
 mod disk;
+mod host_line;
 mod part;
 mod sockets;
+mod terminal;
 
 use crate::disk::disk_of;
+use crate::terminal::terminal_of;
 use siman_console::{end_at_terminal, run};
 use std::alloc::Global;
 use std::fs::File;
@@ -50,7 +53,7 @@ fn main(rt: HostRuntime) -> ExitCode {
         alloc,
         words,
         &mut disk_of(&rt),
-        rt.stdin(),
+        terminal_of(rt.stdin()),
         &mut out,
         &mut errors,
         &mut reasons,

@@ -36,7 +36,7 @@ deed_of done.Discarded = Discards None
 deed_of (done.LookedFor name taken) = LooksFor (letters_of name) taken
 deed_of (done.Created name failed) = Creates (letters_of name) (found_of failed)
 deed_of (done.Lined stations had) = Lines stations had
-deed_of (done.Bound bind peers anyone had) = Binds bind (endpoints_of peers) anyone had
+deed_of (done.Bound bind peers listening had) = Binds bind (endpoints_of peers) listening had
 deed_of done.Left = Leaves None
 
 abbrev pub deeds_of : Log Done (Unit {0}) → List Deed

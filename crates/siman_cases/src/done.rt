@@ -5,7 +5,7 @@ ghost use Rattle.siman_cases.specs.Done.{letters_of, endpoints_of, found_of, fou
 ghost use Rattle.siman_outside.specs.Outside.{count_result, call_result};
 
 use http_server::Log;
-use siman_console::Endpoint;
+use siman_console::{Endpoint, Listening};
 use std::io;
 use std::io::ErrorKind;
 
@@ -32,9 +32,9 @@ pub(crate) enum Done {
     Created(Letters, Option<ErrorKind>),
     /// Links for this many stations were requested; the number of links, or the error.
     Lined(usize, Result<usize, ErrorKind>),
-    /// A link was requested with its socket here and these peers; the bool is whether it hears
-    /// anyone instead of the peers alone. The result is success or the error.
-    Bound(Endpoint, Endpoints, bool, Result<(), ErrorKind>),
+    /// A link was requested with its socket here and these peers, and is to hear whom and what this
+    /// says. The result is success or the error.
+    Bound(Endpoint, Endpoints, Listening, Result<(), ErrorKind>),
     Left,
 }
 

@@ -18,7 +18,8 @@
 //! - `file NAME.later`: a file that appears under NAME while the program makes one there
 //! - `shut NAME`, `folder NAME`, `odd NAME`, `full NAME`: a file that can't be opened or made: no
 //!   permission, a directory, a file in place of a directory in its path, no memory
-//! - `input`: standard input, which is filled
+//! - `input`: standard input, which is filled; a `pause` in it: datagrams come to the station before
+//!   its next bytes do
 //! - `comes`: one more datagram that arrives on the link of a station, which is filled
 //! - `pause`: before the next datagram one receive finds nothing
 //! - `line-fails N`: the N-th call of links fails, from 1; 0: no link can be made

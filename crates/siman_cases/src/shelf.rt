@@ -6,7 +6,7 @@ ghost use Rattle.siman_cases.specs.Done.{deed_of, deeds_of};
 use crate::done::{Done, endpoints, failure, had, letters, number};
 use http_server::Log;
 use siman_console::{
-    Endpoint, FileKind, Known, Links, Outside, SystemCall, SystemFault, file_kind_of,
+    Endpoint, FileKind, Known, Links, Listening, Outside, SystemCall, SystemFault, file_kind_of,
 };
 use siman_trials::{
     Calls, Case, File, Given, WireLine, Written, found, line_with, lines_of, read_from, write_to,
@@ -294,11 +294,11 @@ impl<'a> Links for Shelf<'a> {
         alloc: Global,
         bind: Endpoint,
         peers: &[Endpoint],
-        anyone: bool,
+        listening: Listening,
     ) -> io::Result<WireLine> {
         let answer = self.have_line(alloc);
         self.keep(SystemCall::Bind(bind), &answer);
-        self.note(Done::Bound(bind, endpoints(peers), anyone, had(&answer)));
+        self.note(Done::Bound(bind, endpoints(peers), listening, had(&answer)));
         answer
     }
 }

@@ -17,6 +17,7 @@ use siman_file_commands::{
     AuditCommand, CheckCommand, ConvertCommand, ExportCommand, MendCommand, ShowCommand, end_lines,
     join_pieces, show_word, why_named,
 };
+use siman_lines::Input;
 use siman_outside::{
     Ended, Ending, Fault, NoWord, Notes, OneWord, Outside, Task, TwoWords, ViewWord, asks_help,
     conclude, explained, make_of_file, named_by, nothing_named, of_error, read_words, say_of_file,
@@ -25,7 +26,7 @@ use siman_outside::{
 use siman_print::Spelling;
 use std::alloc::{AllocError, Global};
 use std::io;
-use std::io::{Read, Write};
+use std::io::Write;
 
 /// Runs a command with one word, and returns its status.
 fn do_one<'a, O: Outside, W: Write>(
@@ -57,7 +58,7 @@ fn end_two<'a, O: Links, W: Write, E: Write>(
     errors: &mut E,
     notes: &mut Notes,
 ) -> Ending<'a>
-    ensures { let told : Telling O.Line = record { received = O.Line.received; sent = O.Line.sent; failures = O.Line.failures; strangers = O.Line.strangers } in
+    ensures { let told : Telling O.Line = record { received = O.Line.received; sent = O.Line.sent; failures = O.Line.failures; passed = O.Line.passed } in
         Did O.deeds O.holds outside.old outside.new (λ deeds. EndsTwo told command words.entry.0.now words.entry.1.now words.entry.2 deeds (outcome_of result (stream (W.contents out.old) (W.contents out.new)) (stream (E.contents errors.old) (E.contents errors.new)))) }
 {
     let (first, second, force) = words;
@@ -112,7 +113,7 @@ fn do_view<'a, O: Outside, W: Write>(
 }
 
 /// Runs a task, and ends it.
-fn end_task<'a, O: Links, R: Read + Drop, W: Write, E: Write>(
+fn end_task<'a, O: Links, R: Input<O::Line> + Drop, W: Write, E: Write>(
     alloc: Global,
     task: Task<'a, &'a str>,
     outside: &mut O,
@@ -121,7 +122,7 @@ fn end_task<'a, O: Links, R: Read + Drop, W: Write, E: Write>(
     errors: &mut E,
     notes: &mut Notes,
 ) -> Ending<'a>
-    ensures { let told : Telling O.Line = record { received = O.Line.received; sent = O.Line.sent; failures = O.Line.failures; strangers = O.Line.strangers } in
+    ensures { let told : Telling O.Line = record { received = O.Line.received; sent = O.Line.sent; failures = O.Line.failures; passed = O.Line.passed } in
         Did O.deeds O.holds outside.old outside.new (λ deeds. EndsTask told (asked_by (λ word. word.now) task.entry) deeds (R.remaining input) (outcome_of result (stream (W.contents out.old) (W.contents out.new)) (stream (E.contents errors.old) (E.contents errors.new)))) }
 {
     match task {
@@ -164,7 +165,7 @@ fn end_task<'a, O: Links, R: Read + Drop, W: Write, E: Write>(
 
 /// Reads the words of a command line, runs their task or writes the help or the fault of usage, and
 /// writes the reason of a fault behind its first line.
-fn end_words<O: Links, R: Read + Drop, W: Write, E: Write, S: Write>(
+fn end_words<O: Links, R: Input<O::Line> + Drop, W: Write, E: Write, S: Write>(
     alloc: Global,
     words: &[String],
     outside: &mut O,
@@ -173,7 +174,7 @@ fn end_words<O: Links, R: Read + Drop, W: Write, E: Write, S: Write>(
     errors: &mut E,
     reasons: &mut S,
 ) -> Ended
-    ensures { let told : Telling O.Line = record { received = O.Line.received; sent = O.Line.sent; failures = O.Line.failures; strangers = O.Line.strangers } in
+    ensures { let told : Telling O.Line = record { received = O.Line.received; sent = O.Line.sent; failures = O.Line.failures; passed = O.Line.passed } in
         Did O.deeds O.holds outside.old outside.new (λ deeds. EndsExplained (EndsWords told (map string_bytes words.now) deeds (R.remaining input)) result (stream (W.contents out.old) (W.contents out.new)) (stream (E.contents errors.old) (E.contents errors.new)) (stream (S.contents reasons.old) (S.contents reasons.new))) }
 {
     let line = match read_words(alloc, words) {
@@ -204,7 +205,7 @@ fn end_words<O: Links, R: Read + Drop, W: Write, E: Write, S: Write>(
 /// is something to write. Answers and help are written to `out`, the first lines of faults to
 /// `errors`, and the reason of the fault that ended the command to `reasons`, behind its first
 /// line: a line that begins with two blanks. `reasons` also gets warnings.
-pub fn run<O: Links, R: Read + Drop, W: Write, E: Write, S: Write>(
+pub fn run<O: Links, R: Input<O::Line> + Drop, W: Write, E: Write, S: Write>(
     alloc: Global,
     words: io::Result<Vec<String>>,
     outside: &mut O,
@@ -213,7 +214,7 @@ pub fn run<O: Links, R: Read + Drop, W: Write, E: Write, S: Write>(
     errors: &mut E,
     reasons: &mut S,
 ) -> Ended
-    ensures { let told : Telling O.Line = record { received = O.Line.received; sent = O.Line.sent; failures = O.Line.failures; strangers = O.Line.strangers } in
+    ensures { let told : Telling O.Line = record { received = O.Line.received; sent = O.Line.sent; failures = O.Line.failures; passed = O.Line.passed } in
         Did O.deeds O.holds outside.old outside.new (λ deeds. EndsExplained (EndsProgram told (words_by error_kind words) deeds (R.remaining input)) result (stream (W.contents out.old) (W.contents out.new)) (stream (E.contents errors.old) (E.contents errors.new)) (stream (S.contents reasons.old) (S.contents reasons.new))) }
 {
     match words {

@@ -1,4 +1,5 @@
 -- What `station` does with a script and its words, and how it ends (profile).
+use Rattle.siman_lines.specs.declared.line.PassedOver.{PassedOver}
 use Rattle.std.specs.Prelude.{◌≡◌, ◌⊎◌, ⊤, ℕ, ◌+◌, true, false, List, [], ◌∷◌, ◌++◌, length, map, codes, is_some, Option, Some, None, Result, Ok, Err, Vec, if◌then◌else◌}
 use Rattle.std.specs.declared.alloc.Global.{Global}
 use Rattle.std.specs.Io.KnownBytes.{Keeps}
@@ -63,7 +64,7 @@ pub record IsPlaced (asked : StationAsked) (placed : Placed) : Type 0 where
   pub address : address_of asked.address ≡ Some placed.address
   pub bind : endpoint_of asked.bind ≡ Some placed.bind
   pub peers : map endpoint_of asked.peers ≡ map Some placed.peers.items
-  pub anyone : placed.anyone ≡ asked.anyone
+  pub listening : placed.listening ≡ asked.listening
   pub name : placed.name.now ≡ asked.recording
   pub room : length placed.room.items ≡ LONGEST_LINE + 1
 
@@ -124,49 +125,49 @@ abbrev pub PlaysNone : Fault → List Deed → Played → Streams → Type 0
 PlaysNone fault deeds played s = (deeds ≡ []) × (played ≡ Err fault) × Keeps s.out.old s.out.new × Keeps s.errors.old s.errors.new
 
 -- A FILE IS CREATED, in which the station records what it does with the lines of standard input, and is closed
-abbrev pub CreatesPlayed : {L : Type 0} → (strangers : L → ℕ) → ReadyStation L → (name : List ℕ) → (input : Option (List ℕ)) → List Deed → Played → Streams → Type 0
-CreatesPlayed strangers ready name input (Creates made (Err kind) ∷ []) played s =
+abbrev pub CreatesPlayed : {L : Type 0} → (passed : L → PassedOver) → ReadyStation L → (name : List ℕ) → (input : Option (List ℕ)) → List Deed → Played → Streams → Type 0
+CreatesPlayed passed ready name input (Creates made (Err kind) ∷ []) played s =
     (made ≡ name) × ((fault : Fault) × IsCreationFault kind fault × PlaysNone fault [] played s)
-CreatesPlayed strangers ready name input (Creates made (Ok fresh) ∷ Leaves left ∷ []) played s =
+CreatesPlayed passed ready name input (Creates made (Ok fresh) ∷ Leaves left ∷ []) played s =
     (made ≡ name)
-    × ((told : SessionReport) × (played ≡ Ok told) × Records strangers input ready fresh left s.out.old s.out.new s.errors.old s.errors.new told
+    × ((told : SessionReport) × (played ≡ Ok told) × Records passed input ready fresh left s.out.old s.out.new s.errors.old s.errors.new told
     × IsLeft (open_setting ready.head) ready.station.node.application.outfit told.status fresh left)
-CreatesPlayed strangers ready name input deeds played s = ⊥
+CreatesPlayed passed ready name input deeds played s = ⊥
 
 -- THE STATION IS ATTACHED TO ITS LINK as it was set up, among the stations of its script; it is not if memory runs
 -- out
-abbrev pub IsAttached : {L : Type 0} → (strangers : L → ℕ) → SetUp → (address : SiteApplication) → (name : List ℕ) → (input : Option (List ℕ)) → List Deed → Played → Streams → Type 0
-IsAttached {L} strangers set_up address name input deeds played s =
+abbrev pub IsAttached : {L : Type 0} → (passed : L → PassedOver) → SetUp → (address : SiteApplication) → (name : List ℕ) → (input : Option (List ℕ)) → List Deed → Played → Streams → Type 0
+IsAttached {L} passed set_up address name input deeds played s =
     PlaysNone Memory deeds played s
     ⊎ ((ready : ReadyStation L) × (ready.head ≡ set_up.head) × IsAtLink set_up.node ready.station × (ready.address ≡ address)
-    × (ready.stations ≡ set_up.stations) × CreatesPlayed strangers ready name input deeds played s)
+    × (ready.stations ≡ set_up.stations) × CreatesPlayed passed ready name input deeds played s)
 
 -- ITS LINK is requested, with the endpoints that the words name; if there is none, the fault is `live: line`, or
 -- that memory ran out
-abbrev pub HasLine : {L : Type 0} → (strangers : L → ℕ) → SetUp → Placed → (name : List ℕ) → (input : Option (List ℕ)) → List Deed → Played → Streams → Type 0
-HasLine strangers set_up placed name input (Binds bind peers anyone (Err kind) ∷ deeds) played s =
-    (bind ≡ placed.bind) × (peers ≡ placed.peers.items) × (anyone ≡ placed.anyone)
+abbrev pub HasLine : {L : Type 0} → (passed : L → PassedOver) → SetUp → Placed → (name : List ℕ) → (input : Option (List ℕ)) → List Deed → Played → Streams → Type 0
+HasLine passed set_up placed name input (Binds bind peers listening (Err kind) ∷ deeds) played s =
+    (bind ≡ placed.bind) × (peers ≡ placed.peers.items) × (listening ≡ placed.listening)
     × ((fault : Fault) × IsFaultOf kind LineFailed fault × PlaysNone fault deeds played s)
-HasLine strangers set_up placed name input (Binds bind peers anyone (Ok x) ∷ deeds) played s =
-    (bind ≡ placed.bind) × (peers ≡ placed.peers.items) × (anyone ≡ placed.anyone) × IsAttached strangers set_up placed.address name input deeds played s
-HasLine strangers set_up placed name input deeds played s = ⊥
+HasLine passed set_up placed name input (Binds bind peers listening (Ok x) ∷ deeds) played s =
+    (bind ≡ placed.bind) × (peers ≡ placed.peers.items) × (listening ≡ placed.listening) × IsAttached passed set_up placed.address name input deeds played s
+HasLine passed set_up placed name input deeds played s = ⊥
 
 -- A FILE OF THE RECORDING'S NAME EXISTS: nothing is done, and no link is requested
-abbrev pub PlaysSetUp : {L : Type 0} → (strangers : L → ℕ) → SetUp → Placed → (name : List ℕ) → (input : Option (List ℕ)) → List Deed → Played → Streams → Type 0
-PlaysSetUp strangers set_up placed name input (LooksFor looked true ∷ deeds) played s = (looked ≡ name) × PlaysNone Exists deeds played s
-PlaysSetUp strangers set_up placed name input (LooksFor looked false ∷ deeds) played s =
-    (looked ≡ name) × HasLine strangers set_up placed name input deeds played s
-PlaysSetUp strangers set_up placed name input deeds played s = ⊥
+abbrev pub PlaysSetUp : {L : Type 0} → (passed : L → PassedOver) → SetUp → Placed → (name : List ℕ) → (input : Option (List ℕ)) → List Deed → Played → Streams → Type 0
+PlaysSetUp passed set_up placed name input (LooksFor looked true ∷ deeds) played s = (looked ≡ name) × PlaysNone Exists deeds played s
+PlaysSetUp passed set_up placed name input (LooksFor looked false ∷ deeds) played s =
+    (looked ≡ name) × HasLine passed set_up placed name input deeds played s
+PlaysSetUp passed set_up placed name input deeds played s = ⊥
 
 -- THE SCRIPT IS OPENED and read, and its station set up
-abbrev pub PlaysFile : {L : Type 0} → (strangers : L → ℕ) → StationAsked → Placed → (input : Option (List ℕ)) → List Deed → Played → Streams → Type 0
-PlaysFile strangers asked placed input (Opens opened (Err kind) ∷ deeds) played s =
+abbrev pub PlaysFile : {L : Type 0} → (passed : L → PassedOver) → StationAsked → Placed → (input : Option (List ℕ)) → List Deed → Played → Streams → Type 0
+PlaysFile passed asked placed input (Opens opened (Err kind) ∷ deeds) played s =
     (opened ≡ asked.setup) × ((fault : Fault) × IsOpenFault asked.setup kind fault × PlaysNone fault deeds played s)
-PlaysFile strangers asked placed input (Opens opened (Ok known) ∷ Reads read ∷ deeds) played s =
+PlaysFile passed asked placed input (Opens opened (Ok known) ∷ Reads read ∷ deeds) played s =
     (opened ≡ asked.setup) × (read ≡ known)
     × (((fault : Fault) × SetsUpFile known placed.address (Err fault) × PlaysNone fault deeds played s)
-    ⊎ ((set_up : SetUp) × SetsUpFile known placed.address (Ok set_up) × PlaysSetUp strangers set_up placed asked.recording input deeds played s))
-PlaysFile strangers asked placed input deeds played s = ⊥
+    ⊎ ((set_up : SetUp) × SetsUpFile known placed.address (Ok set_up) × PlaysSetUp passed set_up placed asked.recording input deeds played s))
+PlaysFile passed asked placed input deeds played s = ⊥
 
 -- THE END OF `station`: the result of its session, or its fault, which is then reported
 abbrev pub EndsPlayed : Played → Ended → (old new : Option (List ℕ)) → Type 0
@@ -179,10 +180,10 @@ played_fault played = result_err played
 
 -- the effect of `station`: nothing, if a word is no address. The session itself reports a recording that it began
 -- and could not end.
-abbrev pub EndsStation : {L : Type 0} → (strangers : L → ℕ) → StationAsked → List Deed → (input : Option (List ℕ)) → Outcome → Type 0
-EndsStation strangers asked deeds input o =
+abbrev pub EndsStation : {L : Type 0} → (passed : L → PassedOver) → StationAsked → List Deed → (input : Option (List ℕ)) → Outcome → Type 0
+EndsStation passed asked deeds input o =
     (o.begun ≡ None)
     × (((fault : Fault) × Places asked (Err fault) × (deeds ≡ []) × Keeps o.out.old o.out.new × Ends (Err fault) o.ended o.errors.old o.errors.new × (o.fault ≡ Some fault))
     ⊎ ((placed : Placed) × (played : Played) × (mid : Option (List ℕ)) × IsPlaced asked placed
-    × (let s : Streams = record { out = o.out; errors = record { old = o.errors.old; new = mid } } in PlaysFile strangers asked placed input deeds played s)
+    × (let s : Streams = record { out = o.out; errors = record { old = o.errors.old; new = mid } } in PlaysFile passed asked placed input deeds played s)
     × EndsPlayed played o.ended mid o.errors.new × (o.fault ≡ played_fault played)))

@@ -1,7 +1,7 @@
 //! The links that a program may open, beside its files.
 
 use siman_lines::Line;
-use siman_outside::{Endpoint, Outside};
+use siman_outside::{Endpoint, Listening, Outside};
 use std::alloc::Global;
 use std::io;
 
@@ -22,13 +22,13 @@ pub trait Links: Outside {
         ensures unused { IfOk result (λ lines. (number : ℕ) (l : Self.Line) → slice_get lines.items number ≡ Some l → IsUnused (Self.Line.sent l)) };
 
     /// The link of one station: a socket bound to `bind` that may broadcast. It sends to each of
-    /// `peers`, and hears them alone, or anyone (`anyone`). No file is opened or made.
+    /// `peers`, and hears whom and what `listening` says. No file is opened or made.
     fn line_at(
         &mut self,
         alloc: Global,
         bind: Endpoint,
         peers: &[Endpoint],
-        anyone: bool,
+        listening: Listening,
     ) -> io::Result<Self::Line>
-        ensures done { Adds (Self.deeds self.old) (Self.deeds self.new) (Binds bind peers.now anyone (call_result result) ∷ []) };
+        ensures done { Adds (Self.deeds self.old) (Self.deeds self.new) (Binds bind peers.now listening (call_result result) ∷ []) };
 }

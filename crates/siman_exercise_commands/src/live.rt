@@ -145,9 +145,9 @@ fn create_live<O: Links, W: Write>(
     outside: &mut O,
     out: &mut W,
 ) -> Lived<'static>
-    requires { let told : Telling O.Line = record { received = O.Line.received; sent = O.Line.sent; failures = O.Line.failures; strangers = O.Line.strangers } in
+    requires { let told : Telling O.Line = record { received = O.Line.received; sent = O.Line.sent; failures = O.Line.failures; passed = O.Line.passed } in
         IsSetting head.now.setting → AreFresh told head.now.setting stations.items }
-    ensures { let told : Telling O.Line = record { received = O.Line.received; sent = O.Line.sent; failures = O.Line.failures; strangers = O.Line.strangers } in
+    ensures { let told : Telling O.Line = record { received = O.Line.received; sent = O.Line.sent; failures = O.Line.failures; passed = O.Line.passed } in
         DidMake O.deeds outside.old outside.new (λ deeds. CreatesLived told head.now.setting moves.items stations.items name.now deeds result.answered (stream (W.contents out.old) (W.contents out.new)) × (result.created ≡ is_created deeds)) }
 {
     match outside.create(name) {
@@ -176,7 +176,7 @@ fn live_at_lines<O: Links, W: Write>(
     out: &mut W,
 ) -> Lived<'static>
     requires { AreNew begun.recording.setting begun.nodes.items }
-    ensures { let told : Telling O.Line = record { received = O.Line.received; sent = O.Line.sent; failures = O.Line.failures; strangers = O.Line.strangers } in
+    ensures { let told : Telling O.Line = record { received = O.Line.received; sent = O.Line.sent; failures = O.Line.failures; passed = O.Line.passed } in
         DidMake O.deeds outside.old outside.new (λ deeds. LivesAtLines told begun name.now deeds result.answered (stream (W.contents out.old) (W.contents out.new)) × (result.created ≡ is_created deeds)) }
 {
     let Begun {
@@ -205,7 +205,7 @@ fn live_begun<O: Links, W: Write>(
     out: &mut W,
 ) -> Lived<'static>
     requires { AreNew begun.recording.setting begun.nodes.items }
-    ensures { let told : Telling O.Line = record { received = O.Line.received; sent = O.Line.sent; failures = O.Line.failures; strangers = O.Line.strangers } in
+    ensures { let told : Telling O.Line = record { received = O.Line.received; sent = O.Line.sent; failures = O.Line.failures; passed = O.Line.passed } in
         DidMake O.deeds outside.old outside.new (λ deeds. LivesBegun told begun name.now deeds result.answered (stream (W.contents out.old) (W.contents out.new)) × (result.created ≡ is_created deeds)) }
 {
     if outside.is_taken(name) {
@@ -241,7 +241,7 @@ fn live_text<O: Links, W: Write>(
     out: &mut W,
 ) -> Lived<'static>
     requires { AreNew script.begun.recording.setting script.begun.nodes.items }
-    ensures { let told : Telling O.Line = record { received = O.Line.received; sent = O.Line.sent; failures = O.Line.failures; strangers = O.Line.strangers } in
+    ensures { let told : Telling O.Line = record { received = O.Line.received; sent = O.Line.sent; failures = O.Line.failures; passed = O.Line.passed } in
         DidMake O.deeds outside.old outside.new (λ deeds. LivesText told script name.now deeds result.answered (stream (W.contents out.old) (W.contents out.new)) × (result.created ≡ is_created deeds)) }
 {
     let BegunText { begun, text } = script;
@@ -262,7 +262,7 @@ fn live_of_file<'a, O: Links, W: Write>(
     out: &mut W,
     notes: &mut Notes,
 ) -> Lived<'a>
-    ensures { let told : Telling O.Line = record { received = O.Line.received; sent = O.Line.sent; failures = O.Line.failures; strangers = O.Line.strangers } in
+    ensures { let told : Telling O.Line = record { received = O.Line.received; sent = O.Line.sent; failures = O.Line.failures; passed = O.Line.passed } in
         Did O.deeds O.holds outside.old outside.new (λ deeds. WorksOn BeginsFile (LivesText told) names.entry.0.now names.entry.1.now deeds result.answered (stream (W.contents out.old) (W.contents out.new)) × (result.created ≡ is_created deeds)) }
 {
     match open_input(names, outside) {
@@ -295,7 +295,7 @@ pub fn end_live<'a, O: Links, W: Write, E: Write>(
     out: &mut W,
     errors: &mut E,
 ) -> Ending<'a>
-    ensures { let told : Telling O.Line = record { received = O.Line.received; sent = O.Line.sent; failures = O.Line.failures; strangers = O.Line.strangers } in
+    ensures { let told : Telling O.Line = record { received = O.Line.received; sent = O.Line.sent; failures = O.Line.failures; passed = O.Line.passed } in
         Did O.deeds O.holds outside.old outside.new (λ deeds. EndsLive told words.entry.0.now words.entry.1.now deeds (outcome_of result (stream (W.contents out.old) (W.contents out.new)) (stream (E.contents errors.old) (E.contents errors.new)))) }
 {
     let mut notes = Notes::nothing();

@@ -14,14 +14,14 @@ use crate::explained::refused;
 use crate::links::Links;
 use crate::live::creation_fault;
 use dis_records::Address;
-use siman_lines::Line;
+use siman_lines::{Input, Line};
 use siman_operator::{
     LONGEST_LINE, ReadyStation, SessionRecording, SessionReport, SetUp, SetUpFault, attach_station,
     record_session, set_up,
 };
 use siman_outside::{
-    Ended, Ending, Endpoint, Fault, StationWords, conclude, end, endpoint_of, of_error, open_fault,
-    read_text,
+    Ended, Ending, Endpoint, Fault, Listening, StationWords, conclude, end, endpoint_of, of_error,
+    open_fault, read_text,
 };
 use siman_scripts::{LARGEST_SCRIPT, Script, address_of, read_script};
 use std::alloc::Global;
@@ -34,8 +34,8 @@ struct Placed<'a> {
     address: Address,
     bind: Endpoint,
     peers: Vec<Endpoint>,
-    /// Whether it accepts datagrams from anyone, not from its peers alone.
-    anyone: bool,
+    /// Whom it hears, and what.
+    listening: Listening,
     name: &'a str,
     room: Vec<u8>,
 }
@@ -88,7 +88,7 @@ fn place<'a>(alloc: Global, words: &StationWords<'a, &'a str>) -> Result<Placed<
         address,
         bind,
         peers,
-        anyone: words.anyone,
+        listening: words.listening,
         name: words.recording,
         room,
     })
@@ -142,7 +142,7 @@ fn set_up_file<R: Read + Drop>(
 
 /// Creates the file of a recording, and plays a station at its link by the lines of a reader,
 /// recorded in that file.
-fn create_played<O: Links, R: Read, W: Write, E: Write>(
+fn create_played<O: Links, R: Input<O::Line>, W: Write, E: Write>(
     alloc: Global,
     ready: ReadyStation<O::Line>,
     placed: Placed<'_>,
@@ -154,7 +154,7 @@ fn create_played<O: Links, R: Read, W: Write, E: Write>(
     requires room { length placed.room.items ≡ LONGEST_LINE + 1 }
     requires ready { IsReady ready }
     ensures { let s : Streams = record { out = record { old = W.contents out.old; new = W.contents out.new }; errors = record { old = E.contents errors.old; new = E.contents errors.new } } in
-        DidMake O.deeds outside.old outside.new (λ deeds. CreatesPlayed O.Line.strangers ready placed.entry.name.now (R.remaining input.old) deeds result s) }
+        DidMake O.deeds outside.old outside.new (λ deeds. CreatesPlayed O.Line.passed ready placed.entry.name.now (R.remaining input.old) deeds result s) }
 {
     let mut placed = placed;
     match outside.create(placed.name) {
@@ -173,7 +173,7 @@ fn create_played<O: Links, R: Read, W: Write, E: Write>(
 }
 
 /// Requests the link of a configured station, attaches the station, and plays it there.
-fn open_and_play<O: Links, R: Read, W: Write, E: Write>(
+fn open_and_play<O: Links, R: Input<O::Line>, W: Write, E: Write>(
     alloc: Global,
     set_up: SetUp,
     placed: Placed<'_>,
@@ -185,9 +185,9 @@ fn open_and_play<O: Links, R: Read, W: Write, E: Write>(
     requires room { length placed.room.items ≡ LONGEST_LINE + 1 }
     requires set_up { IsOfScript set_up }
     ensures { let s : Streams = record { out = record { old = W.contents out.old; new = W.contents out.new }; errors = record { old = E.contents errors.old; new = E.contents errors.new } } in
-        DidMake O.deeds outside.old outside.new (λ deeds. HasLine O.Line.strangers set_up placed.entry placed.entry.name.now (R.remaining input.old) deeds result s) }
+        DidMake O.deeds outside.old outside.new (λ deeds. HasLine O.Line.passed set_up placed.entry placed.entry.name.now (R.remaining input.old) deeds result s) }
 {
-    let line = match outside.line_at(alloc, placed.bind, &placed.peers, placed.anyone) {
+    let line = match outside.line_at(alloc, placed.bind, &placed.peers, placed.listening) {
         Ok(line) => line,
         Err(error) => {
             drop(set_up);
@@ -205,7 +205,7 @@ fn open_and_play<O: Links, R: Read, W: Write, E: Write>(
 }
 
 /// Plays a configured station, with a new recording file. Refuses if a file of this name exists.
-fn play_set_up<O: Links, R: Read, W: Write, E: Write>(
+fn play_set_up<O: Links, R: Input<O::Line>, W: Write, E: Write>(
     alloc: Global,
     set_up: SetUp,
     placed: Placed<'_>,
@@ -217,7 +217,7 @@ fn play_set_up<O: Links, R: Read, W: Write, E: Write>(
     requires room { length placed.room.items ≡ LONGEST_LINE + 1 }
     requires set_up { IsOfScript set_up }
     ensures { let s : Streams = record { out = record { old = W.contents out.old; new = W.contents out.new }; errors = record { old = E.contents errors.old; new = E.contents errors.new } } in
-        DidMake O.deeds outside.old outside.new (λ deeds. PlaysSetUp O.Line.strangers set_up placed.entry placed.entry.name.now (R.remaining input.old) deeds result s) }
+        DidMake O.deeds outside.old outside.new (λ deeds. PlaysSetUp O.Line.passed set_up placed.entry placed.entry.name.now (R.remaining input.old) deeds result s) }
 {
     if outside.is_taken(placed.name) {
         drop(set_up);
@@ -228,7 +228,7 @@ fn play_set_up<O: Links, R: Read, W: Write, E: Write>(
 }
 
 /// Opens the script that the words name, and plays its station.
-fn play_file<'a, O: Links, R: Read, W: Write, E: Write>(
+fn play_file<'a, O: Links, R: Input<O::Line>, W: Write, E: Write>(
     alloc: Global,
     words: &StationWords<'a, &'a str>,
     placed: Placed<'a>,
@@ -240,7 +240,7 @@ fn play_file<'a, O: Links, R: Read, W: Write, E: Write>(
     requires room { length placed.room.items ≡ LONGEST_LINE + 1 }
     requires name { placed.name.now ≡ words.now.recording.now }
     ensures { let s : Streams = record { out = record { old = W.contents out.old; new = W.contents out.new }; errors = record { old = E.contents errors.old; new = E.contents errors.new } } in
-        Did O.deeds O.holds outside.old outside.new (λ deeds. PlaysFile O.Line.strangers (named_by (λ word. word.now) words.now) placed.entry (R.remaining input.old) deeds result s) }
+        Did O.deeds O.holds outside.old outside.new (λ deeds. PlaysFile O.Line.passed (named_by (λ word. word.now) words.now) placed.entry (R.remaining input.old) deeds result s) }
 {
     let opened = match outside.open(words.setup) {
         Ok(opened) => opened,
@@ -267,7 +267,7 @@ fn end_played<E: Write>(played: Result<SessionReport, Fault<'_>>, errors: &mut E
 
 /// Plays a station of a script with these words, by the lines of a reader, and returns its ending,
 /// with a fault reported on `errors`.
-pub fn end_station<'a, O: Links, R: Read + Drop, W: Write, E: Write>(
+pub fn end_station<'a, O: Links, R: Input<O::Line> + Drop, W: Write, E: Write>(
     alloc: Global,
     words: StationWords<'a, &'a str>,
     outside: &mut O,
@@ -275,7 +275,7 @@ pub fn end_station<'a, O: Links, R: Read + Drop, W: Write, E: Write>(
     out: &mut W,
     errors: &mut E,
 ) -> Ending<'a>
-    ensures { Did O.deeds O.holds outside.old outside.new (λ deeds. EndsStation O.Line.strangers (named_by (λ word. word.now) words.entry) deeds (R.remaining input) (outcome_of result (stream (W.contents out.old) (W.contents out.new)) (stream (E.contents errors.old) (E.contents errors.new)))) }
+    ensures { Did O.deeds O.holds outside.old outside.new (λ deeds. EndsStation O.Line.passed (named_by (λ word. word.now) words.entry) deeds (R.remaining input) (outcome_of result (stream (W.contents out.old) (W.contents out.new)) (stream (E.contents errors.old) (E.contents errors.new)))) }
 {
     let placed = match place(alloc, &words) {
         Ok(placed) => placed,

@@ -1,7 +1,7 @@
 //! Runs of the program with words, files in memory and standard input, in which every call of the
 //! system succeeds.
 
-use siman_console::{Endpoint, Known, Links, Outside, run};
+use siman_console::{Endpoint, Known, Links, Listening, Outside, run};
 use siman_trials::{Given, WELL, WireLine, Written, lines_of, read_from, write_to};
 use std::alloc::Global;
 use std::io;
@@ -111,7 +111,7 @@ impl<'a> Links for MemoryFiles<'a> {
         alloc: Global,
         _bind: Endpoint,
         _peers: &[Endpoint],
-        _anyone: bool,
+        _listening: Listening,
     ) -> io::Result<WireLine> {
         let mut lines = lines_of(alloc, 1, None)?;
         match lines.pop() {
@@ -220,7 +220,10 @@ impl Ran {
             2 => self.errors.starts_with(b"line "),
             _ => false,
         };
-        told && self.left.is_some() && self.out.ends_with(b" strangers=0\n")
+        told && self.left.is_some()
+            && self
+                .out
+                .ends_with(b" strangers=0 other=0 lost=- buffer=-\n")
     }
 
     /// Whether the run made moves up to one that can't be made, reported that one, and left the

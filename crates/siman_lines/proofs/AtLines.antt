@@ -5,12 +5,12 @@ use Rattle.std.specs.List.{AllByRecursion}
 use Rattle.std.proofs.lemmas.Bool.Decides.{nat_tests}
 use Rattle.std.proofs.lemmas.Option.{slice_get-get_or}
 use Rattle.exercise_model.specs.Entry.{Entry}
-use Rattle.exercise_model.specs.Setting.{SettingData, IsSetting}
+use Rattle.exercise_model.specs.Setting.{SettingData}
 use Rattle.exercise_recording.specs.Writer.{WriterState, Starts}
 use Rattle.siman_stations.specs.declared.turn.Node.{Node}
 use Rattle.siman_lines.specs.declared.station_at_line.StationAtLine.{StationAtLine}
-use Rattle.siman_lines.specs.AtLines.{Telling, AtLines, IsPost, Are, Leads, Follows, AreFresh, HasRecorded}
-use Rattle.siman_lines.specs.Calls.{IsFresh, Stations, HasStation, AreCalls, AreBegun, ComesOfCalls}
+use Rattle.siman_lines.specs.AtLines.{Telling, AtLines, Are, Leads, Follows, AreFresh, HasRecorded}
+use Rattle.siman_lines.specs.Calls.{IsFresh, Stations, HasStation, AreBegun, ComesOfCalls}
 use Rattle.siman_lines.specs.KeptAtLine.{IsWritten}
 use Rattle.siman_lines.specs.LineDatagrams.{Datagrams}
 use Rattle.siman_lines.proofs.Coming.{comes}

@@ -1,6 +1,6 @@
 -- WHERE ALL STATIONS OF A RECORDING ARE KEPT, and each datagram that was received was sent before, no identifier stands for two orders: the identifiers of each manager are distinct, and so are the addresses.
 use Rattle.std.proofs.Common.{◌≡◌, ⊎_elim, ℕ, ◌+◌, ◌<◌, List, [], ◌∷◌, length, refl, ap, sym, ◌∙◌, subst, ◌⊎◌, inl, inr, arith}
-use Rattle.std.specs.Prelude.{Bool, true, false, ◌==◌, ◌&&◌, cond, slice_get, Option, Some, None, option_map}
+use Rattle.std.specs.Prelude.{true, false, ◌==◌, cond, slice_get, Option, Some, None, option_map}
 use Rattle.std.specs.List.{AllByRecursion, list_any}
 use Rattle.std.proofs.lemmas.Bool.{and_parts, and_from, eq-eqb, eqb-true, or_cases, or_right}
 use Rattle.std.proofs.lemmas.Option.{same_Some}
@@ -11,14 +11,11 @@ use Rattle.siman_pdus.specs.Answers.{same_id, same_pair}
 use Rattle.siman_pdus.specs.Role.{request_id_of, is_request_body}
 use Rattle.siman_pdus.specs.Same.{IsSameOrder}
 use Rattle.exercise_model.specs.Cause.{sends, was_sent}
-use Rattle.exercise_model.specs.Entry.{Entry}
 use Rattle.exercise_model.specs.History.{Event, Send, Get, Tell, History, station_of, past, log_at}
 use Rattle.exercise_model.specs.Meaning.{meaning}
-use Rattle.exercise_model.specs.Account.{sender_of}
 use Rattle.exercise_model.specs.Recording.{PlainRecording, IsRecording}
 use Rattle.exercise_model.specs.Setting.{SettingData, station_in, is_from}
 use Rattle.exercise_model.proofs.Offered.{sender_found}
-use Rattle.siman_application.specs.Distinct.{is_under_key}
 use Rattle.siman_application.specs.AppProfile.{AppProfile}
 use Rattle.siman_application.specs.OwnLog.{HasGet, AreOneOrder}
 use Rattle.siman_manager.specs.declared.kept.MadeOrder.{MadeOrder}

@@ -39,7 +39,7 @@ use Rattle.siman_lines.specs.Serving.{State, HasTaken, LosesSend, BreaksTurn, Se
 use Rattle.siman_lines.specs.Ordering.{Rests, Makes, IssueEnds, NudgeEnds}
 use Rattle.siman_lines.specs.KeptAtLine.{IsWritten, IsClosed, HasSent, AreHanded, IsOfStation, IsKept, KeepsOn, Keeps}
 use Rattle.siman_lines.proofs.Growth.{same_itself}
-use Rattle.siman_lines.proofs.Hearing.{own_entries, hear_all}
+use Rattle.siman_lines.proofs.Hears.{own_entries, hear_all}
 use Rattle.siman_lines.proofs.Writings.{is_open, written_one, written_none, written_all, setting_none, setting_all, closed_none, closed_all}
 
 -- What was handed to the line.

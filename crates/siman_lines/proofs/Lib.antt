@@ -4,7 +4,7 @@ pub mod Taking
 pub mod ServedTurns
 pub mod Ordered
 pub mod Writings
-pub mod Hearing
+pub mod Hears
 pub mod Keeping
 pub mod States
 pub mod Stations
@@ -14,3 +14,6 @@ pub mod Refusing
 pub mod Rounds
 pub mod AtLines
 pub mod Offered
+pub mod Addresses
+pub mod Sockets
+pub mod Passing

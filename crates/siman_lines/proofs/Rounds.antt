@@ -1,6 +1,6 @@
 -- What stations do at their lines, as calls.
-use Rattle.std.proofs.Common.{◌≡◌, ℕ, ◌+◌, ◌<◌, ◌≤◌, zero, suc, List, [], ◌∷◌, ◌++◌, length, map, refl, ap, sym, ◌∙◌, subst, inl, inr, arith, append_assoc, ◌⊎◌, set, get_or}
-use Rattle.std.specs.Prelude.{Bool, true, false, ◌==◌, Option, Some, None, Result, Ok, Err, slice_get, if◌then◌else◌}
+use Rattle.std.proofs.Common.{◌≡◌, ℕ, ◌+◌, ◌<◌, zero, suc, List, [], ◌∷◌, ◌++◌, length, map, refl, ap, sym, ◌∙◌, subst, inl, inr, arith, ◌⊎◌, set, get_or}
+use Rattle.std.specs.Prelude.{Bool, true, false, ◌==◌, Option, Some, Result, Ok, Err, slice_get, if◌then◌else◌}
 use Rattle.std.specs.List.{AllByRecursion}
 use Rattle.std.proofs.lemmas.Bool.Decides.{nat_tests}
 use Rattle.std.proofs.lemmas.List.{length-set, get_or-set_same, get_or-set_other}
@@ -12,7 +12,7 @@ use Rattle.siman_lines.specs.declared.fault.AtLineFault.{AtLineFault}
 use Rattle.siman_lines.specs.declared.station_at_line.StationAtLine.{StationAtLine}
 use Rattle.std.specs.Prelude.{OnOk}
 use Rattle.std.specs.Result.{IsErrAnd, is_err}
-use Rattle.siman_lines.specs.AtLines.{Telling, AtLines, ServedAt, UnservedAt, One, Round, FailsRound, posts_from, IsPost, Are, Leads, Follows}
+use Rattle.siman_lines.specs.AtLines.{Telling, AtLines, ServedAt, UnservedAt, One, FailsRound, posts_from, IsPost, Are, Follows}
 use Rattle.siman_lines.specs.Calls.{Stations, IsCall, AreCalls}
 use Rattle.siman_lines.specs.KeptAtLine.{Keeps}
 use Rattle.siman_lines.specs.LineDatagrams.{Datagrams}

@@ -1,5 +1,5 @@
 -- Calls at stations and their links, one after the other (profile).
-use Rattle.std.specs.Prelude.{◌≡◌, ◌≢◌, ℕ, ◌+◌, ◌<◌, ◌^◌, ◌-◌, min, Bool, false, not, ◌||◌, ◌==◌, nat_lt, List, [], ◌∷◌, length, slice_get, slice_set, Option, Some, Result, Ok, Err, ◌⊎◌}
+use Rattle.std.specs.Prelude.{◌≡◌, ◌≢◌, ℕ, ◌+◌, ◌<◌, ◌^◌, ◌-◌, min, Bool, false, not, ◌||◌, nat_lt, List, [], ◌∷◌, length, slice_get, slice_set, Option, Some, Result, Ok, Err, ◌⊎◌}
 use Rattle.std.specs.List.{AllByRecursion, zip}
 use Rattle.exercise_model.specs.Entry.{Entry, Told}
 use Rattle.exercise_model.specs.History.{past}
@@ -24,17 +24,19 @@ use Rattle.siman_stations.specs.Deeds.{ReceivesSent}
 use Rattle.siman_lines.specs.Calls.{IsFresh, Stations, AreCalls}
 use Rattle.siman_lines.specs.KeptAtLine.{IsWritten}
 use Rattle.siman_lines.specs.LineDatagrams.{Datagrams}
+use Rattle.siman_lines.specs.Passed.{same_counts}
+use Rattle.siman_lines.specs.declared.line.PassedOver.{PassedOver}
 use Rattle.siman_lines.specs.Ordering.{Rests, IssueEnds, NudgeEnds}
 use Rattle.siman_lines.specs.Serving.{State, ServeEnds}
 use Rattle.siman_lines.specs.Steps.{Each, Stops}
 
 -- what links of a kind specify: the datagrams that they returned and were passed, how many calls failed, and how
--- many datagrams from strangers they passed over
+-- many datagrams they passed over
 pub record Telling (L : Type 0) : Type 0 where
   pub received : L → Option Datagrams
   pub sent : L → Option Datagrams
   pub failures : L → ℕ
-  pub strangers : L → ℕ
+  pub passed : L → PassedOver
 
 -- the state of a station at its link, with a recorder
 abbrev pub state_at : {L : Type 0} → Telling L → StationAtLine L → WriterState → State
@@ -111,8 +113,7 @@ of_serve serve_faults.Send = faults.Line
 of_serve (serve_faults.Record fault) = faults.Record fault
 of_serve serve_faults.Memory = faults.Memory
 
--- SOMETHING MAY BE LEFT to serve: it took or dropped something, its link passed over a stranger's datagram, or it
--- was not idle
+-- SOMETHING MAY BE LEFT to serve: it took or dropped something, its link passed a datagram over, or it was not idle
 abbrev pub is_busy : Served → (met : Bool) → Bool
 is_busy served met = nat_lt 0 served.taken || nat_lt 0 served.dropped || met || not served.idle
 
@@ -122,7 +123,7 @@ pub record ServedAt {L : Type 0} (told : Telling L) (now turns : ℕ) (p : Stati
   pub ends : ServeEnds p.index now turns (state_at told p w) (state_at told q v) (Ok served)
   pub index : q.index ≡ p.index
   pub dropped : q.dropped ≡ min (p.dropped + served.dropped) (2 ^ 64 - 1)
-  pub busy : q.busy ≡ is_busy served (not (told.strangers q.line == told.strangers p.line))
+  pub busy : q.busy ≡ is_busy served (not (same_counts (told.passed q.line) (told.passed p.line)))
 
 -- its service failed, with the fault of the failed turn
 pub record UnservedAt {L : Type 0} (told : Telling L) (now turns : ℕ) (fault : AtLineFault) (p : StationAtLine L) (w : WriterState) (q : StationAtLine L) (v : WriterState) : Type 0 where

@@ -1,4 +1,5 @@
 pub mod LineDatagrams
+pub mod Passed
 pub mod Memory
 pub mod Serving
 pub mod Ordering
@@ -7,6 +8,7 @@ pub mod Calls
 pub mod AtLine
 pub mod Steps
 pub mod AtLines
+pub mod Socket
 pub mod Udp
 pub mod Trouble
 pub mod LeftOut

@@ -28,7 +28,7 @@ impl LeftOut {
 
 /// Counts of what stations at their links left out, all together.
 pub fn left_out<L: Line + Drop>(stations: &[StationAtLine<L>]) -> LeftOut
-    ensures { result ≡ left_out_by L.strangers stations.now }
+    ensures { result ≡ left_out_by L.passed stations.now }
 {
     let mut busy = 0;
     let mut dropped: u64 = 0;
@@ -38,7 +38,7 @@ pub fn left_out<L: Line + Drop>(stations: &[StationAtLine<L>]) -> LeftOut
             busy += 1;
         }
         dropped = dropped.saturating_add(station.dropped);
-        strangers = strangers.saturating_add(station.line.strangers());
+        strangers = strangers.saturating_add(station.line.passed().strangers);
     }
     LeftOut {
         busy,

@@ -8,6 +8,7 @@
 #![tactic(auto)]
 
 mod fault;
+mod input;
 mod laws;
 mod left;
 mod line;
@@ -15,20 +16,23 @@ mod memory;
 mod ordering;
 mod served;
 mod serving;
+mod socket;
 mod station_at_line;
 mod telling;
 mod trouble;
 mod udp;
 
 pub use fault::{AtLineFault, IssueFault, ServeFault};
+pub use input::{Input, Ready};
 pub use laws::{calls_are_kept, calls_make_a_run, lines_make_a_run, what_is_kept_stands};
 pub use left::{LeftOut, left_out};
-pub use line::{Line, LineFault};
+pub use line::{Line, LineFault, PassedOver};
 pub use memory::MemoryLine;
 pub use ordering::{issue, nudge};
 pub use served::Served;
 pub use serving::serve;
 pub use siman_stations::Node;
+pub use socket::{Hearing, Socket};
 pub use station_at_line::{
     StationAtLine, order_at, repeat_at, serve_rounds, stations_at_lines, tell_at,
 };

@@ -1,6 +1,6 @@
 //! The trait of a link.
 
-ghost use Rattle.std.specs.Prelude.{◌≡◌, ℕ, ◌<◌, List, Option, None, Result, ⊤, IfOk, OnOk, OnErr, MatchOption};
+ghost use Rattle.std.specs.Prelude.{◌≡◌, not, ℕ, ◌<◌, List, Option, None, Result, ⊤, IfOk, OnOk, OnErr, MatchOption};
 ghost use Rattle.siman_lines.specs.LineDatagrams.{Grows, Hands, MayGrow, Same};
 
 use crate::trouble::LineTrouble;
@@ -14,10 +14,41 @@ pub enum LineFault {
     Failed,
 }
 
+/// The datagrams that a link passed over so far. Each count saturates at the greatest `u64`.
+#[derive(Clone, Copy, Debug, PartialEq, Eq)]
+pub struct PassedOver {
+    /// From strangers, who are no peers.
+    pub strangers: u64,
+    /// Of other protocol families than Simulation Management, from peers.
+    pub others: u64,
+}
+
+impl PassedOver {
+    ghost use Rattle.siman_lines.specs.Passed.{passed_nothing, same_counts};
+
+    /// No datagrams.
+    pub fn nothing() -> PassedOver
+        ensures { result ≡ passed_nothing }
+    {
+        PassedOver {
+            strangers: 0,
+            others: 0,
+        }
+    }
+
+    /// Whether a count differs from that of `earlier`.
+    pub(crate) fn differs_from(self, earlier: PassedOver) -> bool
+        ensures { result ≡ not (same_counts self earlier) }
+    {
+        self.strangers != earlier.strangers || self.others != earlier.others
+    }
+}
+
 /// A link: the end of a network at one station. It carries datagrams without any promise of
 /// delivery, and a call never waits.
 pub trait Line {
     ghost use Rattle.siman_lines.specs.declared.line.LineFault.{LineFault};
+    ghost use Rattle.siman_lines.specs.declared.line.PassedOver.{PassedOver};
 
     // Datagrams that it returned from receives, oldest first, if links of this kind specify them.
     ghost received: { Self → Option (List (List ℕ)) } = { λ _. None };
@@ -31,8 +62,8 @@ pub trait Line {
     // Relation between the states before and after a receive that found nothing.
     ghost finds_nothing: { Self → Self → Type 0 };
 
-    // Number of datagrams from strangers that it passed over.
-    ghost strangers: { Self → ℕ };
+    // The datagrams that it passed over.
+    ghost passed: { Self → PassedOver };
 
     // What links of this kind promise of a send beyond the contract of all links, given the
     // datagram, the states before and after, and the result.
@@ -63,13 +94,24 @@ pub trait Line {
         ensures worked { OnOk result (failures self.new ≡ failures self.old) }
         ensures failed { OnErr result (failures self.old < failures self.new) };
 
-    /// Number of datagrams from strangers, who are no peers, that it passed over so far; saturates
-    /// at the greatest `u64`.
-    fn strangers(&self) -> u64
-        ensures { result ≡ strangers self.now };
+    /// The datagrams that it passed over so far.
+    fn passed(&self) -> PassedOver
+        ensures { result ≡ passed self.now };
 
     /// The last failed call, if there was any and the link records it.
     fn trouble(&self) -> Option<LineTrouble> {
+        None
+    }
+
+    /// How many datagrams the system dropped before this link could receive them, if it is known.
+    /// No contract speaks of it: it is the system's own count.
+    fn lost(&self) -> Option<u64> {
+        None
+    }
+
+    /// How many bytes of datagrams the system keeps until this link receives them, if it is known.
+    /// No contract speaks of it.
+    fn buffer(&self) -> Option<u64> {
         None
     }
 }

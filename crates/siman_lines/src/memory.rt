@@ -1,6 +1,6 @@
 //! A link in memory, with one failing call that the test chooses.
 
-use crate::line::{Line, LineFault};
+use crate::line::{Line, LineFault, PassedOver};
 use http_server::Log;
 use std::alloc::Global;
 
@@ -72,6 +72,7 @@ impl MemoryLine {
 
 impl Line for MemoryLine {
     ghost use Rattle.std.specs.Prelude.{Some, length};
+    ghost use Rattle.siman_lines.specs.Passed.{passed_nothing};
     ghost use Rattle.siman_lines.specs.Memory.{sent_of, received_of, FoundNothing, SendEnds, ReceiveEnds};
 
     ghost received = { λ l. Some (received_of l) };
@@ -82,8 +83,7 @@ impl Line for MemoryLine {
 
     ghost finds_nothing = { FoundNothing };
 
-    // No datagram is from a stranger.
-    ghost strangers = { λ _. 0 };
+    ghost passed = { λ _. passed_nothing };
 
     ghost sends = { SendEnds };
 
@@ -115,7 +115,7 @@ impl Line for MemoryLine {
         Ok(Some(taken))
     }
 
-    fn strangers(&self) -> u64 {
-        0
+    fn passed(&self) -> PassedOver {
+        PassedOver::nothing()
     }
 }

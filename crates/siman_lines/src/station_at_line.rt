@@ -87,11 +87,11 @@ pub fn order_at<L: Line + Drop, W: Write>(
     now: u64,
     order: Order,
 ) -> Result<(), AtLineFault>
-    ensures ends { let told : Telling L = record { received = L.received; sent = L.sent; failures = L.failures; strangers = L.strangers } in
+    ensures ends { let told : Telling L = record { received = L.received; sent = L.sent; failures = L.failures; passed = L.passed } in
         OrdersAt told now order station.old recorder.old station.new recorder.new result }
     ensures made { OnOk result (order_fault station.old.node.manager now order ≡ None) }
     ensures fault { IfErr result (Hinders (order_fault station.old.node.manager now order)) }
-    ensures refused { let told : Telling L = record { received = L.received; sent = L.sent; failures = L.failures; strangers = L.strangers } in
+    ensures refused { let told : Telling L = record { received = L.received; sent = L.sent; failures = L.failures; passed = L.passed } in
         IfErr result (LeavesRefused told station.old recorder.old station.new recorder.new) }
     ensures index { station.new.index ≡ station.old.index }
     ensures counts { KeepsCounts station.old station.new }
@@ -123,7 +123,7 @@ pub fn repeat_at<L: Line + Drop, W: Write>(
     recorder: &mut RecordingWriter<'_, W>,
     now: u64,
 ) -> Result<(), AtLineFault>
-    ensures ends { let told : Telling L = record { received = L.received; sent = L.sent; failures = L.failures; strangers = L.strangers } in
+    ensures ends { let told : Telling L = record { received = L.received; sent = L.sent; failures = L.failures; passed = L.passed } in
         RepeatsAt told now station.old recorder.old station.new recorder.new result }
     ensures fault { IfErr result (Hinders None) }
     ensures index { station.new.index ≡ station.old.index }
@@ -154,7 +154,7 @@ pub fn tell_at<L: Line + Drop, W: Write>(
     ensures ends { TellsAt entity station.now recorder.old recorder.new result }
     ensures made { OnOk result (tell_fault entity ≡ None) }
     ensures fault { IfErr result (Hinders (tell_fault entity)) }
-    ensures refused { let told : Telling L = record { received = L.received; sent = L.sent; failures = L.failures; strangers = L.strangers } in
+    ensures refused { let told : Telling L = record { received = L.received; sent = L.sent; failures = L.failures; passed = L.passed } in
         IfErr result (LeavesRefused told station.now recorder.old station.now recorder.new) }
     // The invariant of the station is preserved, with a fault too.
     ensures keeps { Keeps station.now.index station.now.node recorder.old (L.sent station.now.line) station.now.node recorder.new (L.sent station.now.line) }
@@ -176,7 +176,7 @@ fn serve_at<L: Line + Drop, W: Write>(
     now: u64,
     turns: u32,
 ) -> Result<(), AtLineFault>
-    ensures ends { let told : Telling L = record { received = L.received; sent = L.sent; failures = L.failures; strangers = L.strangers } in
+    ensures ends { let told : Telling L = record { received = L.received; sent = L.sent; failures = L.failures; passed = L.passed } in
         ServesAt told now turns station.old recorder.old station.new recorder.new result }
     ensures fault { IfErr result (Hinders None) }
     ensures keeps { Keeps station.old.index station.old.node recorder.old (L.sent station.old.line) station.new.node recorder.new (L.sent station.new.line) }
@@ -188,11 +188,11 @@ fn serve_at<L: Line + Drop, W: Write>(
         dropped,
         busy,
     } = station;
-    let met = line.strangers();
+    let met = line.passed();
     match serve(alloc, line, node, recorder, *index, now, turns) {
         Ok(served) => {
             *dropped = dropped.saturating_add(u64::from(served.dropped));
-            *busy = served.is_busy(line.strangers() != met);
+            *busy = served.is_busy(line.passed().differs_from(met));
             Ok(())
         }
         Err(ServeFault::Receive | ServeFault::Send) => Err(AtLineFault::Line),
@@ -209,12 +209,12 @@ fn serve_round<L: Line + Drop, W: Write>(
     now: u64,
     turns: u32,
 ) -> Result<(), AtLineFault>
-    ensures ends { let told : Telling L = record { received = L.received; sent = L.sent; failures = L.failures; strangers = L.strangers } in
+    ensures ends { let told : Telling L = record { received = L.received; sent = L.sent; failures = L.failures; passed = L.passed } in
         let old : AtLines L = record { stations = stations.old.items; recorder = recorder.old } in
         let new : AtLines L = record { stations = stations.new.items; recorder = recorder.new } in
         RoundEnds told now turns old new result }
     ensures fault { IfErr result (Hinders None) }
-    ensures follows { let told : Telling L = record { received = L.received; sent = L.sent; failures = L.failures; strangers = L.strangers } in
+    ensures follows { let told : Telling L = record { received = L.received; sent = L.sent; failures = L.failures; passed = L.passed } in
         let old : AtLines L = record { stations = stations.old.items; recorder = recorder.old } in
         let new : AtLines L = record { stations = stations.new.items; recorder = recorder.new } in
         Follows told old new }
@@ -235,13 +235,13 @@ pub fn serve_rounds<L: Line + Drop, W: Write>(
     rounds: u32,
     turns: u32,
 ) -> Result<(), AtLineFault>
-    ensures ends { let told : Telling L = record { received = L.received; sent = L.sent; failures = L.failures; strangers = L.strangers } in
+    ensures ends { let told : Telling L = record { received = L.received; sent = L.sent; failures = L.failures; passed = L.passed } in
         let old : AtLines L = record { stations = stations.old.items; recorder = recorder.old } in
         let new : AtLines L = record { stations = stations.new.items; recorder = recorder.new } in
         RoundsEnd told now rounds turns old new result }
     ensures fault { IfErr result (Hinders None) }
     // All that changed follows from calls at these stations, with a fault too.
-    ensures follows { let told : Telling L = record { received = L.received; sent = L.sent; failures = L.failures; strangers = L.strangers } in
+    ensures follows { let told : Telling L = record { received = L.received; sent = L.sent; failures = L.failures; passed = L.passed } in
         let old : AtLines L = record { stations = stations.old.items; recorder = recorder.old } in
         let new : AtLines L = record { stations = stations.new.items; recorder = recorder.new } in
         Follows told old new }

@@ -1,82 +1,114 @@
-//! A link over UDP.
+//! A link over a socket of datagrams.
 
-ghost use Rattle.std.specs.Prelude.{◌≡◌, None, IfSome};
-ghost use Rattle.siman_lines.specs.Udp.{v4_of};
+ghost use Rattle.std.specs.Prelude.{◌≡◌};
+ghost use Rattle.siman_lines.specs.Udp.{v4_of, SendsToAll};
 
-use crate::line::{Line, LineFault};
+use crate::line::{Line, LineFault, PassedOver};
+use crate::socket::{Hearing, Socket};
 use crate::trouble::{LineCall, LineTrouble};
 use http_server::Log;
 use std::io::ErrorKind;
-use std::net::{SocketAddr, SocketAddrV4, UdpSocket};
+use std::net::{SocketAddr, SocketAddrV4};
 
-/// Most datagrams from strangers that one receive passes over.
-const MOST_STRANGERS: u32 = 64;
+/// Most datagrams that one receive passes over.
+const MOST_PASSED_OVER: u32 = 64;
 
-/// A link over a socket whose receives never wait. Each datagram goes to every peer, and datagrams
-/// from strangers are passed over, unless the link accepts datagrams from anyone.
+/// The protocol family of Simulation Management.
+const FAMILY: u8 = 5;
+
+/// A link over a socket. Each datagram goes to every peer. It passes over the datagrams that it is
+/// not to hear, and counts them.
 #[derive(Drop)]
-pub struct UdpLine {
-    socket: UdpSocket,
+pub struct UdpLine<S: Drop> {
+    socket: S,
     peers: Vec<SocketAddr>,
-    anyone: bool,
-    strangers: u64,
+    hearing: Hearing,
+    passed: PassedOver,
     failures: Log<(), ()>,
     trouble: Option<LineTrouble>,
 }
 
-impl UdpLine {
-    ghost use Rattle.std.specs.Prelude.{◌≡◌, ◌+◌, length, true, false, IfOk, Some};
+impl<S: Drop> UdpLine<S> {
+    ghost use Rattle.std.specs.Prelude.{◌≡◌, ◌+◌, length};
+    ghost use Rattle.siman_lines.specs.Passed.{passed_nothing};
+    ghost use Rattle.siman_lines.specs.Udp.{is_stranger, is_other, is_passed_over, passed_on};
 
-    /// Makes a link over the socket, which it sets to nonblocking. The link sends to each of these
-    /// peers, in their order, and returns datagrams from them alone. One receive passes over at
-    /// most 64 datagrams from strangers, and then finds nothing.
-    pub fn over(socket: UdpSocket, peers: Vec<SocketAddr>) -> Result<UdpLine, LineFault>
-        ensures peers { IfOk result (λ l. l.peers ≡ peers) }
-        ensures anyone { IfOk result (λ l. l.anyone ≡ false) }
-        ensures strangers { IfOk result (λ l. l.strangers ≡ 0) }
+    /// Makes a link over a socket whose receives never wait. It sends to each of these peers, in
+    /// their order, and returns datagrams from them alone, unless it hears anyone, and of
+    /// Simulation Management alone, unless it hears all. One receive passes over at most 64
+    /// datagrams, and then finds nothing.
+    pub fn over(socket: S, peers: Vec<SocketAddr>, hearing: Hearing) -> UdpLine<S>
+        ensures socket { result.socket ≡ socket }
+        ensures peers { result.peers ≡ peers }
+        ensures hearing { result.hearing ≡ hearing }
+        ensures passed { result.passed ≡ passed_nothing }
+        ensures trouble { result.trouble ≡ None }
+        ensures failures { length result.failures.items ≡ 0 }
     {
-        UdpLine::open(socket, peers, false)
-    }
-
-    /// Makes a link over the socket, as [`over`](UdpLine::over) does, that returns datagrams from
-    /// anyone: it counts nobody as a stranger.
-    pub fn hearing_anyone(socket: UdpSocket, peers: Vec<SocketAddr>) -> Result<UdpLine, LineFault>
-        ensures peers { IfOk result (λ l. l.peers ≡ peers) }
-        ensures anyone { IfOk result (λ l. l.anyone ≡ true) }
-        ensures strangers { IfOk result (λ l. l.strangers ≡ 0) }
-    {
-        UdpLine::open(socket, peers, true)
-    }
-
-    fn open(socket: UdpSocket, peers: Vec<SocketAddr>, anyone: bool) -> Result<UdpLine, LineFault>
-        ensures peers { IfOk result (λ l. l.peers ≡ peers) }
-        ensures anyone { IfOk result (λ l. l.anyone ≡ anyone) }
-        ensures strangers { IfOk result (λ l. l.strangers ≡ 0) }
-    {
-        if socket.set_nonblocking(true).is_err() {
-            return Err(LineFault::Failed);
-        }
-        Ok(UdpLine {
+        UdpLine {
             socket,
             peers,
-            anyone,
-            strangers: 0,
+            hearing,
+            passed: PassedOver::nothing(),
             failures: Log::new(),
             trouble: None,
-        })
+        }
+    }
+
+    /// Its socket.
+    pub fn socket(&self) -> &S
+        ensures { result.now ≡ self.now.socket }
+    {
+        &self.socket
     }
 
     /// Counts a failed call, and stores which it was.
     fn fail(&mut self, trouble: LineTrouble) -> LineFault
         ensures counted { length self.new.failures.items ≡ length self.old.failures.items + 1 }
+        ensures socket { self.new.socket ≡ self.old.socket }
         ensures peers { self.new.peers ≡ self.old.peers }
-        ensures anyone { self.new.anyone ≡ self.old.anyone }
-        ensures strangers { self.new.strangers ≡ self.old.strangers }
+        ensures hearing { self.new.hearing ≡ self.old.hearing }
+        ensures passed { self.new.passed ≡ self.old.passed }
         ensures kept { self.new.trouble ≡ Some trouble }
     {
         self.failures = self.failures.and(&(), &());
         self.trouble = Some(trouble);
         LineFault::Failed
+    }
+
+    /// Whether a sender is a stranger.
+    fn is_stranger(&self, from: SocketAddr) -> bool
+        ensures { result ≡ is_stranger self.now.peers.items self.now.hearing from }
+    {
+        !(self.hearing.anyone || self.peers.contains(&from))
+    }
+
+    /// Whether a datagram is of a protocol family that it does not hear.
+    fn is_other(&self, datagram: &[u8]) -> bool
+        ensures { result ≡ is_other self.now.hearing datagram.now }
+    {
+        !self.hearing.all && datagram.len() > 3 && datagram[3] != FAMILY
+    }
+
+    /// Whether a datagram is passed over. Counts it, if so.
+    fn passes_over(&mut self, datagram: &[u8], from: SocketAddr) -> bool
+        ensures result { result ≡ is_passed_over self.old.peers.items self.old.hearing (record { address = from; bytes = datagram.now }) }
+        ensures passed { self.new.passed ≡ passed_on self.old.peers.items self.old.hearing (record { address = from; bytes = datagram.now }) self.old.passed }
+        ensures socket { self.new.socket ≡ self.old.socket }
+        ensures peers { self.new.peers ≡ self.old.peers }
+        ensures hearing { self.new.hearing ≡ self.old.hearing }
+        ensures failures { self.new.failures ≡ self.old.failures }
+        ensures trouble { self.new.trouble ≡ self.old.trouble }
+    {
+        if self.is_stranger(from) {
+            self.passed.strangers = self.passed.strangers.saturating_add(1);
+            return true;
+        }
+        if self.is_other(datagram) {
+            self.passed.others = self.passed.others.saturating_add(1);
+            return true;
+        }
+        false
     }
 }
 
@@ -90,24 +122,26 @@ fn v4_of(address: SocketAddr) -> Option<SocketAddrV4>
     }
 }
 
-/// Sends a datagram to a peer. Returns the failure, if it failed.
-fn send_one(socket: &UdpSocket, datagram: &[u8], peer: SocketAddr) -> Option<LineTrouble>
-    ensures { IfSome result (λ t. (t.call ≡ LineCall.Send) × (t.peer ≡ v4_of peer)) }
+/// Sends a datagram to each of these peers, also behind one whose send failed. Returns the failure
+/// of the first that failed.
+fn send_to_all<S: Socket>(
+    socket: &mut S,
+    datagram: &[u8],
+    peers: &[SocketAddr],
+) -> Option<LineTrouble>
+    ensures { SendsToAll (record { handed = S.handed; came = S.came; failed = S.failed }) datagram.now peers.now socket.old socket.new result }
 {
-    let kind = match socket.send_to(datagram, peer) {
-        Ok(count) => {
-            if count == datagram.len() {
-                return None;
-            }
-            ErrorKind::Other
+    let mut first: Option<LineTrouble> = None;
+    for peer in peers {
+        if let Err(kind) = socket.send_to(datagram, *peer) {
+            first = first.or(Some(LineTrouble {
+                call: LineCall::Send,
+                peer: v4_of(*peer),
+                kind,
+            }));
         }
-        Err(error) => error.kind(),
-    };
-    Some(LineTrouble {
-        call: LineCall::Send,
-        peer: v4_of(peer),
-        kind,
-    })
+    }
+    first
 }
 
 /// Description of a failed receive.
@@ -121,60 +155,71 @@ fn receive_trouble(kind: ErrorKind) -> LineTrouble
     }
 }
 
-impl Line for UdpLine {
-    ghost use Rattle.std.specs.Prelude.{◌≡◌, length};
-    ghost use Rattle.siman_lines.specs.Udp.{SendKeeps, ReceivePasses};
+impl<S: Socket + Drop> UdpLine<S> {
+    ghost use Rattle.std.specs.Prelude.{◌≡◌, ◌<◌, OnOk, OnErr, length};
+    ghost use Rattle.siman_lines.specs.Udp.{Receives};
+
+    /// Receives the next datagram that it hears into the front of the buffer.
+    fn receive_next(&mut self, buffer: &mut [u8]) -> Result<Option<usize>, LineFault>
+        ensures ends { Receives (record { handed = S.handed; came = S.came; failed = S.failed }) S.finds_nothing buffer.new self.old self.new result }
+        ensures worked { OnOk result (self.new.failures ≡ self.old.failures) }
+        ensures failed { OnErr result (length self.old.failures.items < length self.new.failures.items) }
+    {
+        for _ in 0..MOST_PASSED_OVER {
+            match self.socket.receive_from(buffer) {
+                Ok(Some((taken, from))) => {
+                    if !self.passes_over(&buffer[..taken], from) {
+                        return Ok(Some(taken));
+                    }
+                }
+                Ok(None) => return Ok(None),
+                Err(kind) => return Err(self.fail(receive_trouble(kind))),
+            }
+        }
+        Ok(None)
+    }
+}
+
+impl<S: Socket + Drop> Line for UdpLine<S> {
+    ghost use Rattle.std.specs.Prelude.{◌≡◌, ℕ, List, length};
+    ghost use Rattle.siman_lines.specs.Udp.{Sends, Receives, heard_of};
+
+    ghost received = { λ l. heard_of l.peers.items l.hearing (S.came l.socket) };
 
     ghost failures = { λ l. length l.failures.items };
 
     ghost finds_nothing = { λ old new. new.failures ≡ old.failures };
 
-    ghost strangers = { λ l. l.strangers };
+    ghost passed = { λ l. l.passed };
 
-    ghost sends = { λ _. SendKeeps };
+    ghost sends = { Sends (record { handed = S.handed; came = S.came; failed = S.failed }) };
 
-    ghost receives = { ReceivePasses };
+    ghost receives = { λ old new result. (buffer : List ℕ) × Receives (record { handed = S.handed; came = S.came; failed = S.failed }) S.finds_nothing buffer old new result };
 
     fn send(&mut self, datagram: &[u8]) -> Result<(), LineFault> {
-        let mut first = None;
-        for peer in &self.peers {
-            let failed = send_one(&self.socket, datagram, *peer);
-            if first.is_none() {
-                first = failed;
-            }
-        }
-        match first {
+        match send_to_all(&mut self.socket, datagram, &self.peers) {
             None => Ok(()),
             Some(trouble) => Err(self.fail(trouble)),
         }
     }
 
     fn receive(&mut self, buffer: &mut [u8]) -> Result<Option<usize>, LineFault> {
-        for _ in 0..MOST_STRANGERS {
-            match self.socket.recv_from(buffer) {
-                Ok((taken, from)) => {
-                    if self.anyone || self.peers.contains(&from) {
-                        return Ok(Some(taken));
-                    }
-                    self.strangers = self.strangers.saturating_add(1);
-                }
-                Err(e) => {
-                    let kind = e.kind();
-                    if kind == ErrorKind::WouldBlock {
-                        return Ok(None);
-                    }
-                    return Err(self.fail(receive_trouble(kind)));
-                }
-            }
-        }
-        Ok(None)
+        self.receive_next(buffer)
     }
 
-    fn strangers(&self) -> u64 {
-        self.strangers
+    fn passed(&self) -> PassedOver {
+        self.passed
     }
 
     fn trouble(&self) -> Option<LineTrouble> {
         self.trouble
+    }
+
+    fn lost(&self) -> Option<u64> {
+        self.socket.lost()
+    }
+
+    fn buffer(&self) -> Option<u64> {
+        self.socket.buffer()
     }
 }

@@ -1,4 +1,5 @@
 -- How a session ends.
+use Rattle.siman_lines.specs.declared.line.PassedOver.{PassedOver}
 use Rattle.std.proofs.Common.{◌≡◌, ℕ, List, refl, ap, inl, inr, ◌∙◌}
 use Rattle.std.specs.Prelude.{Bool, true, false, if◌then◌else◌, Option, Some, None, is_some, IsSome, Result, Err}
 use Rattle.exercise_recording.specs.declared.fault.WriterFault.{WriterFault}
@@ -31,12 +32,13 @@ pub unended : (old new : WriterState) (r : Result (Unit {0}) WriterFault) (fault
 unended old new r fault was refused unchanged torn = unended_by old new fault refused unchanged (λ is. torn (was ∙ ap Err is))
 
 -- a failed read was told before
-pub ends_unread : {L : Type 0} (strangers : L → ℕ) (stop : Stop) (p q : PostData L) (o u : Option (List ℕ)) (before after : SessionReport) (e f : Option (List ℕ))
-    (told : SessionReport) (mid : Option (List ℕ)) → stop ≡ stops.Unread → ReportsUnread before told e mid → ClosesAt strangers p q o u told after mid f
-    → EndsSession strangers stop p q o u before after e f
-ends_unread strangers stops.End p q o u before after e f told mid is tells closes = absurd cc
-ends_unread strangers stops.Unread p q o u before after e f told mid is tells closes = (told, mid, tells, closes)
-ends_unread strangers stops.Unrecorded p q o u before after e f told mid is tells closes = absurd cc
+pub ends_unread : {L : Type 0} (passed : L → PassedOver) (stop : Stop) (p q : PostData L) (o u : Option (List ℕ)) (before after : SessionReport) (e f : Option (List ℕ))
+    (told : SessionReport) (mid : Option (List ℕ)) → stop ≡ stops.Unread → ReportsUnread before told e mid → ClosesAt passed p q o u told after mid f
+    → EndsSession passed stop p q o u before after e f
+ends_unread passed stops.End p q o u before after e f told mid is tells closes = absurd cc
+ends_unread passed stops.Quit p q o u before after e f told mid is tells closes = absurd cc
+ends_unread passed stops.Unread p q o u before after e f told mid is tells closes = (told, mid, tells, closes)
+ends_unread passed stops.Unrecorded p q o u before after e f told mid is tells closes = absurd cc
 
 -- the counts are printed, where each entry was
 pub prints_end : (fault : Option PrintFault) (text : List ℕ) (o p : Option (List ℕ)) (closed : Result (Unit {0}) PrintFault) → is_some fault ≡ false

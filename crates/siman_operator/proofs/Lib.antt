@@ -11,6 +11,7 @@ pub mod Offered
 pub mod SessionLines
 pub mod Reasons
 pub mod Alone
+pub mod Begun
 pub mod Played
 pub mod Ended
 pub mod Leavings

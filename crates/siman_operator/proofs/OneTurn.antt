@@ -17,6 +17,7 @@ use Rattle.siman_stations.specs.Recording.{WritesOne, WritesNone}
 use Rattle.siman_stations.specs.declared.turn.TurnFault.{TurnFault}
 use Rattle.siman_stations.specs.declared.turn.TurnFault.TheVariants as turn_faults
 use Rattle.siman_stations.specs.StationTurn.{sent_as, RecordsAll, FailsTurn}
+use Rattle.siman_lines.specs.declared.line.PassedOver.{PassedOver}
 use Rattle.siman_lines.specs.declared.fault.ServeFault.{ServeFault}
 use Rattle.siman_lines.specs.declared.fault.ServeFault.TheVariants as faults
 use Rattle.siman_lines.specs.declared.served.Served.{Served}
@@ -227,10 +228,10 @@ taken_one s now a ds os rs ps qs b w v came taken = by (is_short b) refl where
 abbrev ShapeOf : {L : Type 0} → (now : ℕ) → (p q : StationAtLine (TracingLine L)) → (w v : WriterState) → Type 0
 ShapeOf now p q w v = Shape p.index now (datagrams_received p.line) (datagrams_received q.line) (datagrams_sent p.line) (datagrams_sent q.line) w v
 
-served_shape : {L : Type 0} (strangers : L → ℕ) (now : ℕ) (p q : StationAtLine (TracingLine L)) (w v : WriterState) (us : Datagrams)
-    → HasServed p.index now us (state_at (telling strangers) p w) (state_at (telling strangers) q v)
+served_shape : {L : Type 0} (passed : L → PassedOver) (now : ℕ) (p q : StationAtLine (TracingLine L)) (w v : WriterState) (us : Datagrams)
+    → HasServed p.index now us (state_at (telling passed) p w) (state_at (telling passed) q v)
     → length (datagrams_received q.line) ≡ length (datagrams_received p.line) + 1 → ShapeOf now p q w v
-served_shape strangers now p q w v us done more =
+served_shape passed now p q w v us done more =
     let grown : datagrams_received q.line ≡ datagrams_received p.line ++ reverse us = done.received_are in
     let one = one_is us (one_came (datagrams_received p.line) (datagrams_received q.line) us grown more) in
     taken_one p.index now p.node.application.outfit (came p.node.application) (datagrams_received p.line) (datagrams_received q.line) (datagrams_sent p.line)
@@ -249,10 +250,10 @@ grows_none : (os : Datagrams) (o : Option Datagrams) → GrowsAll (Some os) o []
 grows_none os None g = absurd g
 grows_none os (Some rs) g = ap Some (g ∙ append-nil os)
 
-sent_shape : {L : Type 0} (strangers : L → ℕ) (now : ℕ) (p q : StationAtLine (TracingLine L)) (w v : WriterState)
-    → LosesSend p.index now (state_at (telling strangers) p w) (state_at (telling strangers) q v)
+sent_shape : {L : Type 0} (passed : L → PassedOver) (now : ℕ) (p q : StationAtLine (TracingLine L)) (w v : WriterState)
+    → LosesSend p.index now (state_at (telling passed) p w) (state_at (telling passed) q v)
     → length (datagrams_received q.line) ≡ length (datagrams_received p.line) + 1 → ShapeOf now p q w v
-sent_shape strangers now p q w v l more =
+sent_shape passed now p q w v l more =
     let a = p.node.application.outfit in
     let ds = came p.node.application in
     let grown : datagrams_received q.line ≡ datagrams_received p.line ++ reverse (l.datagram ∷ l.earlier) = l.received_are in
@@ -274,10 +275,10 @@ sent_shape strangers now p q w v l more =
       goes = subst (λ (o : Option Datagrams). MayGrow o (Some (datagrams_sent q.line)) (pdu_text l.answer)) before l.may_be_sent;
     }))
 
-broken_shape : {L : Type 0} (strangers : L → ℕ) (now : ℕ) (p q : StationAtLine (TracingLine L)) (w v : WriterState) (fault : TurnFault WriterFault) → now < 2 ^ 64
-    → BreaksTurn p.index now fault (state_at (telling strangers) p w) (state_at (telling strangers) q v)
+broken_shape : {L : Type 0} (passed : L → PassedOver) (now : ℕ) (p q : StationAtLine (TracingLine L)) (w v : WriterState) (fault : TurnFault WriterFault) → now < 2 ^ 64
+    → BreaksTurn p.index now fault (state_at (telling passed) p w) (state_at (telling passed) q v)
     → length (datagrams_received q.line) ≡ length (datagrams_received p.line) + 1 → ShapeOf now p q w v
-broken_shape {L = L} strangers now p q w v fault h l more = by fault (subst (λ (u : WriterState). FailsTurn WritesOne WritesNone p.index now l.datagram fault u v l.node q.node) at l.broken) where
+broken_shape {L = L} passed now p q w v fault h l more = by fault (subst (λ (u : WriterState). FailsTurn WritesOne WritesNone p.index now l.datagram fault u v l.node q.node) at l.broken) where
   a : AppProfile
   a = p.node.application.outfit
 
@@ -308,14 +309,14 @@ broken_shape {L = L} strangers now p q w v fault h l more = by fault (subst (λ 
       }))
   by turn_faults.Memory u = inr (inl (record { datagram = l.datagram; came = there; mid = u.0.0; one = u.0.1; tail = inl u.0.2 }))
 
-shape_by : {L : Type 0} (strangers : L → ℕ) (now : ℕ) (p q : StationAtLine (TracingLine L)) (w v : WriterState) (result : Result Served ServeFault) → now < 2 ^ 64
-    → ServeEnds p.index now 1 (state_at (telling strangers) p w) (state_at (telling strangers) q v) result
+shape_by : {L : Type 0} (passed : L → PassedOver) (now : ℕ) (p q : StationAtLine (TracingLine L)) (w v : WriterState) (result : Result Served ServeFault) → now < 2 ^ 64
+    → ServeEnds p.index now 1 (state_at (telling passed) p w) (state_at (telling passed) q v) result
     → length (datagrams_received q.line) ≡ length (datagrams_received p.line) + 1 → ShapeOf now p q w v
-shape_by strangers now p q w v (Ok served) h ends more = served_shape strangers now p q w v ends.datagrams ends.done more
-shape_by strangers now p q w v (Err faults.Receive) h ends more = served_shape strangers now p q w v ends.datagrams ends.done more
-shape_by strangers now p q w v (Err faults.Send) h ends more = sent_shape strangers now p q w v ends more
-shape_by strangers now p q w v (Err (faults.Record fault)) h ends more = broken_shape strangers now p q w v (turn_faults.Record fault) h ends more
-shape_by strangers now p q w v (Err faults.Memory) h ends more = broken_shape strangers now p q w v turn_faults.Memory h ends more
+shape_by passed now p q w v (Ok served) h ends more = served_shape passed now p q w v ends.datagrams ends.done more
+shape_by passed now p q w v (Err faults.Receive) h ends more = served_shape passed now p q w v ends.datagrams ends.done more
+shape_by passed now p q w v (Err faults.Send) h ends more = sent_shape passed now p q w v ends more
+shape_by passed now p q w v (Err (faults.Record fault)) h ends more = broken_shape passed now p q w v (turn_faults.Record fault) h ends more
+shape_by passed now p q w v (Err faults.Memory) h ends more = broken_shape passed now p q w v turn_faults.Memory h ends more
 
 -- What is printed of it.
 
@@ -368,13 +369,13 @@ HeardPrints x now p q w v old new =
     (mid : Printing) × PrintsLine (line_of x w.entries (Received q.index now (last_of (datagrams_received q.line)))) old mid
     × PrintsSent q x v.entries now (w.entries + 1) (length (datagrams_sent p.line)) mid new
 
-pub turn_prints : {L : Type 0} (strangers : L → ℕ) (x now : ℕ) (p q : StationAtLine (TracingLine L)) (w v : WriterState) (result : Result Served ServeFault)
+pub turn_prints : {L : Type 0} (passed : L → PassedOver) (x now : ℕ) (p q : StationAtLine (TracingLine L)) (w v : WriterState) (result : Result Served ServeFault)
     (old new : Printing) → now < 2 ^ 64 → q.index ≡ p.index
-    → ServeEnds p.index now 1 (state_at (telling strangers) p w) (state_at (telling strangers) q v) result
+    → ServeEnds p.index now 1 (state_at (telling passed) p w) (state_at (telling passed) q v) result
     → PrintsTurn q x v.entries now w.entries (length (datagrams_received p.line)) (length (datagrams_sent p.line)) old new → PrintsAll x w v old new
-turn_prints strangers x now p q w v result old new h index ends is = by (v.entries == w.entries) refl where
+turn_prints passed x now p q w v result old new h index ends is = by (v.entries == w.entries) refl where
   wrote : Wrote w v
-  wrote = wrote_by p.index now 1 (state_at (telling strangers) p w) (state_at (telling strangers) q v) result h ends
+  wrote = wrote_by p.index now 1 (state_at (telling passed) p w) (state_at (telling passed) q v) result h ends
 
   rest : (v.entries == w.entries) ≡ false → MatchBool (length (datagrams_received q.line) - length (datagrams_received p.line) == 1) (HeardPrints x now p q w v old new) (StopsPrinting old new)
   rest differs =
@@ -386,7 +387,7 @@ turn_prints strangers x now p q w v result old new h index ends is = by (v.entri
   other true one differs =
       let prints = by_true (HeardPrints x now p q w v old new) (StopsPrinting old new) (length (datagrams_received q.line) - length (datagrams_received p.line) == 1) one (rest differs) in
       shape_prints x now p q w v old prints.0 new h index
-      (shape_by strangers now p q w v result h ends (one_more_is (length (datagrams_received q.line)) (length (datagrams_received p.line)) one))
+      (shape_by passed now p q w v result h ends (one_more_is (length (datagrams_received q.line)) (length (datagrams_received p.line)) one))
       (other_is v.entries w.entries differs) prints.1 prints.2
   other false none differs = λ before start es written printed. (
     wrote.entries,

@@ -13,6 +13,7 @@ use Rattle.siman_application.specs.Application.{came}
 use Rattle.siman_application.specs.Play.{state_over}
 use Rattle.siman_manager.specs.declared.order.Order.{Order}
 use Rattle.siman_stations.specs.Recording.{WritesOne, WritesNone}
+use Rattle.siman_lines.specs.declared.line.PassedOver.{PassedOver}
 use Rattle.siman_lines.specs.declared.fault.AtLineFault.{AtLineFault}
 use Rattle.siman_lines.specs.declared.fault.AtLineFault.TheVariants as faults
 use Rattle.siman_lines.specs.declared.station_at_line.StationAtLine.{StationAtLine}
@@ -140,36 +141,36 @@ resting : {L : Type 0} (x now k : ℕ) (q : StationAtLine (TracingLine L)) (w v 
     → v ≡ w → PrintsSent q x v.entries now w.entries k old new → PrintsAll x w v old new
 resting x now k q w v old new e is = unsent_prints x now k q w v old new (ap (λ (u : WriterState). u.entries) e) (still w v e) is
 
-pub order_prints : {L : Type 0} (strangers : L → ℕ) (x now : ℕ) (order : Order) (p q : StationAtLine (TracingLine L)) (w v : WriterState)
+pub order_prints : {L : Type 0} (passed : L → PassedOver) (x now : ℕ) (order : Order) (p q : StationAtLine (TracingLine L)) (w v : WriterState)
     (done : Result (Unit {0}) AtLineFault) (old new : Printing) → now < 2 ^ 64 → q.index ≡ p.index
-    → OrdersAt (telling strangers) now order p w q v done → IfErr done (LeavesRefused (telling strangers) p w q v)
+    → OrdersAt (telling passed) now order p w q v done → IfErr done (LeavesRefused (telling passed) p w q v)
     → PrintsSent q x v.entries now w.entries (length (datagrams_sent p.line)) old new → PrintsAll x w v old new
-order_prints strangers x now order p q w v (Ok u) old new h index ends refused is =
+order_prints passed x now order p q w v (Ok u) old new h index ends refused is =
     sent_prints x now p q w v _ old new h index ends.1.goes.entry (inl ends.1.goes.sent_are) is
-order_prints strangers x now order p q w v (Err (faults.Station fault)) old new h index ends refused is =
+order_prints passed x now order p q w v (Err (faults.Station fault)) old new h index ends refused is =
     resting x now _ q w v old new refused.1.recorder is
-order_prints strangers x now order p q w v (Err faults.Line) old new h index ends refused is =
+order_prints passed x now order p q w v (Err faults.Line) old new h index ends refused is =
     sent_prints x now p q w v _ old new h index ends.left.entry ends.left.may_be_sent is
-order_prints strangers x now order p q w v (Err (faults.Record fault)) old new h index ends refused is =
+order_prints passed x now order p q w v (Err (faults.Record fault)) old new h index ends refused is =
     unwritten x now _ q w v _ fault old new (stamped now h) ends.left.refused is
-order_prints strangers x now order p q w v (Err faults.Memory) old new h index (inl ends) refused is =
+order_prints passed x now order p q w v (Err faults.Memory) old new h index (inl ends) refused is =
     resting x now _ q w v old new ends.1.recorder is
-order_prints strangers x now order p q w v (Err faults.Memory) old new h index (inr ends) refused is =
+order_prints passed x now order p q w v (Err faults.Memory) old new h index (inr ends) refused is =
     resting x now _ q w v old new ends.2.recorder is
 
-pub repeat_prints : {L : Type 0} (strangers : L → ℕ) (x now : ℕ) (p q : StationAtLine (TracingLine L)) (w v : WriterState)
+pub repeat_prints : {L : Type 0} (passed : L → PassedOver) (x now : ℕ) (p q : StationAtLine (TracingLine L)) (w v : WriterState)
     (done : Result (Unit {0}) AtLineFault) (old new : Printing) → now < 2 ^ 64 → q.index ≡ p.index
-    → RepeatsAt (telling strangers) now p w q v done
+    → RepeatsAt (telling passed) now p w q v done
     → PrintsSent q x v.entries now w.entries (length (datagrams_sent p.line)) old new → PrintsAll x w v old new
-repeat_prints strangers x now p q w v (Ok u) old new h index (true, ends) is =
+repeat_prints passed x now p q w v (Ok u) old new h index (true, ends) is =
     sent_prints x now p q w v _ old new h index ends.1.goes.entry (inl ends.1.goes.sent_are) is
-repeat_prints strangers x now p q w v (Ok u) old new h index (false, ends) is = resting x now _ q w v old new ends.2.recorder is
-repeat_prints strangers x now p q w v (Err (faults.Station fault)) old new h index ends is = absurd ends
-repeat_prints strangers x now p q w v (Err faults.Line) old new h index ends is =
+repeat_prints passed x now p q w v (Ok u) old new h index (false, ends) is = resting x now _ q w v old new ends.2.recorder is
+repeat_prints passed x now p q w v (Err (faults.Station fault)) old new h index ends is = absurd ends
+repeat_prints passed x now p q w v (Err faults.Line) old new h index ends is =
     sent_prints x now p q w v _ old new h index ends.1.left.entry ends.1.left.may_be_sent is
-repeat_prints strangers x now p q w v (Err (faults.Record fault)) old new h index ends is =
+repeat_prints passed x now p q w v (Err (faults.Record fault)) old new h index ends is =
     unwritten x now _ q w v _ fault old new (stamped now h) ends.1.left.refused is
-repeat_prints strangers x now p q w v (Err faults.Memory) old new h index ends is = resting x now _ q w v old new ends.2.recorder is
+repeat_prints passed x now p q w v (Err faults.Memory) old new h index ends is = resting x now _ q w v old new ends.2.recorder is
 
 -- by counts that are these
 pub at_counts : {L : Type 0} (q : StationAtLine (TracingLine L)) (x r now k j i l : ℕ) (old new : Printing) → k ≡ i → j ≡ l
@@ -187,10 +188,10 @@ tell_prints x k e y p w v old new one count state line =
     (subst (λ (z : EntityState). PrintsLine (line_of x w.entries (Told p.index e z)) old new) state
     (subst (λ (n : ℕ). PrintsLine (line_of x n (Told p.index e y)) old new) count line))
 
-pub untold_prints : {L : Type 0} (strangers : L → ℕ) (x e : ℕ) (p : StationAtLine (TracingLine L)) (w v : WriterState) (fault : AtLineFault) (old : Printing)
-    → TellsAt e p w v (Err fault) → LeavesRefused (telling strangers) p w p v fault → PrintsAll x w v old old
-untold_prints strangers x e p w v (faults.Station fault) old ends refused = quiet x w v old old (still w v refused.1.recorder) (nothing_new old)
-untold_prints strangers x e p w v faults.Line old ends refused = absurd ends
-untold_prints strangers x e p w v (faults.Record fault) old ends refused =
+pub untold_prints : {L : Type 0} (passed : L → PassedOver) (x e : ℕ) (p : StationAtLine (TracingLine L)) (w v : WriterState) (fault : AtLineFault) (old : Printing)
+    → TellsAt e p w v (Err fault) → LeavesRefused (telling passed) p w p v fault → PrintsAll x w v old old
+untold_prints passed x e p w v (faults.Station fault) old ends refused = quiet x w v old old (still w v refused.1.recorder) (nothing_new old)
+untold_prints passed x e p w v faults.Line old ends refused = absurd ends
+untold_prints passed x e p w v (faults.Record fault) old ends refused =
     quiet x w v old old (λ before es written. written_none before w v es _ fault refl written ends) (nothing_new old)
-untold_prints strangers x e p w v faults.Memory old ends refused = absurd ends
+untold_prints passed x e p w v faults.Memory old ends refused = absurd ends

@@ -12,6 +12,7 @@ pub mod Explanation
 pub mod Receiver
 pub mod Came
 pub mod Told
+pub mod Coming
 pub mod Sessions
 pub mod Closing
 pub mod Scripted

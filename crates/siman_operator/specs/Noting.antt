@@ -1,5 +1,6 @@
 -- What a link that logs its datagrams specifies (profile).
 use Rattle.std.specs.Prelude.{◌≡◌, ◌⊎◌, ℕ, List, [], ◌∷◌, ◌++◌, length, take, Option, Some, None, Result, Ok, Err}
+use Rattle.siman_lines.specs.declared.line.PassedOver.{PassedOver}
 use Rattle.siman_lines.specs.declared.line.LineFault.{LineFault}
 use Rattle.siman_lines.specs.AtLines.{Telling}
 use Rattle.siman_lines.specs.LineDatagrams.{Datagrams, Same, Grows, MayGrow}
@@ -14,12 +15,12 @@ abbrev pub datagrams_received : {L : Type 0} → TracingLine L → Datagrams
 datagrams_received l = datagrams_of l.received.all.items
 
 -- what links of this kind specify, given the number of strangers that the inner link passed over
-abbrev pub telling : {L : Type 0} → (strangers : L → ℕ) → Telling (TracingLine L)
-telling strangers = record {
+abbrev pub telling : {L : Type 0} → (passed : L → PassedOver) → Telling (TracingLine L)
+telling passed = record {
   received = λ l. Some (datagrams_received l);
   sent = λ l. Some (datagrams_sent l);
   failures = λ l. length l.failures.items;
-  strangers = λ l. strangers l.line;
+  passed = λ l. passed l.line;
 }
 
 -- the datagrams of one direction that a kind of link specifies

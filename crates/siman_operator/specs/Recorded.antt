@@ -13,6 +13,7 @@ use Rattle.exercise_recording.specs.Text.{head_text, recording_text}
 use Rattle.exercise_recording.specs.Writer.{WriterState, Starts}
 use Rattle.siman_application.specs.AppProfile.{AppProfile}
 use Rattle.siman_application.specs.OwnLog.{AreOneOrder}
+use Rattle.siman_lines.specs.declared.line.PassedOver.{PassedOver}
 use Rattle.siman_lines.specs.Calls.{IsFresh}
 use Rattle.siman_operator.specs.declared.printing.PrintFault.TheVariants as prints
 use Rattle.siman_operator.specs.Deeds.{PostData}
@@ -36,10 +37,10 @@ pub record IsReady {L : Type 0} (ready : ReadyStation L) : Type 0 where
   pub fresh : IsFresh 0 ready.station.node (open_setting ready.head) (Some (datagrams_sent ready.station.line))
 
 -- a post is played; its file has what the recorder wrote
-abbrev pub RecordsBegun : {L : Type 0} → (stations : List SiteApplication) → (strangers : L → ℕ) → (known : Option (List ℕ)) → PostData L → (out out_after errors errors_after : Option (List ℕ))
+abbrev pub RecordsBegun : {L : Type 0} → (stations : List SiteApplication) → (passed : L → PassedOver) → (known : Option (List ℕ)) → PostData L → (out out_after errors errors_after : Option (List ℕ))
     → (file : Option (List ℕ)) → SessionReport → Type 0
-RecordsBegun {L} stations strangers known post out out_after errors errors_after file told =
-    (after : PostData L) × (file ≡ after.recorder.contents) × Plays stations strangers known post after out out_after errors errors_after told
+RecordsBegun {L} stations passed known post out out_after errors errors_after file told =
+    (after : PostData L) × (file ≡ after.recorder.contents) × Plays stations passed known post after out out_after errors errors_after told
 
 -- the head was not written whole: this is reported, and no line is read
 pub record RecordsNone (w : SettingData) (file file_after out out_after errors errors_after : Option (List ℕ)) (told : SessionReport) : Type 0 where
@@ -49,11 +50,11 @@ pub record RecordsNone (w : SettingData) (file file_after out out_after errors e
   pub tells : WritesMore (Ok tt) told.written errors errors_after (closed_text (Err prints.Write))
 
 -- A SESSION IS RECORDED: the head is written, and then the post is played
-abbrev pub Records : {L : Type 0} → (strangers : L → ℕ) → (known : Option (List ℕ)) → ReadyStation L → (file file_after out out_after errors errors_after : Option (List ℕ))
+abbrev pub Records : {L : Type 0} → (passed : L → PassedOver) → (known : Option (List ℕ)) → ReadyStation L → (file file_after out out_after errors errors_after : Option (List ℕ))
     → SessionReport → Type 0
-Records strangers known ready file file_after out out_after errors errors_after told =
+Records passed known ready file file_after out out_after errors errors_after told =
     RecordsNone (open_setting ready.head) file file_after out out_after errors errors_after told
-    ⊎ ((w : WriterState) × Starts file (open_setting ready.head) w × RecordsBegun ready.stations.items strangers known (begun_post ready.head.setting.exercise ready.address ready.station w) out out_after errors errors_after file_after told)
+    ⊎ ((w : WriterState) × Starts file (open_setting ready.head) w × RecordsBegun ready.stations.items passed known (begun_post ready.head.setting.exercise ready.address ready.station w) out out_after errors errors_after file_after told)
 
 -- WHAT THE FILE HAS: the text of a recording of some entries and at most one more, or a prefix of it; with status 0
 -- the whole text with these entries. What the station recorded is explained: each prefix of the entries is a run in

@@ -19,6 +19,7 @@
 
 mod came;
 mod closing;
+mod coming;
 mod explanation;
 mod laws;
 mod obeying;

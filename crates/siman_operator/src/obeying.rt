@@ -100,7 +100,7 @@ impl<'s, L: Line + Drop, W: Write> Post<'s, L, W> {
         out: &mut O,
         task: StationTask,
     ) -> Result<(), AtLineFault>
-        ensures ends { DoesTask (telling L.strangers) self.old.clock task self.old.station self.old.recorder self.new.station self.new.recorder result }
+        ensures ends { DoesTask (telling L.passed) self.old.clock task self.old.station self.old.recorder self.new.station self.new.recorder result }
         ensures time { IsAtSameTime (data_of self.old) (data_of self.new) }
         ensures goes { GoesOn (printed (data_of self.old) (O.contents out.old)) (printed (data_of self.new) (O.contents out.new)) }
     {
@@ -119,7 +119,7 @@ impl<'s, L: Line + Drop, W: Write> Post<'s, L, W> {
         named: Address,
         task: StationTask,
     ) -> Result<(), Rejection>
-        ensures ends { DoesAsked (telling L.strangers) self.old.address self.old.clock named task self.old.station self.old.recorder self.new.station self.new.recorder result }
+        ensures ends { DoesAsked (telling L.passed) self.old.address self.old.clock named task self.old.station self.old.recorder self.new.station self.new.recorder result }
         ensures time { IsAtSameTime (data_of self.old) (data_of self.new) }
         ensures goes { GoesOn (printed (data_of self.old) (O.contents out.old)) (printed (data_of self.new) (O.contents out.new)) }
     {
@@ -132,7 +132,7 @@ impl<'s, L: Line + Drop, W: Write> Post<'s, L, W> {
     /// Does what a line asks for, given without its line feed: a task of the station, a new time of
     /// its clock, or nothing.
     fn obey<O: Write>(&mut self, alloc: Global, out: &mut O, line: &[u8]) -> Result<(), Rejection>
-        ensures ends { Obeys (telling L.strangers) self.old.address (command_of line.now) self.old.clock self.new.clock self.old.station self.old.recorder self.new.station self.new.recorder result }
+        ensures ends { Obeys (telling L.passed) self.old.address (command_of line.now) self.old.clock self.new.clock self.old.station self.old.recorder self.new.station self.new.recorder result }
         ensures address { self.new.address ≡ self.old.address }
         ensures goes { GoesOn (printed (data_of self.old) (O.contents out.old)) (printed (data_of self.new) (O.contents out.new)) }
     {
@@ -158,7 +158,7 @@ impl<'s, L: Line + Drop, W: Write> Post<'s, L, W> {
     /// is recorded before its datagram is sent, and its row is printed after that. If an entry is
     /// not recorded, nothing more is done, and no further line is to be taken.
     pub fn take_line<O: Write>(&mut self, alloc: Global, out: &mut O, line: &[u8]) -> LineResult
-        ensures ends { TakesLine (telling L.strangers) (command_of line.now) (data_of self.old) (data_of self.new) result }
+        ensures ends { TakesLine (telling L.passed) (command_of line.now) (data_of self.old) (data_of self.new) result }
         ensures goes { GoesOn (printed (data_of self.old) (O.contents out.old)) (printed (data_of self.new) (O.contents out.new)) }
     {
         let done = self.obey(alloc, out, line);

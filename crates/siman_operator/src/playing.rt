@@ -1,6 +1,6 @@
-//! The lines of a text, taken by a post one after the other.
+//! The lines of a text and the datagrams between them, taken by a post as they come.
 
-ghost use Rattle.std.specs.Prelude.{◌≡◌, ◌+◌, length};
+ghost use Rattle.std.specs.Prelude.{◌≡◌, ◌≢◌, ◌+◌, length, true, false};
 ghost use Rattle.siman_operator.specs.Deeds.{data_of, printed, GoesOn};
 ghost use Rattle.siman_operator.specs.Noting.{telling};
 ghost use Rattle.siman_operator.specs.Posts.{TakesLine};
@@ -8,25 +8,27 @@ ghost use Rattle.siman_operator.specs.declared.reading.TheConstants.{LONGEST_LIN
 ghost use Rattle.siman_operator.specs.Reading.{said_by};
 ghost use Rattle.siman_operator.specs.Reason.{Reasons};
 ghost use Rattle.siman_operator.specs.Receiver.{WarnsOf};
-ghost use Rattle.siman_operator.specs.Sessions.{print_stop_at, PlaysLines};
+ghost use Rattle.siman_operator.specs.Sessions.{print_stop_at, quit_line, PlaysLines};
 
 use crate::came::Came;
+use crate::coming::next_coming;
 use crate::reading::{LONGEST_LINE, line_or_placeholder};
 use crate::reason::reason_of;
 use crate::receiver::warned_receiver;
 use crate::session_report::SessionReport;
 use crate::{Post, PrintFault};
-use byte_files::read_line;
 use dis_records::Address;
-use siman_lines::Line;
+use siman_lines::{Input, Line};
 use std::alloc::Global;
-use std::io::{Read, Write};
+use std::io::Write;
 
 /// Why no further line of a text is taken.
 #[derive(Clone, Copy, Debug)]
 pub enum Stop {
     /// The text has ended.
     End,
+    /// A line said `quit`.
+    Quit,
     /// A read failed.
     Unread,
     /// An entry was not recorded.
@@ -56,7 +58,7 @@ fn take_buffered_line<L: Line + Drop, W: Write, O: Write>(
     out: &mut O,
     held: &[u8],
 ) -> Came
-    ensures takes { TakesLine (telling L.strangers) (said_by held.now) (data_of post.old) (data_of post.new) result.line }
+    ensures takes { TakesLine (telling L.passed) (said_by held.now) (data_of post.old) (data_of post.new) result.line }
     ensures print_stop { result.print_stop ≡ print_stop_at post.old.printer.fault post.new.printer.fault }
     ensures site { result.site ≡ post.old.address.site }
     ensures application { result.application ≡ post.old.address.application }
@@ -78,32 +80,37 @@ fn take_buffered_line<L: Line + Drop, W: Write, O: Write>(
     }
 }
 
-/// Takes the rest of the lines of a reader, each through the buffer, and reports for each what was
-/// not done, and a warning if no station of the script receives its order. Stops at the line at
-/// which an entry was not recorded.
-pub(crate) fn play_lines<L: Line + Drop, R: Read, W: Write, O: Write, E: Write>(
+/// Whether a line ends the session.
+fn is_quit(held: &[u8]) -> bool
+    ensures quits { result ≡ true → held.now ≡ quit_line }
+    ensures goes_on { result ≡ false → held.now ≢ quit_line }
+{
+    held == b"quit".as_slice()
+}
+
+/// Takes the rest of the lines of a text, each through the buffer, and between them the datagrams
+/// that come. Reports what was not done, and a warning if no station of the script receives an
+/// order. Stops at a line `quit`, and where an entry was not
+/// recorded.
+pub(crate) fn play_lines<L: Line + Drop, R: Input<L>, W: Write, O: Write, E: Write>(
     alloc: Global,
     stations: &[Address],
     post: &mut Post<'_, L, W>,
-    reader: &mut R,
+    input: &mut R,
     buffer: &mut [u8],
     out: &mut O,
     errors: &mut E,
 ) -> Played
     requires { length buffer.old ≡ LONGEST_LINE + 1 }
-    ensures plays { PlaysLines stations.now (telling L.strangers) (R.remaining reader.old) (data_of post.old) (data_of post.new) (E.contents errors.old) (E.contents errors.new) result }
+    ensures plays { PlaysLines stations.now (telling L.passed) (R.remaining input.old) (data_of post.old) (data_of post.new) (E.contents errors.old) (E.contents errors.new) result }
     ensures goes { GoesOn (printed (data_of post.old) (O.contents out.old)) (printed (data_of post.new) (O.contents out.new)) }
 {
     let mut told = SessionReport::nothing();
-    for number in 1..u64::MAX {
-        let held = match read_line(reader, buffer) {
-            Ok(Some(held)) => held,
-            Ok(None) => {
-                return Played {
-                    told,
-                    stop: Stop::End,
-                };
-            }
+    let mut number: u64 = 0;
+    let mut held = 0;
+    for _ in 0..u64::MAX {
+        let coming = match next_coming(input, post.link(), buffer, &mut held) {
+            Ok(coming) => coming,
             Err(_) => {
                 return Played {
                     told,
@@ -111,7 +118,21 @@ pub(crate) fn play_lines<L: Line + Drop, R: Read, W: Write, O: Write, E: Write>(
                 };
             }
         };
-        let came = take_buffered_line(alloc, stations, post, out, &buffer[..held]);
+        let Some(size) = coming.size() else {
+            return Played {
+                told,
+                stop: Stop::End,
+            };
+        };
+        let said = &buffer[..size];
+        if is_quit(said) {
+            return Played {
+                told,
+                stop: Stop::Quit,
+            };
+        }
+        let came = take_buffered_line(alloc, stations, post, out, said);
+        number = coming.number(number);
         told = told.and_line(errors, number, came);
         if came.line.is_over() {
             return Played {

@@ -8,7 +8,7 @@ ghost use Rattle.siman_operator.specs.Deeds.{data_of, printed, ServesOnce, IsAtS
 ghost use Rattle.siman_operator.specs.Posts.{begun_post};
 ghost use Rattle.siman_operator.specs.Closing.{session_text, PrintsEnd, Closes};
 
-use crate::closing::print_counts;
+use crate::closing::{SocketCounts, print_counts};
 use crate::printing::{EntryPrinter, PrintFault};
 use crate::tracing_line::TracingLine;
 use crate::turn_printing::{TurnCounts, print_sent, print_turn};
@@ -41,7 +41,7 @@ fn serve_counting<L: Line + Drop, W: Write>(
     recorder: &mut RecordingWriter<'_, W>,
     now: u64,
 ) -> Result<Served, ServeFault>
-    ensures ends { ServesOnce (telling L.strangers) now station.old recorder.old station.new recorder.new result }
+    ensures ends { ServesOnce (telling L.passed) now station.old recorder.old station.new recorder.new result }
     ensures keeps { Keeps station.old.index station.old.node recorder.old (Some (datagrams_sent station.old.line)) station.new.node recorder.new (Some (datagrams_sent station.new.line)) }
 {
     let StationAtLine {
@@ -88,7 +88,7 @@ impl<'s, L: Line + Drop, W: Write> Post<'s, L, W> {
         out: &mut O,
         order: Order,
     ) -> Result<(), AtLineFault>
-        ensures ends { OrdersAt (telling L.strangers) self.old.clock order self.old.station self.old.recorder self.new.station self.new.recorder result }
+        ensures ends { OrdersAt (telling L.passed) self.old.clock order self.old.station self.old.recorder self.new.station self.new.recorder result }
         ensures time { IsAtSameTime (data_of self.old) (data_of self.new) }
         ensures goes { GoesOn (printed (data_of self.old) (O.contents out.old)) (printed (data_of self.new) (O.contents out.new)) }
     {
@@ -110,7 +110,7 @@ impl<'s, L: Line + Drop, W: Write> Post<'s, L, W> {
     /// Records and sends the repeat that is due, if any, as [`repeat_at`] does, and prints the row
     /// of its entry.
     pub(crate) fn repeat<O: Write>(&mut self, alloc: Global, out: &mut O) -> Result<(), AtLineFault>
-        ensures ends { RepeatsAt (telling L.strangers) self.old.clock self.old.station self.old.recorder self.new.station self.new.recorder result }
+        ensures ends { RepeatsAt (telling L.passed) self.old.clock self.old.station self.old.recorder self.new.station self.new.recorder result }
         ensures time { IsAtSameTime (data_of self.old) (data_of self.new) }
         ensures goes { GoesOn (printed (data_of self.old) (O.contents out.old)) (printed (data_of self.new) (O.contents out.new)) }
     {
@@ -163,7 +163,7 @@ impl<'s, L: Line + Drop, W: Write> Post<'s, L, W> {
         alloc: Global,
         out: &mut O,
     ) -> Result<Served, ServeFault>
-        ensures ends { ServesOnce (telling L.strangers) self.old.clock self.old.station self.old.recorder self.new.station self.new.recorder result }
+        ensures ends { ServesOnce (telling L.passed) self.old.clock self.old.station self.old.recorder self.new.station self.new.recorder result }
         ensures time { IsAtSameTime (data_of self.old) (data_of self.new) }
         ensures goes { GoesOn (printed (data_of self.old) (O.contents out.old)) (printed (data_of self.new) (O.contents out.new)) }
     {
@@ -185,26 +185,50 @@ impl<'s, L: Line + Drop, W: Write> Post<'s, L, W> {
         served
     }
 
+    /// What the system says of the socket of its link.
+    fn socket_counts(&self) -> SocketCounts {
+        let line = &self.station.line;
+        SocketCounts {
+            lost: line.lost(),
+            buffer: line.buffer(),
+        }
+    }
+
     /// Prints the counts of its recording, if every entry was printed.
-    fn print_end<O: Write>(&self, alloc: Global, out: &mut O) -> Result<(), PrintFault>
-        ensures { PrintsEnd self.now.printer.fault (session_text self.now.recorder.entries self.now.station.dropped (L.strangers self.now.station.line.line)) (O.contents out.old) (O.contents out.new) result }
+    fn print_end<O: Write>(
+        &self,
+        alloc: Global,
+        counts: SocketCounts,
+        out: &mut O,
+    ) -> Result<(), PrintFault>
+        ensures { PrintsEnd self.now.printer.fault (session_text self.now.recorder.entries self.now.station.dropped (L.passed self.now.station.line.line) counts) (O.contents out.old) (O.contents out.new) result }
     {
         if self.printer.fault().is_some() {
             return Ok(());
         }
         let records = self.recorder.entry_count();
-        let strangers = self.station.line.strangers();
-        print_counts(alloc, records, self.station.dropped, strangers, out)
+        let passed = self.station.line.passed();
+        print_counts(alloc, records, self.station.dropped, passed, counts, out)
     }
 
     /// Ends the recording, and prints its counts if every entry was printed.
     pub(crate) fn close<O: Write>(&mut self, alloc: Global, out: &mut O) -> Result<(), PrintFault>
-        ensures { Closes L.strangers (data_of self.old) (data_of self.new) (O.contents out.old) (O.contents out.new) result }
+        ensures { Closes L.passed (data_of self.old) (data_of self.new) (O.contents out.old) (O.contents out.new) result }
     {
         match self.recorder.finish() {
-            Ok(()) => self.print_end(alloc, out),
+            Ok(()) => {
+                let counts = self.socket_counts();
+                self.print_end(alloc, counts, out)
+            }
             Err(_) => Err(PrintFault::Write),
         }
+    }
+
+    /// Its link.
+    pub(crate) fn link(&self) -> &L
+        ensures { result.now ≡ self.now.station.line.line }
+    {
+        self.station.line.inner()
     }
 
     /// Last failed call of its link, if there was any and the link records it.

@@ -10,9 +10,9 @@ use crate::playing::{Played, Stop, play_lines};
 use crate::reading::LONGEST_LINE;
 use crate::session_report::SessionReport;
 use dis_records::Address;
-use siman_lines::Line;
+use siman_lines::{Input, Line};
 use std::alloc::Global;
-use std::io::{Read, Write};
+use std::io::Write;
 
 /// Ends the recording, prints its counts, and reports a failure of either.
 fn close_session<L: Line + Drop, W: Write, O: Write, E: Write>(
@@ -22,7 +22,7 @@ fn close_session<L: Line + Drop, W: Write, O: Write, E: Write>(
     out: &mut O,
     errors: &mut E,
 ) -> SessionReport
-    ensures { ClosesAt L.strangers (data_of post.old) (data_of post.new) (O.contents out.old) (O.contents out.new) told result (E.contents errors.old) (E.contents errors.new) }
+    ensures { ClosesAt L.passed (data_of post.old) (data_of post.new) (O.contents out.old) (O.contents out.new) told result (E.contents errors.old) (E.contents errors.new) }
 {
     let closed = post.close(alloc, out);
     told.and_closed(errors, closed)
@@ -37,11 +37,11 @@ fn end_session<L: Line + Drop, W: Write, O: Write, E: Write>(
     out: &mut O,
     errors: &mut E,
 ) -> SessionReport
-    ensures { EndsSession L.strangers played.stop (data_of post.old) (data_of post.new) (O.contents out.old) (O.contents out.new) played.told result (E.contents errors.old) (E.contents errors.new) }
+    ensures { EndsSession L.passed played.stop (data_of post.old) (data_of post.new) (O.contents out.old) (O.contents out.new) played.told result (E.contents errors.old) (E.contents errors.new) }
 {
     let told = played.told;
     match played.stop {
-        Stop::End => close_session(alloc, post, told, out, errors),
+        Stop::End | Stop::Quit => close_session(alloc, post, told, out, errors),
         Stop::Unread => {
             let told = told.and_unread(errors);
             close_session(alloc, post, told, out, errors)
@@ -59,24 +59,24 @@ fn end_session<L: Line + Drop, W: Write, O: Write, E: Write>(
 /// script, receives. After all of these the session goes on. It ends at once when an entry was not
 /// recorded: this is reported, and no further line is read.
 ///
-/// At the end of the text the recording is ended, and its counts are printed:
-/// `station records=N dropped=N strangers=N`. A failed read is reported (`file: -`) and also ends the
+/// At the end of the text, or at a line `quit`, the recording is ended, and its counts are printed:
+/// `station records=N dropped=N strangers=N other=N lost=N buffer=N`. A failed is reported (`file: -`) and also ends the
 /// text.
 ///
 /// Returns the worst status: 3 if memory ran out, else 2 if anything failed or was not done, else
 /// 0.
-pub fn play<L: Line + Drop, R: Read, W: Write, O: Write, E: Write>(
+pub fn play<L: Line + Drop, R: Input<L>, W: Write, O: Write, E: Write>(
     alloc: Global,
     stations: &[Address],
     post: &mut Post<'_, L, W>,
-    reader: &mut R,
+    input: &mut R,
     buffer: &mut [u8],
     out: &mut O,
     errors: &mut E,
 ) -> SessionReport
     requires { length buffer.old ≡ LONGEST_LINE + 1 }
-    ensures { Plays stations.now L.strangers (R.remaining reader.old) (data_of post.old) (data_of post.new) (O.contents out.old) (O.contents out.new) (E.contents errors.old) (E.contents errors.new) result }
+    ensures { Plays stations.now L.passed (R.remaining input.old) (data_of post.old) (data_of post.new) (O.contents out.old) (O.contents out.new) (E.contents errors.old) (E.contents errors.new) result }
 {
-    let played = play_lines(alloc, stations, post, reader, buffer, out, errors);
+    let played = play_lines(alloc, stations, post, input, buffer, out, errors);
     end_session(alloc, post, played, out, errors)
 }

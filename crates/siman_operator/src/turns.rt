@@ -82,7 +82,7 @@ impl<'s, L: Line + Drop, W: Write> Post<'s, L, W> {
     /// Goes on if a send fails or memory runs out; ends if an entry is not recorded. Returns what
     /// failed.
     pub(crate) fn take_turns<O: Write>(&mut self, alloc: Global, out: &mut O) -> Trouble
-        ensures ends { TakesTurns (telling L.strangers) self.old.clock self.old.station self.old.recorder self.new.station self.new.recorder result }
+        ensures ends { TakesTurns (telling L.passed) self.old.clock self.old.station self.old.recorder self.new.station self.new.recorder result }
         ensures time { IsAtSameTime (data_of self.old) (data_of self.new) }
         ensures goes { GoesOn (printed (data_of self.old) (O.contents out.old)) (printed (data_of self.new) (O.contents out.new)) }
     {

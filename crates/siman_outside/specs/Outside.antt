@@ -6,6 +6,7 @@ use Rattle.std.specs.List.{All}
 use Rattle.std.specs.declared.io.Error.{Error}
 use Rattle.std.specs.declared.io.ErrorKind.{ErrorKind}
 use Rattle.std.specs.declared.io.ErrorKind.TheVariants.{OutOfMemory}
+use Rattle.siman_outside.specs.declared.commands.Listening.{Listening}
 use Rattle.siman_outside.specs.declared.ending.Ending.{Ending}
 use Rattle.siman_outside.specs.declared.endpoint.Endpoint.{Endpoint}
 use Rattle.siman_outside.specs.declared.fault.Ended.{Ended}
@@ -86,8 +87,8 @@ pub data Deed : Type 0 where
   LooksFor : (name : List ℕ) → Bool → Deed
   -- A call asked for the links of so many stations, and returned this number of them or the error.
   Lines : (stations : ℕ) → Result ℕ ErrorKind → Deed
-  -- A call asked for a link whose socket is bound to `bind` and which sends to these peers and hears them alone or anyone; it succeeded, or this is the error.
-  Binds : (bind : Endpoint) → (peers : List Endpoint) → (anyone : Bool) → Saved → Deed
+  -- A call asked for a link whose socket is bound to `bind` and which sends to these peers and hears whom and what it is to hear; it succeeded, or this is the error.
+  Binds : (bind : Endpoint) → (peers : List Endpoint) → Listening → Saved → Deed
   -- A file was created under a name; it was left with these bytes, if they are known.
   Creates : (name : List ℕ) → Found → Deed
   Leaves : Option (List ℕ) → Deed

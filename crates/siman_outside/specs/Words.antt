@@ -16,6 +16,7 @@ use Rattle.siman_outside.specs.declared.commands.JoinChoices.{JoinChoices}
 use Rattle.siman_outside.specs.declared.commands.JoinForm.{JoinForm}
 use Rattle.siman_outside.specs.declared.commands.JoinForm.TheVariants.{Open, Closed}
 use Rattle.siman_outside.specs.declared.commands.ImportWords.{ImportWords}
+use Rattle.siman_outside.specs.declared.commands.Listening.{Listening}
 use Rattle.siman_outside.specs.declared.commands.StationWords.{StationWords}
 use Rattle.siman_outside.specs.declared.commands.Takes.{Takes}
 use Rattle.siman_outside.specs.declared.commands.Takes.TheVariants as shapes
@@ -24,14 +25,14 @@ use Rattle.siman_outside.specs.declared.commands.Task.TheVariants as tasks
 use Rattle.siman_outside.specs.ImportWords.{Choices, choices_by, choices_of}
 
 -- the words of a station: a script, the station's address, its recording, its socket and its peers,
--- and whether it listens to strangers too
+-- and whom it hears, and what
 pub record StationAsked : Type 0 where
   pub setup : List ℕ
   pub address : List ℕ
   pub recording : List ℕ
   pub bind : List ℕ
   pub peers : List (List ℕ)
-  pub anyone : Bool
+  pub listening : Listening
 
 -- the words of an import: a script, the station's address, that of its host, a capture, the recording to make, and
 -- what the words behind it say
@@ -74,7 +75,7 @@ named_by text words = record {
   recording = words.recording.now;
   bind = words.bind.now;
   peers = map text words.peers.now;
-  anyone = words.anyone;
+  listening = words.listening;
 }
 
 abbrev pub import_named : ImportWords → ImportAsked
@@ -239,17 +240,34 @@ anyone_behind words (Some p) = if bytes_eq p.1 (codes "from=any") then (p.0, tru
 abbrev pub anyone_apart : List (List ℕ) → List (List ℕ) × Bool
 anyone_apart words = anyone_behind words (last_apart words)
 
+abbrev pub all_behind : List (List ℕ) → Option (List (List ℕ) × List ℕ) → List (List ℕ) × Bool
+all_behind words None = (words, false)
+all_behind words (Some p) = if bytes_eq p.1 (codes "keep=all") then (p.0, true) else (words, false)
+
+-- the words without `keep=all` at the end, and whether it was there
+abbrev pub all_apart : List (List ℕ) → List (List ℕ) × Bool
+all_apart words = all_behind words (last_apart words)
+
+-- the words before `from=any`, or without it, and whether `keep=all` is behind it or before it
+abbrev pub listening_behind : (all : Bool) → List (List ℕ) × Bool → List (List ℕ) × Listening
+listening_behind true p = (p.0, record { anyone = p.1; all = true })
+listening_behind false p = ((all_apart p.0).0, record { anyone = p.1; all = (all_apart p.0).1 })
+
+-- the words without `from=any` and `keep=all` at the end, in either order, and what these say
+abbrev pub listening_apart : List (List ℕ) → List (List ℕ) × Listening
+listening_apart words = listening_behind (all_apart words).1 (anyone_apart (all_apart words).0)
+
 -- the station of these names, if they include a peer
-abbrev pub station_named : (anyone : Bool) → List (List ℕ) → Option Asked
-station_named anyone (setup ∷ address ∷ recording ∷ bind ∷ peers) =
+abbrev pub station_named : Listening → List (List ℕ) → Option Asked
+station_named listening (setup ∷ address ∷ recording ∷ bind ∷ peers) =
     if length peers == 0 then None
-    else Some (Station (record { setup = setup; address = address; recording = recording; bind = bind; peers = peers; anyone = anyone }))
-station_named anyone words = None
+    else Some (Station (record { setup = setup; address = address; recording = recording; bind = bind; peers = peers; listening = listening }))
+station_named listening words = None
 
 -- STATION needs a script, an address, a recording, a socket's address and at least one peer;
--- `from=any` is allowed at the end
+-- `from=any` and `keep=all` are allowed at the end, each once
 abbrev pub station_asked : List (List ℕ) → Option Asked
-station_asked words = let p = anyone_apart words in if has_option p.0 then None else station_named p.1 p.0
+station_asked words = let p = listening_apart words in if has_option p.0 then None else station_named p.1 p.0
 
 -- the spelling of rows, given how many times `--json` occurs
 abbrev pub spelling_by : (json : ℕ) → Spelling

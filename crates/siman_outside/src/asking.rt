@@ -1,11 +1,11 @@
 //! Reads words by the table of commands: the task that they ask for.
 
 ghost use Rattle.std.specs.Prelude.{◌≡◌, ◌≤◌, length, map, option_map};
-ghost use Rattle.siman_outside.specs.Words.{asked_by, is_option, takes_of, takes_named, bare_asked, one_asked, two_asked, taken, last_apart, has_option, is_join_word, form_named, form_apart, parts_apart, join_choices_apart, are_names, fewest_pieces, pieces_asked, join_asked, anyone_apart, import_asked, station_named, station_asked, view_asked, why_asked, chart_asked};
+ghost use Rattle.siman_outside.specs.Words.{asked_by, is_option, takes_of, takes_named, bare_asked, one_asked, two_asked, taken, last_apart, has_option, is_join_word, form_named, form_apart, parts_apart, join_choices_apart, are_names, fewest_pieces, pieces_asked, join_asked, anyone_apart, all_apart, listening_apart, import_asked, station_named, station_asked, view_asked, why_asked, chart_asked};
 
 use crate::commands::{
-    ImportWords, JoinChoices, JoinForm, NoWord, OneWord, StationWords, Takes, Task, TwoWords,
-    ViewWord,
+    ImportWords, JoinChoices, JoinForm, Listening, NoWord, OneWord, StationWords, Takes, Task,
+    TwoWords, ViewWord,
 };
 use crate::import_words::choices_of;
 use crate::rows::CommandRow;
@@ -230,9 +230,32 @@ fn anyone_apart<S: AsStr>(words: &[S]) -> (&[S], bool)
     }
 }
 
+/// The words without `keep=all` at the end, and whether it was there.
+fn all_apart<S: AsStr>(words: &[S]) -> (&[S], bool)
+    ensures { (map S.text result.0.now, result.1) ≡ all_apart (map S.text words.now) }
+{
+    match last_apart(words) {
+        Some((before, last)) if last == "keep=all" => (before, true),
+        _ => (words, false),
+    }
+}
+
+/// The words without `from=any` and `keep=all` at the end, in either order, and what these say.
+fn listening_apart<S: AsStr>(words: &[S]) -> (&[S], Listening)
+    ensures { (map S.text result.0.now, result.1) ≡ listening_apart (map S.text words.now) }
+{
+    let (before, all_last) = all_apart(words);
+    let (names, anyone) = anyone_apart(before);
+    if all_last {
+        return (names, Listening { anyone, all: true });
+    }
+    let (names, all) = all_apart(names);
+    (names, Listening { anyone, all })
+}
+
 /// The task of `station`, if the names include at least one peer.
-fn named_station<S: AsStr>(anyone: bool, names: &[S]) -> Option<Task<'_, S>>
-    ensures { option_map (asked_by S.text) result ≡ station_named anyone (map S.text names.now) }
+fn named_station<S: AsStr>(listening: Listening, names: &[S]) -> Option<Task<'_, S>>
+    ensures { option_map (asked_by S.text) result ≡ station_named listening (map S.text names.now) }
 {
     match names {
         [setup, address, recording, bind, peers @ ..] if !peers.is_empty() => {
@@ -242,7 +265,7 @@ fn named_station<S: AsStr>(anyone: bool, names: &[S]) -> Option<Task<'_, S>>
                 recording: recording.as_str(),
                 bind: bind.as_str(),
                 peers,
-                anyone,
+                listening,
             }))
         }
         _ => None,
@@ -252,11 +275,11 @@ fn named_station<S: AsStr>(anyone: bool, names: &[S]) -> Option<Task<'_, S>>
 fn station_words<S: AsStr>(words: &[S]) -> Option<Task<'_, S>>
     ensures { option_map (asked_by S.text) result ≡ station_asked (map S.text words.now) }
 {
-    let (names, anyone) = anyone_apart(words);
+    let (names, listening) = listening_apart(words);
     if has_option(names) {
         return None;
     }
-    named_station(anyone, names)
+    named_station(listening, names)
 }
 
 fn view_words<S: AsStr>(view: ViewWord, spelling: Spelling, words: &[S]) -> Option<Task<'_, S>>

@@ -73,6 +73,15 @@ pub struct JoinChoices {
     pub parts: bool,
 }
 
+/// Whom a station hears, and what, as the words behind its peers say.
+#[derive(Clone, Copy)]
+pub struct Listening {
+    /// Whether it hears strangers too, and not its peers alone.
+    pub anyone: bool,
+    /// Whether it keeps datagrams of every protocol family, and not of Simulation Management alone.
+    pub all: bool,
+}
+
 /// The words of `station`.
 #[derive(Drop)]
 pub struct StationWords<'a, S> {
@@ -86,8 +95,8 @@ pub struct StationWords<'a, S> {
     pub bind: &'a str,
     /// The addresses and ports of its peers, at least one.
     pub peers: &'a [S],
-    /// Whether it listens to strangers too, and not to its peers alone.
-    pub anyone: bool,
+    /// Whom it hears, and what.
+    pub listening: Listening,
 }
 
 /// The words of `import`.
@@ -151,7 +160,7 @@ pub enum Takes {
     /// is read.
     Capture,
     /// A script, an address, a recording, a socket's address, at least one peer, and perhaps
-    /// `from=any`.
+    /// `from=any` and `keep=all`.
     Station,
     /// The file of a recording, and words that choose among the rows.
     View(ViewWord),

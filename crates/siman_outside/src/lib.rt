@@ -62,7 +62,8 @@ mod warning;
 pub use answer_text::AnswerText;
 pub use command_line::{CommandLine, read_words};
 pub use commands::{
-    ImportWords, JoinChoices, JoinForm, NoWord, OneWord, StationWords, Task, TwoWords, ViewWord,
+    ImportWords, JoinChoices, JoinForm, Listening, NoWord, OneWord, StationWords, Task, TwoWords,
+    ViewWord,
 };
 pub use ending::{Ending, conclude};
 pub use endpoint::{Endpoint, endpoint_of};

@@ -113,7 +113,7 @@ pub(crate) const ROWS: [CommandRow; 18] = [
     CommandRow {
         name: "station",
         takes: Takes::Station,
-        usage: "siman station <SETUP> <ADDRESS> <REC> <BIND> <PEER>... [from=any]",
+        usage: "siman station <SETUP> <ADDRESS> <REC> <BIND> <PEER>... [from=any] [keep=all]",
         about: "Plays a station of a script over UDP, by the lines of standard input, and writes what it sends, receives and tells",
         example: "Example:\n  siman station exercise.script 1:1 manager.dsrc 10.0.0.1:3000 10.0.0.2:3000 < orders",
         words: &[
@@ -136,7 +136,7 @@ pub(crate) const ROWS: [CommandRow; 18] = [
             CommandWord {
                 name: "PEER",
                 often: Often::OnceOrMore,
-                about: "Where a peer is, or those of a network, IP:PORT. Behind the last one from=any may stand: then others are heard, too",
+                about: "Where a peer is, or those of a network, IP:PORT. Behind the last one may stand from=any: then others are heard, too; and keep=all: then PDUs of every protocol family are kept",
             },
         ],
     },

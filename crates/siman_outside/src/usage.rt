@@ -139,7 +139,7 @@ fn complaint<S: AsStr>(words: &[S]) -> &'static str {
             if rest.iter().any(|word| word.as_str() == "-") {
                 "standard input has the lines of the station: '-' names no file here"
             } else {
-                "a peer stands before 'from=any'"
+                "a peer stands before 'from=any' and 'keep=all'"
             }
         }
         _ => "these words ask for nothing",

@@ -47,6 +47,8 @@ mod reviews;
 #[cfg(test)]
 mod scripts;
 #[cfg(test)]
+mod sockets;
+#[cfg(test)]
 mod troubles;
 pub mod uses;
 #[cfg(test)]

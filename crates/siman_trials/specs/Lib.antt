@@ -1,3 +1,4 @@
+pub mod MemorySocket
 pub mod Recorded
 pub mod Moves
 pub mod Ended

@@ -1,5 +1,6 @@
 //! Readers and writers whose calls move few bytes, or fail.
 
+use siman_lines::{Input, Ready};
 use std::alloc::Global;
 use std::io;
 use std::io::{ErrorKind, Read, Write};
@@ -28,14 +29,26 @@ pub struct Given<'a> {
     left: &'a [u8],
     calls: Calls,
     made: u64,
+    /// Number of bytes that it has given.
+    given: usize,
+    /// Numbers of bytes behind which datagrams come before the next byte, rising.
+    pauses: &'a [usize],
 }
 
 /// Reader of these bytes, with limited calls.
 pub fn read_from(left: &[u8], calls: Calls) -> Given<'_> {
+    read_with_pauses(left, calls, &[])
+}
+
+/// Reader of these bytes, with limited calls. A wait behind a number of bytes that is in `pauses`,
+/// in rising order, finds datagrams first, once for each time that it is there.
+pub fn read_with_pauses<'a>(left: &'a [u8], calls: Calls, pauses: &'a [usize]) -> Given<'a> {
     Given {
         left,
         calls,
         made: 0,
+        given: 0,
+        pauses,
     }
 }
 
@@ -52,7 +65,26 @@ impl Read for Given<'_> {
         let (front, rest) = self.left.split_at(size);
         buf[..size].copy_from_slice(front);
         self.left = rest;
+        self.given = self.given.saturating_add(size);
         Ok(size)
+    }
+}
+
+impl<L> Input<L> for Given<'_> {
+    fn wait(&mut self, _line: &L) -> Ready {
+        if let [first, rest @ ..] = self.pauses {
+            if *first <= self.given {
+                self.pauses = rest;
+                return Ready {
+                    text: false,
+                    datagrams: true,
+                };
+            }
+        }
+        Ready {
+            text: true,
+            datagrams: false,
+        }
     }
 }
 

@@ -26,6 +26,8 @@ pub struct Case {
     pub unread: Option<ErrorKind>,
     pub files: Vec<File>,
     pub input: Stream,
+    /// Numbers of bytes of `input` behind which datagrams come before the next byte.
+    pub input_pauses: Vec<usize>,
     pub out: Stream,
     pub errors: Stream,
     /// Expected second line of the fault, if `is_reason` is set.
@@ -78,6 +80,7 @@ impl Drop for Case {
             unread: _unread,
             files: _files,
             input: _input,
+            input_pauses: _input_pauses,
             out: _out,
             errors: _errors,
             reason: _reason,
@@ -113,6 +116,7 @@ pub fn begin_case(alloc: Global, name: String, files: Vec<File>) -> Case {
         unread: None,
         files,
         input: empty(alloc),
+        input_pauses: Vec::new(alloc),
         out: empty(alloc),
         errors: empty(alloc),
         reason: empty(alloc),
@@ -321,6 +325,14 @@ impl Case {
         }
     }
 
+    /// Adds a pause: in the input, or else before the next datagram.
+    fn pause(&mut self) -> Result<(), AllocError> {
+        match self.part {
+            CasePart::Input => Ok(self.input_pauses.push(self.input.bytes.len())?),
+            _ => Ok(self.pauses.push(self.coming.len())?),
+        }
+    }
+
     /// Takes a line that adds an item to the case, or begins the next case.
     fn enter(&mut self, line: CaseLine<'_>) -> Result<(), AllocError> {
         match line.says {
@@ -330,7 +342,7 @@ impl Case {
             Says::Begin(part) => self.begin(part),
             Says::Asked => put_times(&mut self.asked, 1, line.text, "\n"),
             Says::Keep => self.keep_as(line.text),
-            Says::Pause => Ok(self.pauses.push(self.coming.len())?),
+            Says::Pause => self.pause(),
             Says::Call(asked) => self.call(Call {
                 asked,
                 number: line.first,

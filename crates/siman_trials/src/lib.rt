@@ -1,6 +1,6 @@
 //! What the programs and the tests that try siman share: cases read from lines of text, readers and
 //! writers that fail, random scenes of stations, and stations at links in memory, as a case asks
-//! for them. It also makes random datagrams, scripts and command lines, spoils bytes, and says
+//! for them, and a socket in memory. It also makes random datagrams, scripts and command lines, spoils bytes, and says
 //! whether all ways to read a datagram or a recording agree. It never opens a file or a socket, and
 //! never runs a command.
 //!
@@ -17,6 +17,7 @@ mod file;
 mod input;
 mod letter;
 mod lines;
+mod memory_socket;
 mod network;
 mod performed;
 mod random;
@@ -31,12 +32,13 @@ mod station_call;
 mod station_trial;
 mod wire;
 
-pub use calls::{Calls, Given, WELL, Written, read_from, write_to};
+pub use calls::{Calls, Given, WELL, Written, read_from, read_with_pauses, write_to};
 pub use case::{Call, Case, begin_case};
 pub use entries::{TextEntries, entries_of};
 pub use file::{File, Stream, found};
 pub use input::{RandomInput, begin_input};
 pub use lines::Asked;
+pub use memory_socket::{AddressedDatagram, MemorySocket};
 pub use network::record_on_network;
 pub use performed::{LinkMoveFault, make_moves};
 pub use random::Random;

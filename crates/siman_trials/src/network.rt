@@ -3,6 +3,7 @@
 ghost use Rattle.std.specs.Prelude.{◌≡◌, ◌⊎◌, List, length, None, Err};
 ghost use Rattle.siman_stations.specs.World.{WorldData, setting_of};
 ghost use Rattle.siman_lines.specs.AtLines.{Telling};
+ghost use Rattle.siman_lines.specs.Passed.{passed_nothing};
 ghost use Rattle.siman_lines.specs.declared.fault.AtLineFault.TheVariants as at_lines;
 ghost use Rattle.siman_trials.specs.declared.recorded.ExerciseFault.TheVariants.{Lines};
 ghost use Rattle.siman_trials.specs.declared.wire.WireLine.{WireLine};
@@ -29,7 +30,7 @@ pub fn record_on_network<W: Write + Drop>(
     file: W,
 ) -> TrialRecording<W>
     ensures comes { let w : WorldData = record { exercise = exercise; stations = stations.items } in
-        let told : Telling WireLine = record { received = λ l. None; sent = λ l. None; failures = λ l. length l.failures.items; strangers = λ l. 0 } in
+        let told : Telling WireLine = record { received = λ l. None; sent = λ l. None; failures = λ l. length l.failures.items; passed = λ l. passed_nothing } in
         ((result.ended ≡ Err (Lines at_lines.Memory)) × (W.contents result.file ≡ W.contents file)) ⊎ ((lines : List WireLine) × (length lines ≡ length stations.items) × ComesToEnd told w lines moves.items (W.contents file) (W.contents result.file) result.ended) }
     ensures leaves { let w : WorldData = record { exercise = exercise; stations = stations.items } in
         Leaves (setting_of w) (W.contents file) (W.contents result.file) result.ended }

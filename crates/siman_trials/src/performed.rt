@@ -45,7 +45,7 @@ fn act_at<L: Line + Drop, W: Write>(
     now: u64,
     act: Act,
 ) -> Result<(), AtLineFault>
-    ensures does { let told : Telling L = record { received = L.received; sent = L.sent; failures = L.failures; strangers = L.strangers } in
+    ensures does { let told : Telling L = record { received = L.received; sent = L.sent; failures = L.failures; passed = L.passed } in
         ActsAt told now act result station.old recorder.old station.new recorder.new }
     ensures index { station.new.index ≡ station.old.index }
     ensures keeps { Keeps station.old.index station.old.node recorder.old (L.sent station.old.line) station.new.node recorder.new (L.sent station.new.line) }
@@ -65,11 +65,11 @@ fn make_move<L: Line + Drop, W: Write>(
     recorder: &mut RecordingWriter<'_, W>,
     step: Move,
 ) -> Result<(), LinkMoveFault>
-    ensures ends { let told : Telling L = record { received = L.received; sent = L.sent; failures = L.failures; strangers = L.strangers } in
+    ensures ends { let told : Telling L = record { received = L.received; sent = L.sent; failures = L.failures; passed = L.passed } in
         let old : AtLines L = record { stations = stations.old.items; recorder = recorder.old } in
         let new : AtLines L = record { stations = stations.new.items; recorder = recorder.new } in
         MoveEnds told step old new result }
-    ensures follows { let told : Telling L = record { received = L.received; sent = L.sent; failures = L.failures; strangers = L.strangers } in
+    ensures follows { let told : Telling L = record { received = L.received; sent = L.sent; failures = L.failures; passed = L.passed } in
         let old : AtLines L = record { stations = stations.old.items; recorder = recorder.old } in
         let new : AtLines L = record { stations = stations.new.items; recorder = recorder.new } in
         Follows told old new }
@@ -93,12 +93,12 @@ pub fn make_moves<L: Line + Drop, W: Write>(
     recorder: &mut RecordingWriter<'_, W>,
     moves: Vec<Move>,
 ) -> Result<(), LinkMoveFault>
-    ensures ends { let told : Telling L = record { received = L.received; sent = L.sent; failures = L.failures; strangers = L.strangers } in
+    ensures ends { let told : Telling L = record { received = L.received; sent = L.sent; failures = L.failures; passed = L.passed } in
         let old : AtLines L = record { stations = stations.old.items; recorder = recorder.old } in
         let new : AtLines L = record { stations = stations.new.items; recorder = recorder.new } in
         MovesEnd told moves.items old new result }
     // With a fault too, the effect is one of calls at these stations.
-    ensures follows { let told : Telling L = record { received = L.received; sent = L.sent; failures = L.failures; strangers = L.strangers } in
+    ensures follows { let told : Telling L = record { received = L.received; sent = L.sent; failures = L.failures; passed = L.passed } in
         let old : AtLines L = record { stations = stations.old.items; recorder = recorder.old } in
         let new : AtLines L = record { stations = stations.new.items; recorder = recorder.new } in
         Follows told old new }

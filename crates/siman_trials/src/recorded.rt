@@ -60,11 +60,11 @@ fn end_moves<L: Line + Drop, W: Write>(
     recorder: &mut RecordingWriter<'_, W>,
     moves: Vec<Move>,
 ) -> Result<(), ExerciseFault>
-    ensures performs { let told : Telling L = record { received = L.received; sent = L.sent; failures = L.failures; strangers = L.strangers } in
+    ensures performs { let told : Telling L = record { received = L.received; sent = L.sent; failures = L.failures; passed = L.passed } in
         let old : AtLines L = record { stations = stations.old.items; recorder = recorder.old } in
         let new : AtLines L = record { stations = stations.new.items; recorder = recorder.new } in
         Performs told moves.items old new result }
-    ensures leaves { let told : Telling L = record { received = L.received; sent = L.sent; failures = L.failures; strangers = L.strangers } in
+    ensures leaves { let told : Telling L = record { received = L.received; sent = L.sent; failures = L.failures; passed = L.passed } in
         (before : Option (List ℕ)) (w : SettingData) → AreFresh told w stations.old.items → Starts before w recorder.old
         → Leaves w before recorder.new.contents result }
 {
@@ -84,9 +84,9 @@ fn record_at_lines<L: Line + Drop, W: Write + Drop>(
     moves: Vec<Move>,
     file: W,
 ) -> TrialRecording<W>
-    ensures records { let told : Telling L = record { received = L.received; sent = L.sent; failures = L.failures; strangers = L.strangers } in
+    ensures records { let told : Telling L = record { received = L.received; sent = L.sent; failures = L.failures; passed = L.passed } in
         Records told head.now.setting moves.items stations.items (W.contents file) (W.contents result.file) result.ended }
-    ensures leaves { let told : Telling L = record { received = L.received; sent = L.sent; failures = L.failures; strangers = L.strangers } in
+    ensures leaves { let told : Telling L = record { received = L.received; sent = L.sent; failures = L.failures; passed = L.passed } in
         (IsSetting head.now.setting → AreFresh told head.now.setting stations.items)
         → Leaves head.now.setting (W.contents file) (W.contents result.file) result.ended }
 {
@@ -120,7 +120,7 @@ fn record_begun<L: Line + Drop, W: Write + Drop>(
     moves: Vec<Move>,
     file: W,
 ) -> TrialRecording<W>
-    ensures comes { let told : Telling L = record { received = L.received; sent = L.sent; failures = L.failures; strangers = L.strangers } in
+    ensures comes { let told : Telling L = record { received = L.received; sent = L.sent; failures = L.failures; passed = L.passed } in
         AttachesAndRecords told begun.recording.setting begun.nodes.items lines.items moves.items (W.contents file) (W.contents result.file) result.ended }
     ensures leaves { (w : WorldData) → begun.recording ≡ opened (setting_of w) → AreNewNodes w.exercise w.stations begun.nodes.items → AreUnused L.sent lines.items
         → Leaves (setting_of w) (W.contents file) (W.contents result.file) result.ended }
@@ -158,7 +158,7 @@ pub fn record_exercise<L: Line + Drop, W: Write + Drop>(
     file: W,
 ) -> TrialRecording<W>
     requires unused { AreUnused L.sent lines.items }
-    ensures comes { let told : Telling L = record { received = L.received; sent = L.sent; failures = L.failures; strangers = L.strangers } in
+    ensures comes { let told : Telling L = record { received = L.received; sent = L.sent; failures = L.failures; passed = L.passed } in
         let w : WorldData = record { exercise = exercise; stations = stations.items } in
         ComesToEnd told w lines.items moves.items (W.contents file) (W.contents result.file) result.ended }
     ensures leaves { let w : WorldData = record { exercise = exercise; stations = stations.items } in

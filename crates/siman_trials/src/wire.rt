@@ -4,7 +4,7 @@ ghost use Rattle.std.specs.Prelude.{◌≡◌, IfOk, length};
 
 use crate::Stream;
 use http_server::Log;
-use siman_lines::{Line, LineFault};
+use siman_lines::{Line, LineFault, PassedOver};
 use std::alloc::{AllocError, Global};
 use std::cell::RefCell;
 use std::rc::Rc;
@@ -208,13 +208,14 @@ pub fn line_with(
 /// Its contract does not expose the datagrams, only the number of failed calls.
 impl Line for WireLine {
     ghost use Rattle.std.specs.Prelude.{◌≡◌, length};
+    ghost use Rattle.siman_lines.specs.Passed.{passed_nothing};
 
     ghost failures = { λ l. length l.failures.items };
 
     ghost finds_nothing = { λ old new. new.failures ≡ old.failures };
 
     // No datagram arrives from a stranger.
-    ghost strangers = { λ _. 0 };
+    ghost passed = { λ _. passed_nothing };
 
     fn send(&mut self, datagram: &[u8]) -> Result<(), LineFault> {
         match self.put(datagram) {
@@ -230,7 +231,7 @@ impl Line for WireLine {
         }
     }
 
-    fn strangers(&self) -> u64 {
-        0
+    fn passed(&self) -> PassedOver {
+        PassedOver::nothing()
     }
 }

@@ -96,7 +96,7 @@ pub record Lives {L : Type 0} (told : Telling L) (w : SettingData) (moves : List
   pub entries : Result ℕ Fault
   pub records : Records told w moves posts after file entries
   pub recorded : IsRecorded w entries file
-  pub tells : PutsLiveRow entries (left_out_by told.strangers after) answered out
+  pub tells : PutsLiveRow entries (left_out_by told.passed after) answered out
 
 -- Stations.
 

@@ -107,7 +107,7 @@ fn act_at<L: Line + Drop, W: Write>(
 ) -> Result<(), LiveMoveFault>
     ensures made { OnOk result (live_fault station.old.node now act ≡ None) }
     ensures fault { IfErr result (Gives (live_fault station.old.node now act)) }
-    ensures does { let told : Telling L = record { received = L.received; sent = L.sent; failures = L.failures; strangers = L.strangers } in
+    ensures does { let told : Telling L = record { received = L.received; sent = L.sent; failures = L.failures; passed = L.passed } in
         ActEnds told now act result station.old recorder.old station.new recorder.new }
     ensures index { station.new.index ≡ station.old.index }
     ensures keeps { Keeps station.old.index station.old.node recorder.old (L.sent station.old.line) station.new.node recorder.new (L.sent station.new.line) }
@@ -130,12 +130,12 @@ fn make_move<L: Line + Drop, W: Write>(
 ) -> Result<(), LiveMoveFault>
     ensures made { OnOk result (move_fault recorder.old.entries (option_map (λ (p : StationAtLine L). p.node) (slice_get stations.old.items step.station)) step.now step.act ≡ None) }
     ensures fault { IfErr result (Gives (move_fault recorder.old.entries (option_map (λ (p : StationAtLine L). p.node) (slice_get stations.old.items step.station)) step.now step.act)) }
-    ensures ends { let told : Telling L = record { received = L.received; sent = L.sent; failures = L.failures; strangers = L.strangers } in
+    ensures ends { let told : Telling L = record { received = L.received; sent = L.sent; failures = L.failures; passed = L.passed } in
         let old : AtLines L = record { stations = stations.old.items; recorder = recorder.old } in
         let new : AtLines L = record { stations = stations.new.items; recorder = recorder.new } in
         MoveEnds told step old new result }
     // All that changed follows from calls at these stations, also after a fault.
-    ensures follows { let told : Telling L = record { received = L.received; sent = L.sent; failures = L.failures; strangers = L.strangers } in
+    ensures follows { let told : Telling L = record { received = L.received; sent = L.sent; failures = L.failures; passed = L.passed } in
         let old : AtLines L = record { stations = stations.old.items; recorder = recorder.old } in
         let new : AtLines L = record { stations = stations.new.items; recorder = recorder.new } in
         Follows told old new }
@@ -155,12 +155,12 @@ fn judge_and_make<L: Line + Drop, W: Write>(
 ) -> Result<(), LiveMoveFault>
     ensures made { OnOk result (judged recorder.old.entries (option_map (λ (p : StationAtLine L). p.node) (slice_get stations.old.items step.station)) step.now step.act ≡ None) }
     ensures fault { IfErr result (Gives (judged recorder.old.entries (option_map (λ (p : StationAtLine L). p.node) (slice_get stations.old.items step.station)) step.now step.act)) }
-    ensures ends { let told : Telling L = record { received = L.received; sent = L.sent; failures = L.failures; strangers = L.strangers } in
+    ensures ends { let told : Telling L = record { received = L.received; sent = L.sent; failures = L.failures; passed = L.passed } in
         let old : AtLines L = record { stations = stations.old.items; recorder = recorder.old } in
         let new : AtLines L = record { stations = stations.new.items; recorder = recorder.new } in
         JudgedEnds told step old new result }
     // All that changed follows from calls at these stations, also after a fault.
-    ensures follows { let told : Telling L = record { received = L.received; sent = L.sent; failures = L.failures; strangers = L.strangers } in
+    ensures follows { let told : Telling L = record { received = L.received; sent = L.sent; failures = L.failures; passed = L.passed } in
         let old : AtLines L = record { stations = stations.old.items; recorder = recorder.old } in
         let new : AtLines L = record { stations = stations.new.items; recorder = recorder.new } in
         Follows told old new }
@@ -189,12 +189,12 @@ pub(crate) fn make_moves<L: Line + Drop, W: Write>(
     recorder: &mut RecordingWriter<'_, W>,
     moves: Vec<Move>,
 ) -> Result<(), Fault<'static>>
-    ensures ends { let told : Telling L = record { received = L.received; sent = L.sent; failures = L.failures; strangers = L.strangers } in
+    ensures ends { let told : Telling L = record { received = L.received; sent = L.sent; failures = L.failures; passed = L.passed } in
         let old : AtLines L = record { stations = stations.old.items; recorder = recorder.old } in
         let new : AtLines L = record { stations = stations.new.items; recorder = recorder.new } in
         MovesEnd told moves.items old new result }
     // All that changed follows from calls at these stations, also after a fault.
-    ensures follows { let told : Telling L = record { received = L.received; sent = L.sent; failures = L.failures; strangers = L.strangers } in
+    ensures follows { let told : Telling L = record { received = L.received; sent = L.sent; failures = L.failures; passed = L.passed } in
         let old : AtLines L = record { stations = stations.old.items; recorder = recorder.old } in
         let new : AtLines L = record { stations = stations.new.items; recorder = recorder.new } in
         Follows told old new }

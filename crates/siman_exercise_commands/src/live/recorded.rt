@@ -67,7 +67,7 @@ fn end_moves<L: Line + Drop, W: Write>(
     recorder: &mut RecordingWriter<'_, W>,
     moves: Vec<Move>,
 ) -> Result<u32, Fault<'static>>
-    ensures { let told : Telling L = record { received = L.received; sent = L.sent; failures = L.failures; strangers = L.strangers } in
+    ensures { let told : Telling L = record { received = L.received; sent = L.sent; failures = L.failures; passed = L.passed } in
         let old : AtLines L = record { stations = stations.old.items; recorder = recorder.old } in
         let new : AtLines L = record { stations = stations.new.items; recorder = recorder.new } in
         Performs told moves.items old new result }
@@ -94,9 +94,9 @@ pub(crate) fn record_moves<L: Line + Drop, F: Write + Drop>(
     moves: Vec<Move>,
     file: F,
 ) -> LiveRecording<F>
-    requires { let told : Telling L = record { received = L.received; sent = L.sent; failures = L.failures; strangers = L.strangers } in
+    requires { let told : Telling L = record { received = L.received; sent = L.sent; failures = L.failures; passed = L.passed } in
         IsSetting head.now.setting → AreFresh told head.now.setting stations.old.items }
-    ensures records { let told : Telling L = record { received = L.received; sent = L.sent; failures = L.failures; strangers = L.strangers } in
+    ensures records { let told : Telling L = record { received = L.received; sent = L.sent; failures = L.failures; passed = L.passed } in
         let kept : Stream = record { old = F.contents file; new = F.contents result.file } in
         Records told head.now.setting moves.items stations.old.items stations.new.items kept result.entries }
     // The file has the text of a recording, whole or a prefix of it.

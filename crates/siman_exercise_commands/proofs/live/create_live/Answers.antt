@@ -22,7 +22,7 @@ returns-in-Ok g c = (
         recorded = c.record_moves-recorded.ensures.recorded;
         tells =
             subst (λ (left : LeftOut). PutsLiveRow c.record_moves-recorded.result.entries left c.put_live_row-answered.result (record { old = g.W.Write.contents c.args.out.now; new = g.W.Write.contents c.put_live_row-answered.new.out }))
-            (c.left_out.ensures ∙ ap (left_out_by g.O.Line.Line.strangers) c.deref.ensures.value) c.put_live_row-answered.ensures;
+            (c.left_out.ensures ∙ ap (left_out_by g.O.Line.Line.passed) c.deref.ensures.value) c.put_live_row-answered.ensures;
       },
     ),
     refl,

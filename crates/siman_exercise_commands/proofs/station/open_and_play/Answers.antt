@@ -15,7 +15,7 @@ create_played-requires-clause-ready g c =
 
 pub returns-in-Ok-attach_station : goal.returns-in-Ok-attach_station
 returns-in-Ok-attach_station g c =
-    let bound = Binds c.args.placed.bind c.args.placed.peers.items c.args.placed.anyone (Ok tt) in
+    let bound = Binds c.args.placed.bind c.args.placed.peers.items c.args.placed.listening (Ok tt) in
     let had = c.in-Ok-attach_station in
     let rest = c.create_played.ensures in (
       bound ∷ rest.0,
@@ -26,7 +26,7 @@ returns-in-Ok-attach_station g c =
 
 pub returns-in-Err-attach_station : goal.returns-in-Err-attach_station
 returns-in-Err-attach_station g c =
-    let bound = Binds c.args.placed.bind c.args.placed.peers.items c.args.placed.anyone (Ok tt) in (
+    let bound = Binds c.args.placed.bind c.args.placed.peers.items c.args.placed.listening (Ok tt) in (
       bound ∷ [],
       rw c.deref.ensures.value at c.in-Ok.ensures.done,
       (λ holds. all_one (WasHeld holds) bound tt),
@@ -35,7 +35,7 @@ returns-in-Err-attach_station g c =
 
 pub returns-in-Err : goal.returns-in-Err
 returns-in-Err g c =
-    let bound = Binds c.args.placed.bind c.args.placed.peers.items c.args.placed.anyone (Err (error_kind c.in-Err.error)) in (
+    let bound = Binds c.args.placed.bind c.args.placed.peers.items c.args.placed.listening (Err (error_kind c.in-Err.error)) in (
       bound ∷ [],
       rw c.deref.ensures.value at c.in-Err.ensures.done,
       (λ holds. all_one (WasHeld holds) bound tt),

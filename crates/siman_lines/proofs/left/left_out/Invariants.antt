@@ -6,4 +6,4 @@ use Rattle.siman_lines.proofs.left.left_out.Given as goal
 abbrev pub invariant-loop-station : goal.invariant-loop-station
 invariant-loop-station g l =
     (l.busy ≡ count_by (λ p. p.busy) (take l.station-index l.stations)) × (l.dropped ≡ capped (sum_by (λ p. p.dropped) (take l.station-index l.stations)))
-    × (l.strangers ≡ capped (sum_by (λ p. g.L.Line.strangers p.line) (take l.station-index l.stations)))
+    × (l.strangers ≡ capped (sum_by (λ p. (g.L.Line.passed p.line).strangers) (take l.station-index l.stations)))

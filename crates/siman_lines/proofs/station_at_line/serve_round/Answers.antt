@@ -1,5 +1,5 @@
 -- The station of a number was served, or not whole.
-use Rattle.std.proofs.Common.{◌<◌, length, refl, arith}
+use Rattle.std.proofs.Common.{arith}
 use Rattle.siman_lines.specs.AtLines.{RoundEnds}
 use Rattle.siman_lines.proofs.Rounds.{at_fault, stands_at, follows_on, round_on, round_stops}
 use Rattle.siman_lines.proofs.station_at_line.serve_round.Goals as goal

@@ -1,4 +1,3 @@
-use Rattle.std.proofs.Common.{◌≡◌, length}
 use Rattle.siman_lines.specs.AtLines.{Telling, AtLines, ServedAt, One, Follows}
 use Rattle.siman_lines.specs.Steps.{Each}
 use Rattle.siman_lines.proofs.station_at_line.serve_round.Given as goal
@@ -10,7 +9,7 @@ invariant-loop-number g l =
       received = g.L.Line.received;
       sent = g.L.Line.sent;
       failures = g.L.Line.failures;
-      strangers = g.L.Line.strangers;
+      passed = g.L.Line.passed;
     } in
     let old : AtLines g.row.L.Denot = record { stations = l.fn.stations.items; recorder = l.fn.recorder } in
     let new : AtLines g.row.L.Denot = record { stations = l.stations.items; recorder = l.recorder } in

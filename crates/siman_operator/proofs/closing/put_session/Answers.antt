@@ -7,4 +7,4 @@ use Rattle.siman_operator.proofs.closing.put_session.Goals as goal
 pub returns : goal.returns
 returns c =
     let put = subst (λ (said : Line). OnOk c.put_line.result (string_bytes c.put_line.new.text ≡ string_bytes c.args.text.now ++ line_text said)) c.named.ensures c.put_line.ensures in
-    rw c.from.ensures at put
+    rw (c.from.ensures, c.number_value-lost.ensures, c.number_value-buffer.ensures) at put

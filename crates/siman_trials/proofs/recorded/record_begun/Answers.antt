@@ -19,7 +19,7 @@ use Rattle.siman_trials.proofs.recorded.record_begun.Goals as goal
 
 pub returns-in-Ok-clause-comes : goal.returns-in-Ok-clause-comes
 returns-in-Ok-clause-comes g c =
-    let told : Telling g.row.L.Denot = record { received = g.L.Line.received; sent = g.L.Line.sent; failures = g.L.Line.failures; strangers = g.L.Line.strangers } in
+    let told : Telling g.row.L.Denot = record { received = g.L.Line.received; sent = g.L.Line.sent; failures = g.L.Line.failures; passed = g.L.Line.passed } in
     let w = c.args.begun.recording.setting in
     inr (inr (
       c.in-Ok.ensures.lines,
@@ -29,7 +29,7 @@ returns-in-Ok-clause-comes g c =
 
 pub returns-in-Ok-clause-leaves : goal.returns-in-Ok-clause-leaves
 returns-in-Ok-clause-leaves g c = λ w is new unused.
-    let told : Telling g.row.L.Denot = record { received = g.L.Line.received; sent = g.L.Line.sent; failures = g.L.Line.failures; strangers = g.L.Line.strangers } in
+    let told : Telling g.row.L.Denot = record { received = g.L.Line.received; sent = g.L.Line.sent; failures = g.L.Line.failures; passed = g.L.Line.passed } in
     let same = ap (λ (r : PlainRecording). r.setting) is in
     subst (λ (v : SettingData). Leaves v (g.W.Write.contents c.args.file) (g.W.Write.contents c.record_at_lines.result.file) c.record_at_lines.result.ended) same
     (c.record_at_lines.ensures.leaves

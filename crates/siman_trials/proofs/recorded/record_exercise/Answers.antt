@@ -15,7 +15,7 @@ use Rattle.siman_trials.proofs.recorded.record_exercise.Goals as goal
 
 pub returns-in-Ok-clause-comes : goal.returns-in-Ok-clause-comes
 returns-in-Ok-clause-comes g c =
-    let told : Telling g.row.L.Denot = record { received = g.L.Line.received; sent = g.L.Line.sent; failures = g.L.Line.failures; strangers = g.L.Line.strangers } in
+    let told : Telling g.row.L.Denot = record { received = g.L.Line.received; sent = g.L.Line.sent; failures = g.L.Line.failures; passed = g.L.Line.passed } in
     inr (inr (
       c.in-Ok.ensures.stations,
       (

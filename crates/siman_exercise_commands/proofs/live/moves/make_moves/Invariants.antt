@@ -11,7 +11,7 @@ invariant-loop-number g l =
       received = g.L.Line.received;
       sent = g.L.Line.sent;
       failures = g.L.Line.failures;
-      strangers = g.L.Line.strangers;
+      passed = g.L.Line.passed;
     } in
     let old : AtLines g.row.L.Denot = record { stations = l.fn.stations.items; recorder = l.fn.recorder } in
     let new : AtLines g.row.L.Denot = record { stations = l.stations.items; recorder = l.recorder } in

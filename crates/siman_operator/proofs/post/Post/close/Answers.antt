@@ -4,7 +4,7 @@ use Rattle.siman_operator.proofs.Ended.{unended}
 use Rattle.siman_operator.proofs.post.Post.close.Goals as goal
 
 pub returns-in-Ok : goal.returns-in-Ok
-returns-in-Ok g c = inr (c.in-Ok.ensures.taken, c.in-Ok.ensures.end, c.print_end.ensures)
+returns-in-Ok g c = inr (c.in-Ok.ensures.taken, c.in-Ok.ensures.end, (c.socket_counts-counts.result, c.print_end.ensures))
 
 pub returns-in-Err : goal.returns-in-Err
 returns-in-Err g c = inl (

@@ -12,7 +12,7 @@ returns-clause-goes g c = record {
       keeps_all c.args.self.now.station.index c.args.self.now.station.node c.args.self.now.recorder (datagrams_sent c.args.self.now.station.line) c.order_at-done.new.station.node c.order_at-done.new.recorder
       (datagrams_sent c.order_at-done.new.station.line) c.order_at-done.ensures.keeps;
   prints =
-      order_prints g.L.Line.strangers c.args.self.now.printer.exercise c.args.self.now.clock c.args.order c.args.self.now.station c.order_at-done.new.station c.args.self.now.recorder c.order_at-done.new.recorder
+      order_prints g.L.Line.passed c.args.self.now.printer.exercise c.args.self.now.clock c.args.order c.args.self.now.station c.order_at-done.new.station c.args.self.now.recorder c.order_at-done.new.recorder
       c.order_at-done.result (record { out = g.O.Write.contents c.args.out.now; fault = c.args.self.now.printer.fault })
       (record { out = g.O.Write.contents c.print_sent.new.out; fault = c.print_sent.new.printer.fault }) (omega arith) c.order_at-done.ensures.index
       c.order_at-done.ensures.ends c.order_at-done.ensures.refused

@@ -6,5 +6,5 @@ use Rattle.siman_operator.proofs.post.Post.print_end.Goals as goal
 pub returns : goal.returns
 returns g c =
     prints_end c.args.self.now.printer.fault
-    (session_text c.args.self.now.recorder.entries c.args.self.now.station.dropped (g.L.Line.strangers c.args.self.now.station.line.line)) _ _ _
-    (cc (c.fault.ensures, c.is_some.ensures, c.if-is_some.false)) (rw (c.entry_count-records.ensures.entries, c.strangers-strangers.ensures) at c.print_counts.ensures)
+    (session_text c.args.self.now.recorder.entries c.args.self.now.station.dropped (g.L.Line.passed c.args.self.now.station.line.line) c.args.counts) _ _ _
+    (cc (c.fault.ensures, c.is_some.ensures, c.if-is_some.false)) (rw (c.entry_count-records.ensures.entries, c.passed-passed.ensures) at c.print_counts.ensures)

@@ -12,7 +12,7 @@ returns-clause-goes g c = record {
       keeps_all c.args.self.now.station.index c.args.self.now.station.node c.args.self.now.recorder (datagrams_sent c.args.self.now.station.line) c.serve_counting-served.new.station.node
       c.serve_counting-served.new.recorder (datagrams_sent c.serve_counting-served.new.station.line) c.serve_counting-served.ensures.keeps;
   prints =
-      turn_prints g.L.Line.strangers c.args.self.now.printer.exercise c.args.self.now.clock c.args.self.now.station c.serve_counting-served.new.station c.args.self.now.recorder
+      turn_prints g.L.Line.passed c.args.self.now.printer.exercise c.args.self.now.clock c.args.self.now.station c.serve_counting-served.new.station c.args.self.now.recorder
       c.serve_counting-served.new.recorder c.serve_counting-served.result (record { out = g.O.Write.contents c.args.out.now; fault = c.args.self.now.printer.fault })
       (record { out = g.O.Write.contents c.print_turn.new.out; fault = c.print_turn.new.printer.fault }) (omega arith)
       c.serve_counting-served.ensures.ends.index c.serve_counting-served.ensures.ends.ends

@@ -16,7 +16,7 @@ returns-then-is_unrecorded-clause-ends g c =
       address = c.obey-done.ensures.address;
       serves =
           at_true ((c.none.result ≡ no_trouble) × (post.station ≡ post.station) × (post.recorder ≡ post.recorder))
-          (TakesTurns (telling g.L.Line.strangers) post.clock post.station post.recorder post.station post.recorder c.none.result) (is_unrecorded c.obey-done.result)
+          (TakesTurns (telling g.L.Line.passed) post.clock post.station post.recorder post.station post.recorder c.none.result) (is_unrecorded c.obey-done.result)
           (cc (c.is_unrecorded.ensures, c.if-is_unrecorded.true)) (c.none.ensures, refl, refl);
     }
 
@@ -32,7 +32,7 @@ returns-clause-ends g c =
       address = turns.time.0 ∙ c.obey-done.ensures.address;
       serves =
           at_false ((c.take_turns-trouble.result ≡ no_trouble) × (after.station ≡ post.station) × (after.recorder ≡ post.recorder))
-          (TakesTurns (telling g.L.Line.strangers) after.clock post.station post.recorder after.station after.recorder c.take_turns-trouble.result)
+          (TakesTurns (telling g.L.Line.passed) after.clock post.station post.recorder after.station after.recorder c.take_turns-trouble.result)
           (is_unrecorded c.obey-done.result) (cc (c.is_unrecorded.ensures, c.if-is_unrecorded.false)) (rw turns.time.1 turns.ends);
     }
 

@@ -12,7 +12,7 @@ returns-in-Err-clause-goes g c = record {
       keeps_all c.args.self.now.station.index c.args.self.now.station.node c.args.self.now.recorder (datagrams_sent c.args.self.now.station.line) c.args.self.now.station.node c.tell_at.new.recorder
       (datagrams_sent c.args.self.now.station.line) c.in-Err.ensures.keeps;
   prints =
-      untold_prints g.L.Line.strangers c.args.self.now.printer.exercise c.args.entity c.args.self.now.station c.args.self.now.recorder c.tell_at.new.recorder c.in-Err.fault
+      untold_prints g.L.Line.passed c.args.self.now.printer.exercise c.args.entity c.args.self.now.station c.args.self.now.recorder c.tell_at.new.recorder c.in-Err.fault
       (record { out = g.O.Write.contents c.args.out.now; fault = c.args.self.now.printer.fault }) c.in-Err.ensures.ends c.in-Err.ensures.refused;
 }
 

@@ -1,0 +1,22 @@
+-- Until something comes, the line goes on.
+use Rattle.std.proofs.Common.{◌≡◌, ◌+◌, length, Option, Some, None, arith}
+use Rattle.siman_operator.specs.Coming.{GoesOnBy}
+use Rattle.siman_operator.proofs.coming.next_coming.Goals as goal
+
+pub loop-init : goal.loop-init
+loop-init g c = (c.requires, λ rest begun. begun)
+
+pub returns-in-Some : goal.returns-in-Some
+returns-in-Some g c =
+    let read = rw (c.wait-ready.ensures, c.in-Some.is) at c.in_ok-coming.ensures in
+    λ rest begun. read rest (c.loop.invariant.1 rest begun)
+
+pub returns-then-ready : goal.returns-then-ready
+returns-then-ready g c =
+    let read = rw (c.wait-ready.ensures, c.in_default.is) at c.in_ok-coming.ensures in
+    λ rest begun. read rest (c.loop.invariant.1 rest begun)
+
+pub loop-preserved : goal.loop-preserved
+loop-preserved g c =
+    let read = rw (c.wait-ready.ensures, c.in_default.is) at c.in_ok-coming.ensures in
+    (omega (arith, c.loop.invariant.0, c.read_on.auto.buffer), λ rest begun. read rest (c.loop.invariant.1 rest begun))

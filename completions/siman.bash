@@ -90,7 +90,7 @@ _siman() {
         export:1) _siman_folders ;;
         export:*) _siman_words '--force' ;;
         review:0) _siman_files dsrc ;;
-        review:*) _siman_words 'station= entity= request= fate=done fate=answered fate=refused fate=pending fate=unheard fate=unanswered fate=lost fate=unknown fate=nobody --json' ;;
+        review:*) _siman_words 'station= entity= request= fate=done fate=answered fate=refused fate=pending fate=unheard fate=unanswered fate=lost fate=unknown fate=nobody --json --prose' ;;
         log:0) _siman_files dsrc ;;
         log:*) _siman_words 'station= entity= request= kind=create-entity kind=remove-entity kind=start-resume kind=stop-freeze kind=acknowledge kind=action-request kind=action-response kind=data-query kind=set-data kind=data kind=event-report kind=comment kind=told kind=other --json' ;;
         count:0) _siman_files dsrc ;;

@@ -1,4 +1,4 @@
-"""Reviews of recordings: the worked example, recordings that are made up, filters, both spellings, faults."""
+"""Reviews of recordings: the worked example, recordings that are made up, filters, spellings and sentences, faults."""
 import random
 
 import pages
@@ -14,6 +14,7 @@ HISTORIES = 250
 HISTORY_LENGTH = 24
 LOSSES = "examples/losses.dsrc"
 JSON = ["--json"]
+PROSE = ["--prose"]
 ADDRESSES = ["1:1", "2:3", "2:4", "9:9", "002:0003", "65535:65535"]
 FILTERS = [
     *(f"station={address}" for address in ADDRESSES),
@@ -30,10 +31,11 @@ BAD_FILTERS = [
 
 
 def try_review(trials, recording, words=(), text=None):
-    """A review in both spellings."""
+    """A review in both spellings, and in sentences."""
     text = (trials.folder / recording).read_bytes() if text is None else text
     trials.expect(["review", recording, *words], pages.answer_to_review(text, words))
     trials.expect(["review", recording, *words, *JSON], pages.answer_to_review(text, words, pages.json_of))
+    trials.expect(["review", recording, *words, *PROSE], pages.answer_to_prose(text, words))
 
 
 def try_worked(trials):
@@ -80,7 +82,7 @@ def try_words(trials):
     usage = Outcome(2, b"", Some())
     for words in [
         [], JSON, [*JSON, LOSSES, *JSON], [LOSSES, *JSON, *JSON], [LOSSES, *JSON, "fate=lost", *JSON], [LOSSES, "-x"],
-        [LOSSES, "--json=1"], [LOSSES, "--jso"], [LOSSES, "fate=lost", "-fate=lost"], ["-x"], ["-x", "fate=lost"],
+        [LOSSES, *JSON, *PROSE], [*PROSE, LOSSES, *JSON], [LOSSES, *PROSE, *PROSE], [LOSSES, "--prose=1"], [LOSSES, "--json=1"], [LOSSES, "--jso"], [LOSSES, "fate=lost", "-fate=lost"], ["-x"], ["-x", "fate=lost"],
     ]:  # fmt: skip
         trials.expect(["review", *words], usage)
     for word in BAD_FILTERS:
@@ -100,6 +102,7 @@ def try_files(trials):
     for behind in [">/dev/full", ">&-"]:
         trials.expect(["review", LOSSES], UNWRITTEN, behind=behind)
         trials.expect(["review", LOSSES, *JSON], UNWRITTEN, behind=behind)
+        trials.expect(["review", LOSSES, *PROSE], UNWRITTEN, behind=behind)
 
 
 def try_all(trials, _):

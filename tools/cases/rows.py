@@ -45,6 +45,11 @@ REVIEW_IN_JSON = (
     b'{"line":"state","entity":"2:3:7","state":"stopped","from":2,"to":null,"since":"0","until":null,"by":"1:1",'
     b'"request":1}\n'
 )
+REVIEW_IN_PROSE = (
+    b"Exercise 1: 2 stations, 4 entries. Some order of events explains them: the logs do not contradict each other.\n"
+    b"1 order. By station: 1 done.\n"
+    b"0 1:1 told 2:3 to create entity 2:3:7. 2:3 did so at entry 2 and answered able; 1:1 heard it. Answered after 0.\n"
+)
 COUNTED = (
     b"count 1:1 sent create-entity entries=1\ncount 1:1 received acknowledge entries=1\n"
     b"count 2:3 sent acknowledge entries=1\ncount 2:3 received create-entity entries=1\n"
@@ -72,6 +77,7 @@ def rows(trials):
         (["audit", crossed, "none.dsct"], b"", Outcome(1, BLOCKED, b"")),
         (["review", recording, "fate=done", "fate=lost"], b"", Outcome(0, REVIEW + REVIEWED, b"")),
         (["review", recording, "entity=2:3:7", "request=1:1/1", "--json"], b"", Outcome(0, REVIEW_IN_JSON, b"")),
+        (["review", recording, "fate=done", "--prose"], b"", Outcome(0, REVIEW_IN_PROSE, b"")),
         ([], script, Outcome(0, WORKED_ANSWER, b"")),
         (["world", WORKED_SCRIPT, "row.dsrc"], b"", Outcome(0, WORKED_LINE, b"")),
         (["join", *three, "joined.row.dsrc"], b"", joined),

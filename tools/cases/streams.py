@@ -71,6 +71,7 @@ def answers(trials, examples):
         (["check", wrong, certificate], b"", Outcome(1, b"no step=8 cause=13 wrong-state\n", b"")),
         (["review", good], b"", reviewed),
         (["review", good, "fate=done", "--json"], b"", in_json),
+        (["review", good, "fate=done", "--prose"], b"", pages.answer_to_prose(text, ["fate=done"])),
         (["count", good], b"", pages.answer_to_count(text)),
         (["why", good], b"", pages.answer_to_why(text)),
         (["why", wrong], b"", pages.answer_to_why(wrong_text)),

@@ -51,6 +51,8 @@ WORDS = (
     (["review", "-", "REC"], b"from standard input\n", False),
     (["review", "--json", "REC", "fate=lost"], b"", True),
     (["review", "REC", "--json", "--json"], b"", False),
+    (["review", "REC", "--prose", "fate=lost"], b"", True),
+    (["review", "REC", "--json", "--prose"], b"", False),
     (["review", "REC", "--force"], b"", False),
     (["review", "missing", "fate=lost"], b"", False),
     (["review", "../missing"], b"", True),

@@ -19,6 +19,7 @@ from .imports import *
 from .joins import *
 from .logs import *
 from .packets import *
+from .prose import *
 from .reasons import *
 from .reviews import *
 from .scripts import *

@@ -418,8 +418,8 @@ def json_of(line):
     return json.dumps(values, separators=(",", ":"))
 
 
-def answer_to_review(text, words=(), spelled=text_of):
-    """What review answers to a recording by its bytes, and to the words behind it."""
+def lines_of_review(text, words=()):
+    """The lines of the review of a recording by its bytes, under the words behind it, or the fault."""
     for asked in words:
         if filter_of(asked) is None:
             return fault(f"filter: {asked}")
@@ -436,5 +436,12 @@ def answer_to_review(text, words=(), spelled=text_of):
     filters = [filter_of(asked) for asked in words]
     explained = search(recording).status == 0
     kept = (line for line in lines if keeps(filters, line))
-    shown = [review_line(logs, explained, orders), *other_lines(logs), *kept]
-    return Outcome(0, "".join(spelled(line) + "\n" for line in shown).encode(), b"")
+    return [review_line(logs, explained, orders), *other_lines(logs), *kept]
+
+
+def answer_to_review(text, words=(), spelled=text_of):
+    """What review answers to a recording by its bytes, and to the words behind it."""
+    lines = lines_of_review(text, words)
+    if isinstance(lines, Outcome):
+        return lines
+    return Outcome(0, "".join(spelled(line) + "\n" for line in lines).encode(), b"")

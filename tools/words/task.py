@@ -40,8 +40,8 @@ def makes_file(words):
 
 
 def files_in(words):
-    """The places of the words that name files which the program opens, where they make none. `--json` may stand once,
-    anywhere among those of a command that takes it.
+    """The places of the words that name files which the program opens, where they make none. `--json`, or `--prose` in
+    its place, may stand once, anywhere among those of a command that takes it.
     """
     command = command_of(words)
     if command is None or any(word.is_made for word in command.words):

@@ -19,8 +19,10 @@ use Rattle.siman_outside.specs.Outside.{Stream, Deed}
 use Rattle.siman_outside.specs.Passing.{PrintsText}
 use Rattle.siman_outside.specs.Recorded.{SaysOfBytes}
 use Rattle.siman_outside.specs.Saying.{SaysOfFile}
+use Rattle.siman_analysis_commands.specs.declared.view.Prose.{Prose}
 use Rattle.siman_analysis_commands.specs.declared.view.View.{View}
 use Rattle.siman_analysis_commands.specs.FilterWords.{filter_of}
+use Rattle.siman_analysis_commands.specs.declared.review.ReviewText.TheVariants.{Rows, Sentences}
 use Rattle.siman_analysis_commands.specs.Review.{PrintsReview}
 
 -- ---- filters as words
@@ -52,6 +54,11 @@ abbrev pub IsAsked : ViewWord → (words : List (List ℕ)) → Spelling → Res
 IsAsked view words spelling (Ok v) = (v.view ≡ view) × AskFor view words v.filters.items × (v.spelling ≡ spelling)
 IsAsked view words spelling (Err fault) = IsBadFilter view words fault ⊎ (fault ≡ Memory)
 
+-- the sentences that words ask for, or the fault
+abbrev pub IsProseAsked : (words : List (List ℕ)) → Result Prose Fault → Type 0
+IsProseAsked words (Ok p) = AskFor Review words p.filters.items
+IsProseAsked words (Err fault) = IsBadFilter Review words fault ⊎ (fault ≡ Memory)
+
 -- ---- the rows
 
 -- the text of an entry, by its number
@@ -64,12 +71,20 @@ SaysCounts spelling filters r text status = (text ≡ lines_spelled spelling (co
 
 -- THE ANSWER OF A VIEW for a recording, under filters
 abbrev pub PrintsView : ViewWord → Spelling → List Filter → PlainRecording → Answered → (out : Stream) → Type 0
-PrintsView Review spelling filters r = PrintsReview spelling filters r
+PrintsView Review spelling filters r = PrintsReview (Rows spelling) filters r
 PrintsView Log spelling filters r = PrintsText (log_text spelling r filters)
 PrintsView Count spelling filters r = Answers (SaysCounts spelling filters r)
 
--- THE FILTERS ARE JUDGED FIRST: the first word that is none is reported, with nothing opened; otherwise the recording of the file is viewed under the filters
-abbrev pub ViewsNamed : ViewWord → Spelling → (name : List ℕ) → (words : List (List ℕ)) → List Deed → Answered → (out : Stream) → Type 0
-ViewsNamed view spelling name words deeds answered out =
+-- THE FILTERS ARE JUDGED FIRST: the first word that is none is reported, with nothing opened; otherwise the recording of the file is answered for under the filters
+abbrev pub SaysNamed : ViewWord → (List Filter → PlainRecording → Answered → (out : Stream) → Type 0) → (name : List ℕ) → (words : List (List ℕ)) → List Deed → Answered → (out : Stream) → Type 0
+SaysNamed view says name words deeds answered out =
     ((fault : Fault) × (IsBadFilter view words fault ⊎ (fault ≡ Memory)) × (deeds ≡ []) × (answered ≡ Err fault) × Keeps out.old out.new)
-    ⊎ ((filters : List Filter) × AskFor view words filters × SaysOfFile (SaysOfBytes (PrintsView view spelling filters)) name deeds answered out)
+    ⊎ ((filters : List Filter) × AskFor view words filters × SaysOfFile (SaysOfBytes (says filters)) name deeds answered out)
+
+-- the answer of a view
+abbrev pub ViewsNamed : ViewWord → Spelling → (name : List ℕ) → (words : List (List ℕ)) → List Deed → Answered → (out : Stream) → Type 0
+ViewsNamed view spelling = SaysNamed view (PrintsView view spelling)
+
+-- the answer of `review` in sentences
+abbrev pub ProseNamed : (name : List ℕ) → (words : List (List ℕ)) → List Deed → Answered → (out : Stream) → Type 0
+ProseNamed = SaysNamed Review (PrintsReview Sentences)

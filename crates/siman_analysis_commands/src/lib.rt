@@ -1,12 +1,12 @@
-//! The commands that show the history of a recording: the [`View`]s `review`, `log` and `count`,
-//! and `chart`, which draws it in the sequence of a certificate. `siman_outside` runs a view on readers and on
+//! The commands that show the history of a recording: the [`View`]s `review`, `log` and `count`, the
+//! sentences of a review ([`Prose`]), and `chart`, which draws it in the sequence of a certificate. `siman_outside` runs a view on readers and on
 //! the names of files; [`chart_named`] takes the names of three. Their rows are those of
 //! `exercise_log`, and the picture is that of `exercise_chart`; [`filter_of`] parses a filter.
 //!
 //! It opens no file itself and ends no process.
 //!
-//! The layer above may use its contracts on the status and the bytes of the answer: `PrintsView`
-//! and `ChartsNamed`.
+//! The layer above may use its contracts on the status and the bytes of the answer: `PrintsView`,
+//! `PrintsReview` and `ChartsNamed`.
 #![tactic(auto)]
 
 mod chart;
@@ -21,4 +21,4 @@ mod view;
 pub use chart::chart_named;
 pub use filter_words::filter_of;
 pub use picture::PictureTexts;
-pub use view::View;
+pub use view::{Prose, View};

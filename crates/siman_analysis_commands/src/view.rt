@@ -3,11 +3,11 @@
 ghost use Rattle.std.specs.Prelude.{map};
 ghost use Rattle.siman_outside.specs.AnswerText.{Answers};
 ghost use Rattle.siman_outside.specs.Outside.{stream};
-ghost use Rattle.siman_analysis_commands.specs.View.{Asks, IsAsked, SaysCounts};
+ghost use Rattle.siman_analysis_commands.specs.View.{Asks, IsAsked, IsProseAsked, SaysCounts};
 
 use crate::filter_words::filter_of;
 use crate::log::print_log;
-use crate::review::print_review;
+use crate::review::{ReviewText, print_review};
 use exercise_log::put_counts;
 use exercise_model::ExerciseLog;
 use exercise_review::Filter;
@@ -42,6 +42,23 @@ impl View {
             filters,
             spelling,
         })
+    }
+}
+
+/// The sentences of a review, with the filters of its rows.
+#[derive(Drop)]
+pub struct Prose {
+    pub filters: Vec<Filter>,
+}
+
+impl Prose {
+    /// The sentences whose filters `words` are, or `Filter` with the first word that is none.
+    /// `Memory`: memory ran out.
+    pub fn of<'a, S: AsStr>(alloc: Global, words: &'a [S]) -> Result<Prose, Fault<'a>>
+        ensures { IsProseAsked (map S.text words.now) result }
+    {
+        let filters = filters_of(alloc, ViewWord::Review, words)?;
+        Ok(Prose { filters })
     }
 }
 
@@ -95,9 +112,30 @@ impl<'a> OfRecording<'a> for View {
         out: &mut W,
     ) -> Result<u8, Fault<'a>> {
         match self.view {
-            ViewWord::Review => print_review(alloc, log, self.spelling, &self.filters, out),
+            ViewWord::Review => {
+                let form = ReviewText::Rows(self.spelling);
+                print_review(alloc, log, form, &self.filters, out)
+            }
             ViewWord::Log => print_log(alloc, log, self.spelling, &self.filters, out),
             ViewWord::Count => print_counts(alloc, log, self.spelling, &self.filters, out),
         }
+    }
+}
+
+impl<'a> OfRecording<'a> for Prose {
+    ghost use Rattle.siman_analysis_commands.specs.declared.review.ReviewText.TheVariants.{Sentences};
+    ghost use Rattle.siman_analysis_commands.specs.Review.{PrintsReview};
+
+    type Answer = u8;
+
+    ghost says = { λ p. PrintsReview Sentences p.filters.items };
+
+    fn say<L: ExerciseLog, W: Write>(
+        self,
+        alloc: Global,
+        log: &L,
+        out: &mut W,
+    ) -> Result<u8, Fault<'a>> {
+        print_review(alloc, log, ReviewText::Sentences, &self.filters, out)
     }
 }

@@ -7,7 +7,8 @@ use Rattle.byte_files.specs.Text.{lines_of}
 use Rattle.siman_outside.specs.declared.commands.NoWord.{NoWord}
 use Rattle.siman_outside.specs.declared.commands.OneWord.{OneWord}
 use Rattle.siman_outside.specs.declared.commands.TwoWords.{TwoWords}
-use Rattle.siman_outside.specs.Words.{Asked, Trial, Bare, One, Two, View, asked, asks_help}
+use Rattle.siman_outside.specs.Words.{Asked, Trial, Bare, One, Two, View, asked}
+use Rattle.siman_outside.specs.Helping.{asks_help}
 use Rattle.siman_outside.specs.Words as asks
 use Rattle.siman_lines.specs.AtLines.{Telling}
 use Rattle.siman_outside.specs.declared.fault.Ended.{Ended}
@@ -30,7 +31,7 @@ use Rattle.siman_outside.specs.Making.{Answered, MakesProduct}
 use Rattle.siman_file_commands.specs.Mend.{MendsFile, PutsMended}
 use Rattle.siman_outside.specs.Opening.{MakesOfFile}
 use Rattle.siman_file_commands.specs.Pdus.{EndsLines}
-use Rattle.siman_analysis_commands.specs.View.{ViewsNamed}
+use Rattle.siman_analysis_commands.specs.View.{ViewsNamed, ProseNamed}
 use Rattle.siman_outside.specs.Recorded.{SaysOfBytes, SaysOfBoth}
 use Rattle.siman_outside.specs.Saying.{SaysOfFile, SaysOfFiles}
 use Rattle.siman_file_commands.specs.Show.{ShowsRecording}
@@ -76,6 +77,7 @@ EndsTask told (asks.Join pieces made choices force) deeds input o = EndsAs (Join
 EndsTask told (asks.Import words force) deeds input o = EndsAs (ImportsNamed words force deeds) o
 EndsTask told (asks.Station words) deeds input o = EndsStation told.passed words deeds input o
 EndsTask told (View view recording filters spelling) deeds input o = EndsAs (ViewsNamed view spelling recording filters deeds) o
+EndsTask told (asks.Prose recording filters) deeds input o = EndsAs (ProseNamed recording filters deeds) o
 EndsTask told (asks.Why recording certificate spelling) deeds input o = EndsAs (WhyNamed spelling recording certificate deeds) o
 EndsTask told (asks.Chart recording certificate picture words force) deeds input o = EndsAs (ChartsNamed recording certificate picture words force deeds) o
 

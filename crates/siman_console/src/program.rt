@@ -3,13 +3,13 @@
 ghost use Rattle.std.specs.Prelude.{string_bytes, map};
 ghost use Rattle.std.specs.IoError.{error_kind};
 ghost use Rattle.siman_outside.specs.Outside.{Did, outcome_of, stream};
-ghost use Rattle.siman_analysis_commands.specs.View.{ViewsNamed};
+ghost use Rattle.siman_analysis_commands.specs.View.{ViewsNamed, ProseNamed};
 ghost use Rattle.siman_console.specs.Program.{DoesOne, EndsTwo, EndsTask, EndsExplained, EndsWords, EndsProgram, words_by};
 ghost use Rattle.siman_outside.specs.Words.{asked_by};
 ghost use Rattle.siman_lines.specs.AtLines.{Telling};
 
 use crate::usage::end_usage;
-use siman_analysis_commands::{View, chart_named};
+use siman_analysis_commands::{Prose, View, chart_named};
 use siman_exercise_commands::{
     Links, WorldCommand, end_live, end_station, import_named, try_input,
 };
@@ -112,6 +112,24 @@ fn do_view<'a, O: Outside, W: Write>(
     }
 }
 
+/// Tells a review of a recording in sentences, `words.0` being its file and `words.1` its filters,
+/// and returns the status.
+fn do_prose<'a, O: Outside, W: Write>(
+    alloc: Global,
+    words: (&'a str, &'a [&'a str]),
+    outside: &mut O,
+    out: &mut W,
+    notes: &mut Notes,
+) -> Result<u8, Fault<'a>>
+    ensures { Did O.deeds O.holds outside.old outside.new (λ deeds. ProseNamed words.entry.0.now (map (λ word. word.now) words.entry.1.now) deeds result (stream (W.contents out.old) (W.contents out.new))) }
+{
+    let (recording, words) = words;
+    match Prose::of(alloc, words) {
+        Ok(asked) => say_of_file(alloc, asked, recording, outside, out, notes),
+        Err(fault) => Err(fault),
+    }
+}
+
 /// Runs a task, and ends it.
 fn end_task<'a, O: Links, R: Input<O::Line> + Drop, W: Write, E: Write>(
     alloc: Global,
@@ -148,6 +166,10 @@ fn end_task<'a, O: Links, R: Input<O::Line> + Drop, W: Write, E: Write>(
         Task::View(view, recording, words, spelling) => {
             let words = (recording, words);
             let done = do_view(alloc, view, words, spelling, outside, out, notes);
+            conclude(done, errors)
+        }
+        Task::Prose(recording, words) => {
+            let done = do_prose(alloc, (recording, words), outside, out, notes);
             conclude(done, errors)
         }
         Task::Why(recording, certificate, spelling) => {

@@ -13,5 +13,6 @@ pub mod Notes
 pub mod ImportWords
 pub mod Hosts
 pub mod Words
+pub mod Helping
 pub mod Reasons
 pub mod ShortTexts

@@ -1,5 +1,5 @@
 -- The task that the words of a command line ask for (profile).
-use Rattle.std.specs.Prelude.{ℕ, ◌+◌, ◌-◌, Bool, true, false, not, List, [], ◌∷◌, length, map, nat_lt, nat_le, slice_index, ◌==◌, ◌&&◌, ◌||◌, codes, Option, Some, None, is_some, option_map, if◌then◌else◌}
+use Rattle.std.specs.Prelude.{ℕ, ◌+◌, Bool, true, false, not, List, [], ◌∷◌, length, map, nat_lt, nat_le, slice_index, ◌==◌, ◌&&◌, ◌||◌, codes, Option, Some, None, is_some, option_map, if◌then◌else◌}
 use Rattle.std.specs.List.{starts_with}
 use Rattle.std.specs.Str.{bytes_eq}
 use Rattle.siman_print.specs.declared.spelling.Spelling.{Spelling}
@@ -61,6 +61,8 @@ pub data Asked : Type 0 where
   Station : StationAsked → Asked
   -- a view of a recording, the words that choose among its rows, and their spelling
   View : ViewWord → (recording : List ℕ) → (filters : List (List ℕ)) → Spelling → Asked
+  -- the sentences of a review of a recording, and the words that choose among its rows
+  Prose : (recording : List ℕ) → (filters : List (List ℕ)) → Asked
   -- what contradicts what in a recording, or in a certificate of it, if the words name one
   Why : (recording : List ℕ) → (certificate : Option (List ℕ)) → Spelling → Asked
   -- the picture of a recording in the sequence of a certificate, the file to make, the words that
@@ -97,6 +99,7 @@ asked_by text (tasks.Join pieces made choices force) = Join (map text pieces.now
 asked_by text (tasks.Import words force) = Import (import_named words) force
 asked_by text (tasks.Station words) = Station (named_by text words)
 asked_by text (tasks.View view recording filters spelling) = View view recording.now (map text filters.now) spelling
+asked_by text (tasks.Prose recording filters) = Prose recording.now (map text filters.now)
 asked_by text (tasks.Why recording certificate spelling) = Why recording.now (option_map (λ word. word.now) certificate) spelling
 asked_by text (tasks.Chart recording certificate picture steps force) = Chart recording.now certificate.now picture.now (map text steps.now) force
 
@@ -111,21 +114,22 @@ times wanted (word ∷ words) = if bytes_eq word wanted then times wanted words 
 
 -- an option that some commands take, anywhere after the command
 abbrev pub is_choice : List ℕ → Bool
-is_choice word = bytes_eq word (codes "--json") || bytes_eq word (codes "--force")
+is_choice word = bytes_eq word (codes "--json") || (bytes_eq word (codes "--prose") || bytes_eq word (codes "--force"))
 
 -- the words after a command without these options
 abbrev pub names_in : List (List ℕ) → List (List ℕ)
 names_in [] = []
 names_in (word ∷ words) = if is_choice word then names_in words else word ∷ names_in words
 
--- the names after a command, and how many times `--json` and `--force` occur among them
+-- the names after a command, and how many times `--json`, `--prose` and `--force` occur among them
 pub record Behind : Type 0 where
   pub names : List (List ℕ)
   pub json : ℕ
+  pub prose : ℕ
   pub force : ℕ
 
 abbrev pub behind_of : List (List ℕ) → Behind
-behind_of words = record { names = names_in words; json = times (codes "--json") words; force = times (codes "--force") words }
+behind_of words = record { names = names_in words; json = times (codes "--json") words; prose = times (codes "--prose") words; force = times (codes "--force") words }
 
 -- what the named command takes by a table, if it is in the table
 abbrev pub takes_of : List (List ℕ × Takes) → (name : List ℕ) → Option Takes
@@ -279,6 +283,11 @@ view_asked view spelling [] = None
 view_asked view spelling (recording ∷ filters) =
     if is_option recording || has_option filters then None else Some (View view recording filters spelling)
 
+-- THE SENTENCES OF A REVIEW need a recording; the words after it choose among the rows
+abbrev pub prose_asked : List (List ℕ) → Option Asked
+prose_asked [] = None
+prose_asked (recording ∷ filters) = if is_option recording || has_option filters then None else Some (Prose recording filters)
+
 -- WHY needs a recording, and takes a certificate
 abbrev pub why_asked : Spelling → List (List ℕ) → Option Asked
 why_asked spelling (recording ∷ []) = if is_option recording then None else Some (Why recording None spelling)
@@ -298,6 +307,11 @@ abbrev pub takes_json : Takes → Bool
 takes_json (shapes.View view) = true
 takes_json shapes.PerhapsTwo = true
 takes_json takes = false
+
+-- the command that takes `--prose`
+abbrev pub takes_prose : Takes → Bool
+takes_prose (shapes.View Review) = true
+takes_prose takes = false
 
 -- the commands that make a file and can replace an existing one, and so take `--force`
 abbrev pub makes_file : TwoWords → Bool
@@ -322,10 +336,14 @@ abbrev pub reads_lines : Takes → Bool
 reads_lines shapes.Station = true
 reads_lines takes = false
 
+-- `--json` and `--prose` occur at most once, if the command takes them, and not both
+abbrev pub is_spelled_once : Takes → Behind → Bool
+is_spelled_once takes b = nat_le b.json (most (takes_json takes)) && (nat_le b.prose (most (takes_prose takes)) && ((b.json == 0) || (b.prose == 0)))
+
 -- each option occurs at most once, if the command takes it, and standard input is read at most once
 abbrev pub are_taken : Takes → Behind → Bool
 are_taken takes b =
-    nat_le b.json (most (takes_json takes))
+    is_spelled_once takes b
     && (nat_le b.force (most (takes_force takes)) && nat_le (times (codes "-") b.names) (most (not (reads_lines takes))))
 
 abbrev pub taken : Takes → Spelling → (force : Bool) → List (List ℕ) → Option Asked
@@ -339,10 +357,14 @@ taken (shapes.View view) spelling force names = view_asked view spelling names
 taken shapes.PerhapsTwo spelling force names = why_asked spelling names
 taken shapes.Picture spelling force names = chart_asked force names
 
+-- the task of words with allowed options; the one command that takes `--prose` is `review`
+abbrev pub asked_in : Takes → Behind → Option Asked
+asked_in takes b = if b.prose == 0 then taken takes (spelling_by b.json) (not (b.force == 0)) b.names else prose_asked b.names
+
 -- the task of the words after a command
 abbrev pub asked_behind : Option Takes → Behind → Option Asked
 asked_behind None b = None
-asked_behind (Some takes) b = if are_taken takes b then taken takes (spelling_by b.json) (not (b.force == 0)) b.names else None
+asked_behind (Some takes) b = if are_taken takes b then asked_in takes b else None
 
 -- a command line: its command, if it names one, and the words after it
 pub record CommandLine : Type 0 where
@@ -361,55 +383,3 @@ asked_by_name (Some name) b = asked_behind (takes_named name) b
 -- THE TASK OF WORDS, the program's name first; other words ask for help, or are a fault of usage
 abbrev pub asked : List (List ℕ) → Option Asked
 asked words = let line = line_of words in asked_by_name line.command line.behind
-
--- `--help`, or `-h` and more; `--version`, or `-V` and more
-abbrev pub is_short : (letter : ℕ) → List ℕ → Bool
-is_short letter word = nat_lt 1 (length word) && ((slice_index word 0 == 45) && (slice_index word 1 == letter))
-
-abbrev pub is_help : List ℕ → Bool
-is_help word = bytes_eq word (codes "--help") || is_short 104 word
-
-abbrev pub is_version : List ℕ → Bool
-is_version word = bytes_eq word (codes "--version") || is_short 86 word
-
--- how many times an option is still allowed after this word
-abbrev pub left_of : (option word : List ℕ) → (left : ℕ) → ℕ
-left_of option word left = if bytes_eq word option then left - 1 else left
-
--- a refused word: an option that is not allowed any more or not taken, or one name too many
-abbrev pub is_refused : (names json force : ℕ) → List ℕ → Bool
-is_refused names json force word =
-    if bytes_eq word (codes "--json") then json == 0
-    else if bytes_eq word (codes "--force") then force == 0
-    else (names == 0) || is_option word
-
--- words after a command ask for its help, before any word that it refuses
-abbrev pub helps_behind : (names json force : ℕ) → List (List ℕ) → Bool
-helps_behind names json force [] = false
-helps_behind names json force (word ∷ words) =
-    is_help word
-    || (if is_refused names json force word then false
-    else helps_behind (if is_choice word then names else names - 1) (left_of (codes "--json") word json) (left_of (codes "--force") word force) words)
-
--- the largest number of names that a command takes, of so many words
-abbrev pub most_names : Takes → (words : ℕ) → ℕ
-most_names (shapes.Nothing command) words = 0
-most_names (shapes.One command) words = 1
-most_names (shapes.Two command) words = 2
-most_names shapes.PerhapsTwo words = 2
-most_names takes words = words
-
-abbrev pub helps : Option Takes → List (List ℕ) → Bool
-helps None words = false
-helps (Some takes) words = helps_behind (most_names takes (length words)) (most (takes_json takes)) (most (takes_force takes)) words
-
--- `help` alone, or before the name of a command or itself
-abbrev pub is_topic : List (List ℕ) → Bool
-is_topic [] = true
-is_topic (name ∷ []) = bytes_eq name (codes "help") || is_some (takes_named name)
-is_topic words = false
-
--- WHICH WORDS that ask for no task ASK FOR HELP; the others are a fault of usage
-abbrev pub asks_help : List (List ℕ) → Bool
-asks_help (program ∷ first ∷ rest) = is_help first || (is_version first || ((bytes_eq first (codes "help") && is_topic rest) || helps (takes_named first) rest))
-asks_help words = false

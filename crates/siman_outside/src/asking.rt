@@ -1,7 +1,7 @@
 //! Reads words by the table of commands: the task that they ask for.
 
 ghost use Rattle.std.specs.Prelude.{◌≡◌, ◌≤◌, length, map, option_map};
-ghost use Rattle.siman_outside.specs.Words.{asked_by, is_option, takes_of, takes_named, bare_asked, one_asked, two_asked, taken, last_apart, has_option, is_join_word, form_named, form_apart, parts_apart, join_choices_apart, are_names, fewest_pieces, pieces_asked, join_asked, anyone_apart, all_apart, listening_apart, import_asked, station_named, station_asked, view_asked, why_asked, chart_asked};
+ghost use Rattle.siman_outside.specs.Words.{asked_by, is_option, takes_of, takes_named, bare_asked, one_asked, two_asked, taken, last_apart, has_option, is_join_word, form_named, form_apart, parts_apart, join_choices_apart, are_names, fewest_pieces, pieces_asked, join_asked, anyone_apart, all_apart, listening_apart, import_asked, station_named, station_asked, view_asked, prose_asked, why_asked, chart_asked};
 
 use crate::commands::{
     ImportWords, JoinChoices, JoinForm, Listening, NoWord, OneWord, StationWords, Takes, Task,
@@ -288,6 +288,18 @@ fn view_words<S: AsStr>(view: ViewWord, spelling: Spelling, words: &[S]) -> Opti
     match words {
         [recording, filters @ ..] if !is_option(recording.as_str()) && !has_option(filters) => {
             Some(Task::View(view, recording.as_str(), filters, spelling))
+        }
+        _ => None,
+    }
+}
+
+/// The task of the sentences of a review.
+pub(crate) fn prose_words<S: AsStr>(words: &[S]) -> Option<Task<'_, S>>
+    ensures { option_map (asked_by S.text) result ≡ prose_asked (map S.text words.now) }
+{
+    match words {
+        [recording, filters @ ..] if !is_option(recording.as_str()) && !has_option(filters) => {
+            Some(Task::Prose(recording.as_str(), filters))
         }
         _ => None,
     }

@@ -2,9 +2,9 @@
 //! anywhere among the names.
 
 ghost use Rattle.std.specs.Prelude.{◌≡◌, ◌≤◌, IfOk, length, map, option_map};
-ghost use Rattle.siman_outside.specs.Words.{times, is_choice, names_in, behind_of, line_of, asked_by, spelling_by, most, reads_lines, are_taken, asked_behind, asked_by_name};
+ghost use Rattle.siman_outside.specs.Words.{times, is_choice, names_in, behind_of, line_of, asked_by, spelling_by, most, is_spelled_once, reads_lines, are_taken, asked_behind, asked_by_name};
 
-use crate::asking::{taken, takes_named};
+use crate::asking::{prose_words, taken, takes_named};
 use crate::commands::{Takes, Task};
 use siman_print::Spelling;
 use std::alloc::{AllocError, Global};
@@ -17,6 +17,7 @@ use std::marker::Model;
 pub(crate) struct Behind<'a> {
     names: Vec<&'a str>,
     json: usize,
+    prose: usize,
     force: usize,
 }
 
@@ -26,7 +27,7 @@ impl<'a> Model for Behind<'a> {
 
     ghost Value = { Behind };
 
-    ghost view = { λ b. record { names = map (λ name. name.now) b.names.items; json = b.json; force = b.force } };
+    ghost view = { λ b. record { names = map (λ name. name.now) b.names.items; json = b.json; prose = b.prose; force = b.force } };
 }
 
 /// How many times `wanted` occurs among words.
@@ -45,11 +46,12 @@ fn times<S: AsStr>(wanted: &str, words: &[S]) -> usize
     count
 }
 
-/// Whether a word is an option that is allowed anywhere after a command: `--json` or `--force`.
+/// Whether a word is an option that is allowed anywhere after a command: `--json`, `--prose` or
+/// `--force`.
 pub(crate) fn is_choice(word: &str) -> bool
     ensures { result ≡ is_choice word.now }
 {
-    word == "--json" || word == "--force"
+    word == "--json" || word == "--prose" || word == "--force"
 }
 
 /// The words after a command without these options.
@@ -79,6 +81,7 @@ pub(crate) fn behind_of<'a, S: AsStr>(
     Ok(Behind {
         names,
         json: times("--json", words),
+        prose: times("--prose", words),
         force: times("--force", words),
     })
 }
@@ -109,12 +112,22 @@ fn reads_lines(takes: Takes) -> bool
 }
 
 impl<'a> Behind<'a> {
+    /// Whether a command takes `--json` and `--prose` as often as they occur: at most one of them,
+    /// once.
+    fn is_spelled_once(&self, takes: Takes) -> bool
+        ensures { result ≡ is_spelled_once takes self.now }
+    {
+        self.json <= most(takes.json())
+            && self.prose <= most(takes.prose())
+            && (self.json == 0 || self.prose == 0)
+    }
+
     /// Whether a command takes the given options, as often as they occur, and at most one word is
     /// `-`, or none for a command that reads lines from standard input.
     fn are_taken(&self, takes: Takes) -> bool
         ensures { result ≡ are_taken takes self.now }
     {
-        self.json <= most(takes.json())
+        self.is_spelled_once(takes)
             && self.force <= most(takes.force())
             && times("-", &self.names) <= most(!reads_lines(takes))
     }
@@ -126,6 +139,9 @@ impl<'a> Behind<'a> {
     {
         match takes {
             Some(takes) if self.are_taken(takes) => {
+                if self.prose != 0 {
+                    return prose_words(&self.names);
+                }
                 taken(takes, spelling_by(self.json), self.force != 0, &self.names)
             }
             _ => None,

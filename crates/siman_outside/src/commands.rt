@@ -1,7 +1,7 @@
 //! The commands, and the tasks that words ask for.
 
 ghost use Rattle.std.specs.Prelude.{◌≡◌};
-ghost use Rattle.siman_outside.specs.Words.{makes_file, takes_json, takes_force};
+ghost use Rattle.siman_outside.specs.Words.{makes_file, takes_json, takes_prose, takes_force};
 
 use crate::import_words::ImportChoices;
 use siman_print::Spelling;
@@ -139,6 +139,9 @@ pub enum Task<'a, S> {
     Station(StationWords<'a, S>),
     /// A view: the file of the recording, the words that choose among the rows, and their spelling.
     View(ViewWord, &'a str, &'a [S], Spelling),
+    /// The sentences of a review: the file of the recording, and the words that choose among the
+    /// rows.
+    Prose(&'a str, &'a [S]),
     /// What contradicts what: the file of the recording, that of a certificate, if the words name
     /// one, and the spelling of the rows.
     Why(&'a str, Option<&'a str>, Spelling),
@@ -193,6 +196,13 @@ impl Takes {
         ensures { result ≡ takes_json self }
     {
         matches!(self, Takes::View(_) | Takes::PerhapsTwo)
+    }
+
+    /// Whether the command takes `--prose`.
+    pub(crate) fn prose(self) -> bool
+        ensures { result ≡ takes_prose self }
+    {
+        matches!(self, Takes::View(ViewWord::Review))
     }
 
     /// Whether the command takes `--force`.

@@ -1,7 +1,7 @@
 //! Decides whether words that ask for no task ask for help, by the table of commands.
 
 ghost use Rattle.std.specs.Prelude.{◌≡◌, length, map};
-ghost use Rattle.siman_outside.specs.Words.{is_short, is_help, is_version, left_of, is_refused, helps_behind, most_names, is_topic, helps, asks_help};
+ghost use Rattle.siman_outside.specs.Helping.{is_short, is_help, is_version, left_of, is_refused, helps_behind, most_names, is_topic, helps, asks_help};
 
 use crate::asking::{is_option, takes_named};
 use crate::command_line::{is_choice, most};
@@ -40,35 +40,44 @@ fn left_of(option: &str, word: &str, left: usize) -> usize
 }
 
 /// Whether a word is refused: an option that is not allowed any more, or a name too many.
-fn is_refused(names: usize, json: usize, force: usize, word: &str) -> bool
-    ensures { result ≡ is_refused names json force word.now }
+fn is_refused(names: usize, json: usize, prose: usize, force: usize, word: &str) -> bool
+    ensures { result ≡ is_refused names json prose force word.now }
 {
     match word {
         "--json" => json == 0,
+        "--prose" => prose == 0,
         "--force" => force == 0,
         _ => names == 0 || is_option(word),
     }
 }
 
 /// Whether words after a command ask for its help before any word that it refuses. The command
-/// takes at most `names` names, and its options `json` and `force` times.
-fn helps_behind<S: AsStr>(names: usize, json: usize, force: usize, words: &[S]) -> bool
-    ensures { result ≡ helps_behind names json force (map S.text words.now) }
+/// takes at most `names` names, and its options `json`, `prose` and `force` times.
+fn helps_behind<S: AsStr>(
+    names: usize,
+    json: usize,
+    prose: usize,
+    force: usize,
+    words: &[S],
+) -> bool
+    ensures { result ≡ helps_behind names json prose force (map S.text words.now) }
 {
-    let (mut names_left, mut json_left, mut force_left) = (names, json, force);
+    let (mut names_left, mut json_left) = (names, json);
+    let (mut prose_left, mut force_left) = (prose, force);
     let mut others = words;
     while let [word, rest @ ..] = others {
         let word = word.as_str();
         if is_help(word) {
             return true;
         }
-        if is_refused(names_left, json_left, force_left, word) {
+        if is_refused(names_left, json_left, prose_left, force_left, word) {
             return false;
         }
         if !is_choice(word) {
             names_left = names_left.saturating_sub(1);
         }
         json_left = left_of("--json", word, json_left);
+        prose_left = left_of("--prose", word, prose_left);
         force_left = left_of("--force", word, force_left);
         others = rest;
     }
@@ -94,7 +103,8 @@ fn helps<S: AsStr>(takes: Option<Takes>, words: &[S]) -> bool
         None => false,
         Some(takes) => {
             let names = most_names(takes, words.len());
-            helps_behind(names, most(takes.json()), most(takes.force()), words)
+            let (json, prose) = (most(takes.json()), most(takes.prose()));
+            helps_behind(names, json, prose, most(takes.force()), words)
         }
     }
 }

@@ -88,6 +88,11 @@ pub fn named_by<'a>(task: &Task<'a, &'a str>) -> Named<'a> {
             view: Some(*view),
             ..nothing
         },
+        Task::Prose(first, _) => Named {
+            first,
+            view: Some(ViewWord::Review),
+            ..nothing
+        },
         Task::Why(first, second, _) => Named {
             first,
             second: second.unwrap_or(""),

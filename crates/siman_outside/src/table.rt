@@ -254,7 +254,7 @@ pub(crate) const ROWS: [CommandRow; 18] = [
     CommandRow {
         name: "review",
         takes: Takes::View(ViewWord::Review),
-        usage: "siman review <REC> [FILTER]... [--json]",
+        usage: "siman review <REC> [FILTER]... [--json|--prose]",
         about: "Prints what became of each order of a recording, and how each entity lived",
         example: "Example:\n  siman review exercise.dsrc fate=lost",
         words: &[

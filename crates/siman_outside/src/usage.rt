@@ -17,6 +17,9 @@ const ABOUT: &str =
 /// What `--json` does, for the help.
 const JSON: &str = "Prints the rows in JSON, one object a line";
 
+/// What `--prose` does, for the help.
+const PROSE: &str = "Prints sentences in place of rows";
+
 const FORCE: &str = "Replaces a file that has the name of the one that is made";
 
 /// The exit statuses, for the end of the help, and the example of a call without words.
@@ -57,6 +60,9 @@ fn arguments<'a>(alloc: Global, row: &'static CommandRow) -> Result<Vec<Arg<'a>>
     }
     if row.takes.json() {
         arguments.push(option(alloc, "json", JSON))?;
+    }
+    if row.takes.prose() {
+        arguments.push(option(alloc, "prose", PROSE))?;
     }
     if row.takes.force() {
         arguments.push(option(alloc, "force", FORCE))?;
@@ -133,6 +139,9 @@ fn complaint<S: AsStr>(words: &[S]) -> &'static str {
     let twice = words.iter().filter(|word| word.as_str() == "-").count() > 1;
     match words {
         _ if twice => "standard input, '-', can be read once",
+        [_, name, ..] if name.as_str() == "review" => {
+            "'--json' and '--prose' are two spellings: only one of them may stand"
+        }
         [_, name, ..] if name.as_str() == "join" => join_complaint(words),
         [_, name, ..] if name.as_str() == "import" => IMPORT_COMPLAINT,
         [_, name, rest @ ..] if name.as_str() == "station" => {

@@ -4,7 +4,8 @@
 use crate::input::RandomInput;
 
 /// Words that may replace others.
-const WORDS: [&str; 96] = [
+const WORDS: [&str; WORD_COUNT] = [
+    "--prose",
     "pdu",
     "pdus",
     "show",
@@ -86,6 +87,7 @@ const WORDS: [&str; 96] = [
     "to=4",
     "to=x",
     "from=any",
+    "keep=all",
     "2:3",
     "1:1",
     "0:1",
@@ -106,8 +108,15 @@ const WORDS: [&str; 96] = [
 /// Largest number of words in a command line.
 const MOST: usize = 10;
 
+/// Number of words.
+const WORD_COUNT: usize = 98;
+
+/// Number of command lines.
+const LINE_COUNT: usize = 31;
+
 /// Correct command lines, of every command.
-const LINES: [&[&str]; 30] = [
+const LINES: [&[&str]; LINE_COUNT] = [
+    &["review", "rec", "station=2:3", "--prose"],
     &[],
     &[
         "pdu",
@@ -165,6 +174,7 @@ const LINES: [&[&str]; 30] = [
         "127.0.0.255:3001",
         "127.0.0.1:3002",
         "from=any",
+        "keep=all",
     ],
 ];
 
@@ -184,7 +194,7 @@ impl RandomCommandLine {
 
 /// A random word.
 fn word(input: &mut RandomInput) -> &'static str {
-    WORDS[input.random.below(93) % 93]
+    WORDS[input.random.below(WORD_COUNT) % WORD_COUNT]
 }
 
 /// Inserts a word at a place among the first `count` words, and moves those behind it up.
@@ -201,7 +211,7 @@ fn insert(words: &mut [&'static str; MOST], count: usize, place: usize, word: &'
 /// at a random number.
 pub fn random_command_line(input: &mut RandomInput) -> RandomCommandLine {
     let mut words = [""; MOST];
-    let line = LINES[input.random.below(28) % 28];
+    let line = LINES[input.random.below(LINE_COUNT) % LINE_COUNT];
     let mut count = line.len().min(MOST);
     words[..count].copy_from_slice(&line[..count]);
     if input.random.one_in(2) {

@@ -9,5 +9,5 @@ use Rattle.siman_analysis_commands.proofs.review.print_review.Goals as goal
 pub returns-in_err-head : goal.returns-in_err-head
 returns-in_err-head g c =
     let kept = g.W.Write.contents c.args.out.now in
-    at_fault (λ answered. PrintsReview c.args.spelling c.args.filters.now (g.L.ExerciseLog.recording c.args.log.now) answered (stream kept kept)) _ _ c.from_residual.ensures.1
+    at_fault (λ answered. PrintsReview c.args.form c.args.filters.now (g.L.ExerciseLog.recording c.args.log.now) answered (stream kept kept)) _ _ c.from_residual.ensures.1
     (inl (_, c.in_err-head.ensures, refl, Keeps-refl kept))

@@ -45,6 +45,11 @@ returns-in-View g c =
     let did = c.do_view-done.ensures in
     rw c.in-View.is (did.0, did.1, did.2, (c.do_view-done.result, did.3, (c.conclude-in-View.ensures.ends, c.conclude-in-View.ensures.fault, c.conclude-in-View.ensures.begun)))
 
+pub returns-in-Prose : goal.returns-in-Prose
+returns-in-Prose g c =
+    let did = c.do_prose-done.ensures in
+    rw c.in-Prose.is (did.0, did.1, did.2, (c.do_prose-done.result, did.3, (c.conclude-in-Prose.ensures.ends, c.conclude-in-Prose.ensures.fault, c.conclude-in-Prose.ensures.begun)))
+
 pub returns-in-Why : goal.returns-in-Why
 returns-in-Why g c =
     let did = c.why_named-done.ensures in

@@ -56,11 +56,11 @@ _siman() {
     current=${words[-1]%.}
     COMPREPLY=()
     if ((${#words[@]} == 2)); then
-        _siman_words 'pdu pdus show check audit world live station convert mend join import export review log count why chart help --help --version'
+        _siman_words 'pdu pdus show check audit world plan live station convert mend join import export review log count why chart help --help --version'
         return
     fi
     case ${words[1]}:$((${#words[@]} - 3)) in
-        help:0) _siman_words 'pdu pdus show check audit world live station convert mend join import export review log count why chart help' ;;
+        help:0) _siman_words 'pdu pdus show check audit world plan live station convert mend join import export review log count why chart help' ;;
         show:0) _siman_files dsrc ;;
         check:0) _siman_files dsrc ;;
         check:1) _siman_files dsct ;;
@@ -70,6 +70,8 @@ _siman() {
         world:0) _siman_files script ;;
         world:1) _siman_folders ;;
         world:*) _siman_words '--force' ;;
+        plan:0) _siman_files plan ;;
+        plan:*) _siman_folders; _siman_words '--json --force' ;;
         live:0) _siman_files script ;;
         live:1) _siman_folders ;;
         station:0) _siman_files script ;;

@@ -1,9 +1,10 @@
 #!/usr/bin/env python3
-"""Compares the table of commands in the README with that of the program, `ROWS` in siman_outside, and there each usage
-with the words of its row.
+"""Compares the table of commands in the README with that of the program, `ROWS` in siman_outside, there each usage with
+the words of its row, and the made-up command lines of siman_trials with the commands.
 
 Each command of the program needs its row in the README, with the words that usage gives it, in the order of the help;
-and each row of the README that is a command by its name has to be one of the program. Its last line is `N commands, M
+and each row of the README that is a command by its name has to be one of the program. Each command has to be a word of
+the made-up command lines, and the first of one of them. Its last line is `N commands, M
 wrong`, with status 1 where something is.
 """
 import itertools
@@ -13,6 +14,7 @@ from pathlib import Path
 
 TOP = Path(__file__).resolve().parent.parent
 TABLE = TOP / "crates" / "siman_outside" / "src" / "table.rt"
+MADE_UP = TOP / "crates" / "siman_trials" / "src" / "random_command_lines.rt"
 WORD = r'CommandWord \{\s*name: "([A-Z]+)",\s*often: Often::(\w+),'
 
 
@@ -55,6 +57,17 @@ def rows_that_differ():
             yield usage, name, has
 
 
+def commands_not_made_up(program):
+    """Each command that no made-up command line has, and each that may not replace a word of one."""
+    text = MADE_UP.read_text(encoding="utf-8")
+    words, lines = (text.partition(f"const {name}:")[2].partition("\n];")[0] for name in ("WORDS", "LINES"))
+    for name in [usage.split()[0] for usage in program]:
+        if not re.search(rf'^    "{name}",$', words, flags=re.M):
+            yield f"{name} is no word of the made-up command lines"
+        if not re.search(rf'&\[\s*"{name}"', lines):
+            yield f"no made-up command line begins with {name}"
+
+
 def main():
     program, readme, wrong = rows_of_program(), rows_of_readme(), 0
     for usage, name, has in rows_that_differ():
@@ -64,6 +77,9 @@ def main():
         if own != other:
             print(f"the program has `{own}` where the README has `{other}`")
             wrong += 1
+    for what in commands_not_made_up(program):
+        print(what)
+        wrong += 1
     print(f"{len(program)} commands, {wrong} wrong")
     return 1 if wrong or not program else 0
 

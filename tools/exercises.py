@@ -9,8 +9,9 @@ with the report, the review and the picture of its recording. The recording is m
 `audit` has to find an order, what `check` and `review` print has to be report.txt and review.txt, and what `chart` draws
 picture.svg. All are compared, too, with what tools/pages computes of the recording, which knows nothing of the program.
 So are the pictures that the pages show: docs/losses.svg is that of examples/losses.dsrc, docs/missing.svg that of
-examples/one_send_missing.dsrc, docs/staff/first.svg that of examples/first. --write makes all these files anew, of what
-tools/pages computes.
+examples/one_send_missing.dsrc, docs/staff/first.svg that of examples/first. Where a source for `plan` stands beside a
+script, as exercise.plan in a folder or convoy.plan, the script has to be the plain script that `plan` writes of it.
+--write makes all these files anew, of what tools/pages computes.
 
 The last line is `N tried, M wrong`, with status 1 where something is wrong. It is no part of the gate.
 """
@@ -107,7 +108,11 @@ def made_recording(program, exercise, folder):
 
 def compared_texts(program, exercise, folder, is_written):
     """Of an exercise what is compared: a name, what it should be and what it is."""
-    recording, compared = made_recording(program, exercise, folder)
+    source, compared = exercise / "exercise.plan", []
+    if source.is_file():
+        compared += compared_source(program, source, folder, is_written)
+    recording, made = made_recording(program, exercise, folder)
+    compared += made
     certificate, text = folder / "exercise.dsct", recording.read_bytes()
     compared.append(("audit", pages.answer_to_audit(text).out, run(program, "audit", recording, certificate)))
     report = pages.answer_to_check(text, certificate.read_bytes()).out, run(program, "check", recording, certificate)
@@ -148,19 +153,32 @@ def compared_recording(program, name, folder, is_written):
     return compared + compared_pictures(program, recording, order, DRAWN[name], is_written)
 
 
+def compared_source(program, source, folder, is_written):
+    """What `plan` says of a source, and the script that it writes, which stands beside it."""
+    made = folder / "made.script"
+    told, script = pages.answer_to_plan(source.read_bytes())
+    compared = [("plan", printed(told), run(program, "plan", source, made))]
+    return compared + list(compared_file(source.with_suffix(".script"), script, made.read_bytes(), is_written))
+
+
+def compared_of(program, name, folder, is_written):
+    """What is compared of a folder, a source or a recording of the examples."""
+    if (EXAMPLES / name).is_dir():
+        return compared_texts(program, EXAMPLES / name, folder, is_written)
+    if name.endswith(".plan"):
+        return compared_source(program, EXAMPLES / name, folder, is_written)
+    return compared_recording(program, name, folder, is_written)
+
+
 def main():
     given = arguments()
     makers = ("exercise.script", "recorder.py", "machine.py", "run")
     names = given.exercises or sorted({path.parent.name for maker in makers for path in EXAMPLES.glob(f"*/{maker}")})
     tried = wrong = 0
-    for name in [*names, *([] if given.exercises else DRAWN)]:
+    names += [] if given.exercises else [*DRAWN, *sorted(path.name for path in EXAMPLES.glob("*.plan"))]
+    for name in names:
         with tempfile.TemporaryDirectory() as folder:
-            exercise = EXAMPLES / name
-            if exercise.is_dir():
-                compared = compared_texts(given.program, exercise, Path(folder), given.write)
-            else:
-                compared = compared_recording(given.program, name, Path(folder), given.write)
-            for told, expected, came in compared:
+            for told, expected, came in compared_of(given.program, name, Path(folder), given.write):
                 tried += 1
                 if expected != came:
                     wrong += 1

@@ -41,8 +41,8 @@ IN_PACKAGE = {
     "share/doc/siman/copyright",
 }
 FILES = (
-    "exercise.dsrc", "exercise.dsct", "exercise.script", "notes.txt", "one.dsrc", "two words.dsrc", "later/1.dsrc", "later/2.dsrc",
-    "later/notes.txt",
+    "exercise.dsrc", "exercise.dsct", "exercise.plan", "exercise.script", "notes.txt", "one.dsrc", "two words.dsrc", "later/1.dsrc",
+    "later/2.dsrc", "later/notes.txt",
 )  # fmt: skip
 # What is typed before the tab, and the words of the line behind it.
 TYPED = {
@@ -53,6 +53,9 @@ TYPED = {
     "siman show e": "siman show exercise.dsrc",
     "siman check exercise.dsrc e": "siman check exercise.dsrc exercise.dsct",
     "siman world ex": "siman world exercise.script",
+    "siman plan ex": "siman plan exercise.plan",
+    "siman plan exercise.plan l": "siman plan exercise.plan later/",
+    "siman plan exercise.plan new.script --f": "siman plan exercise.plan new.script --force",
     "siman live exercise.script ": "siman live exercise.script later/",
     "siman audit exercise.dsrc exer": "siman audit exercise.dsrc exer",
     "siman mend exercise.dsrc new.dsrc --f": "siman mend exercise.dsrc new.dsrc --force",

@@ -3,13 +3,19 @@
 
 Says where a line of JSON that a case, a page or an example has is not as the schema describes it: a line or a key that
 the schema lacks, keys in another order, a value of another type or out of its range. Says, too, which line, key or value
-of the schema no case has, and where the table in FORMATS is not that of the schema. --table prints that table.
+of the schema no case has, and where the table in FORMATS is not that of the schema. --table prints that table. The cases
+of `plan` are the sources of tools/cases/plan_rows.py, as tools/pages spells their lines.
 """
 
 import json
 import pathlib
 import re
 import sys
+
+sys.dont_write_bytecode = True
+
+import pages
+from cases import plan_rows
 
 TOP = pathlib.Path(__file__).resolve().parent.parent
 SCHEMA = TOP / "docs/integrators/lines.schema.json"
@@ -87,6 +93,14 @@ def lines_of(path):
             yield number, found[1]
 
 
+def lines_of_plans():
+    """The lines of `plan` for the sources that tools/plans.py tries it with, each with the number of the source."""
+    sources = [plan_rows.HEAD + tail for tail, *_ in plan_rows.GOOD] + [text for text, *_ in plan_rows.WHOLE]
+    for number, text in enumerate(sources):
+        for line in pages.plan_of(text).lines:
+            yield number, pages.json_of(line)
+
+
 def table(schema):
     values = schema["$defs"]
     rows = [HEAD, "|---|---|---|"]
@@ -97,7 +111,7 @@ def table(schema):
         for key, value in rule["properties"].items():
             if key == "line":
                 continue
-            kind = name_of(value["anyOf"][0]) + " or null" if "anyOf" in value else name_of(value)
+            kind = " or ".join(name_of(other) if "$ref" in other else other["type"] for other in value.get("anyOf", [value]))
             optional = "" if key in rule["required"] else "; not always"
             keys.append(f"`{key}` ({kind}{optional})")
         rows.append(f"| `{name.removesuffix('-line')}` | {rule['description']} | {', '.join(keys)} |")
@@ -133,15 +147,21 @@ def main():
             if said:
                 wrong += 1
                 print(f"{path.relative_to(TOP)}:{number}: {said}: {line[:100]}")
+    for number, line in lines_of_plans():
+        tried += 1
+        said = wrong_in(line, schema, seen)
+        if said:
+            wrong += 1
+            print(f"source {number} of tools/cases/plan_rows.py: {said}: {line[:100]}")
     texts = "\n".join(path.read_text(encoding="utf-8") for path in cases)
     for part in schema["oneOf"]:
         for key, value in schema["$defs"][name_of(part)]["properties"].items():
             name = name_of(part).removesuffix("-line")
-            here = seen.get((name, key))
+            here, may_be_null = seen.get((name, key)), {"type": "null"} in value.get("anyOf", [])
             if here is None:
                 wrong += 1
                 print(f"no case has `{key}` of the line `{name}`")
-            elif "anyOf" in value and "null" not in here and not re.search(rf"(?m)^text {name} .*\b{key}=-", texts):
+            elif may_be_null and "null" not in here and not re.search(rf"(?m)^text {name} .*\b{key}=-", texts):
                 wrong += 1
                 print(f"no case has null as `{key}` of the line `{name}`, nor `-` in text")
     if table(schema) not in PAGE.read_text(encoding="utf-8"):

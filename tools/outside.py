@@ -20,8 +20,8 @@ from pathlib import Path
 sys.dont_write_bytecode = True
 
 from cases import (
-    audits, charts, converts, counts, datagrams, exports, files, folders, histories, joins, lives, logs, memory, mends, reasons, reviews,
-    saving, scripts, sizes, sockets, stations, streams, whys, words, worlds,
+    audits, charts, converts, counts, datagrams, exports, files, folders, histories, joins, lives, logs, memory, mends, plans, reasons,
+    reviews, saving, scripts, sizes, sockets, stations, streams, whys, words, worlds,
 )  # fmt: skip
 from cases.examples import TOP, made_examples
 from cases.trials import Trials, described
@@ -45,8 +45,8 @@ def try_program(program, folder):
     trials = Trials(str(program), folder)
     examples = made_examples(folder)
     parts = (
-        words, datagrams, files, histories, audits, converts, mends, joins, exports, reviews, logs, counts, whys, charts, scripts, worlds, lives,
-        sockets, stations, sizes, saving, folders, reasons,
+        words, datagrams, files, histories, audits, converts, mends, joins, exports, reviews, logs, counts, whys, charts, scripts, worlds, plans,
+        lives, sockets, stations, sizes, saving, folders, reasons,
         streams, memory,
     )  # fmt: skip
     for part in parts:

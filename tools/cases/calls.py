@@ -14,7 +14,7 @@ from cases.trials import Verdict
 ALLOWED = ("usual", "memory, then usual", "not begun")
 AT_A_LINE = ("serve", "issue", "nudge")
 NO_ROOM = "send, then usual"
-CALLS = 44
+CALLS = 46
 
 
 def run_once(program, library, refused):

@@ -159,6 +159,27 @@ WORKED_ANSWER = (
     b"answer 3 request 2\nanswer 7 request 6\nanswer 9 request 8\nanswer 11 request 6\n"
     b"known 13 change 3\nknown 14 change 9\nknown 15 change 7\nentity 2:3:7 running\n"
 )
+# A source, what plan says of it, and the script that it writes.
+PLAN_SOURCE, PLAN_SCRIPT = "examples/convoy.plan", "examples/convoy.script"
+PLAN_LINES = b"""\
+move 4 create from=1:1 to=2:3:7 request=1 sends=0 label=make
+move 5 deliver at=2:3 brings=0 kind=create-entity from=1:1:0 to=2:3:7 request=1 answers=1 response=able
+move 6 deliver at=1:1 brings=1 kind=acknowledge from=2:3:7 to=1:1:0 request=1 answers=- response=-
+move 8 start from=1:1 to=65535:65535:65535 request=2 sends=2 label=go
+move 9 deliver at=2:3 brings=2 kind=start-resume from=1:1:0 to=65535:65535:65535 request=2 answers=3 response=able
+move 10 deliver at=2:3 brings=2 kind=start-resume from=1:1:0 to=65535:65535:65535 request=2 answers=4 response=able
+move 11 stop from=1:1 to=2:4:7 request=3 sends=5
+move 12 tell entity=2:3:7 state=running
+move 14 tick at=1:1 repeats=- sends=- label=t
+lost 3 source=9 kind=acknowledge from=2:3:0 to=1:1:0
+lost 4 source=10 kind=acknowledge from=2:3:0 to=1:1:0
+lost 5 source=11 kind=stop-freeze from=1:1:0 to=2:4:7
+copied 2 source=8 at=2:3 times=2
+warning 11 nobody to=2:4:7
+warning 11 undelivered datagram=5
+warning 13 back
+plan exercise=1 stations=2 moves=9 datagrams=6
+"""
 FORMATS_RECORDING = bytes.fromhex(
     "4453524330303031 01 0001 0002 0003 0001 0007 01 02 0000 0000000000000005 0002 ABCD"
     "01 0000 0000000000000100 0001 EF 03 0000 0007 02 00 00000003"

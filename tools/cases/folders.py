@@ -10,7 +10,7 @@ LINES = 1000  # of each command
 # The words behind each command, where it has those that it takes.
 USUAL = {
     "pdu": ["0701"], "pdus": [], "show": ["REC"], "check": ["REC", "CERT"], "audit": ["REC", "NEW"], "world": ["SCRIPT", "NEW"],
-    "live": ["SCRIPT", "NEW"], "station": ["SCRIPT", "1:1", "NEW", "127.0.0.1:0", "127.0.0.1:9"], "convert": ["REC", "NEW"],
+    "live": ["SCRIPT", "NEW"], "plan": ["SCRIPT", "NEW"], "station": ["SCRIPT", "1:1", "NEW", "127.0.0.1:0", "127.0.0.1:9"], "convert": ["REC", "NEW"],
     "mend": ["REC", "NEW"], "join": ["REC", "REC", "NEW"], "export": ["REC", "NEW"], "review": ["REC", "fate=lost"], "log": ["REC"],
     "count": ["REC", "kind=told"], "why": ["REC", "CERT"], "chart": ["REC", "CERT", "NEW"],
 }  # fmt: skip

@@ -14,9 +14,13 @@ MOST_ALLOCATIONS = 5000
 LATER = 1 << 40  # later than the last allocation of any run
 
 
-# Commands that make a file; `live` makes none where one stands, and takes no --force.
+# Commands that make a file; `live` makes none where one stands, and takes no --force. `plan` makes one where it is named.
 MAKING = (["world"], ["live"], ["audit"], ["convert"], ["mend"], ["join"], ["import"], ["export"], ["chart"])
 BEHIND = ("form=", "parts=", "from=", "to=", "--")  # how words begin that may stand behind the name of the new file
+
+
+def is_making(words):
+    return words[:1] in MAKING or words[:1] == ["plan"] and len(words) == 3 and "--json" not in words
 
 
 def new_at(words):
@@ -26,7 +30,7 @@ def new_at(words):
 
 def making(words, alone):
     """Words of a command under a new name of their own: where none stands, or with --force where one stands."""
-    if words[:1] not in MAKING:
+    if not is_making(words):
         return words
     at = new_at(words)
     own = [*words[:at], f"{words[at]}.{alone}", *words[at + 1 :]]
@@ -96,7 +100,7 @@ def refusals(trials, library, case, alone):
 
 def run_refused(trials, library, case, first, last):
     """The outcome of a run with these allocations refused, and whether there was one of them."""
-    if case.words[:1] in MAKING and "--force" not in case.words:
+    if is_making(case.words) and "--force" not in case.words:
         (trials.folder / case.words[new_at(case.words)]).unlink(missing_ok=True)
     reader, writer = os.pipe()
     refuse = {"REFUSE_FIRST": str(first), "REFUSE_LAST": str(last), "REFUSE_MARK": str(writer)}

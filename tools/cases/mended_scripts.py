@@ -4,6 +4,8 @@ Nothing is looked at but the text of the reason, the line and the column that it
 """
 import re
 
+from pages.reasons import HINT
+
 from .made_scripts import MOST_STATIONS, MOVES, OUTFITS, name_of
 
 PLACED = re.compile(r"line (\d+), column (\d+): (.*)", re.DOTALL)
@@ -243,7 +245,7 @@ CURES = [
 def mended(text, told, chance):
     """The text mended as it is told, and the number of the line that was mended, where it then stands; or None, where what
     is told says of no line what to do."""
-    mending, found = Mending(text, chance), PLACED.fullmatch(told)
+    mending, found = Mending(text, chance), PLACED.fullmatch(told.removesuffix(HINT))
     if found:
         mending.number, mending.column = int(found[1]), int(found[2])
         told = found[3]

@@ -8,7 +8,7 @@ import sys
 import time
 
 import pages
-from cases.examples import TOP, WORKED_LINE, WORKED_SCRIPT
+from cases.examples import PLAN_SOURCE, TOP, WORKED_LINE, WORKED_SCRIPT
 from cases.trials import UNWRITTEN, Case, Verdict, first_lines
 from cases.worlds import after
 from pages import Outcome
@@ -38,6 +38,7 @@ def makers(trials, examples):
     """The words before the name of the new file, of each command that makes one."""
     recording, certificate = examples[0], trials.file(b"")
     yield ["world", WORKED_SCRIPT]
+    yield ["plan", PLAN_SOURCE]
     yield ["audit", recording]
     yield ["convert", recording]
     yield ["mend", recording]
@@ -110,7 +111,7 @@ def try_same(trials, examples):
     recording = (trials.folder / examples[0]).read_bytes()
     script = (TOP / WORKED_SCRIPT).read_bytes()
     for command, text in [
-        ("world", script), ("live", script), ("audit", recording), ("convert", recording), ("mend", recording), ("join", recording),
+        ("world", script), ("live", script), ("plan", script), ("audit", recording), ("convert", recording), ("mend", recording), ("join", recording),
         ("export", recording),
     ]:  # fmt: skip
         names = names_of(trials, f"same.{command}", text)

@@ -5,7 +5,9 @@ from pathlib import Path
 
 import pages
 from cases import texts
-from cases.examples import README_ANSWER, README_DATAGRAM, TEXTS_REPORT, TOP, WORKED_ANSWER, WORKED_LINE, WORKED_SCRIPT
+from cases.examples import (
+    PLAN_LINES, PLAN_SOURCE, README_ANSWER, README_DATAGRAM, TEXTS_REPORT, TOP, WORKED_ANSWER, WORKED_LINE, WORKED_SCRIPT,
+)  # fmt: skip
 from cases.lives import torn
 from cases.trials import UNWRITTEN, Case, Some, Verdict, told
 from pages import Outcome
@@ -80,6 +82,9 @@ def answers(trials, examples):
         (["chart", good, certificate, f"{new}.chart"], b"", drawn),
         (["chart", wrong, certificate, f"{new}.uncharted"], b"", answer_to_chart(wrong_text, steps)[0]),
         (["world", WORKED_SCRIPT, f"{new}.world"], b"", Outcome(0, WORKED_LINE, b"")),
+        (["plan", PLAN_SOURCE], b"", Outcome(0, PLAN_LINES, b"")),
+        (["plan", PLAN_SOURCE, "--json"], b"", pages.answer_to_plan((TOP / PLAN_SOURCE).read_bytes(), pages.json_of)[0]),
+        (["plan", PLAN_SOURCE, f"{new}.plan"], b"", Outcome(0, PLAN_LINES, b"")),
         (["live", WORKED_SCRIPT, f"{new}.live"], b"", Outcome(0, b"live records=13\n", b"")),
         (["convert", good, f"{new}.convert"], b"", Outcome(0, b"converted records=9\n", b"")),
         (["mend", good, f"{new}.mend"], b"", Outcome(0, b"whole records=9\n", b"")),
@@ -109,6 +114,9 @@ def faults(examples):
         (["why", certificate, certificate], b"", pages.fault("recording: magic at 0")),
         (["why", good, good, "--json"], b"", pages.fault("certificate: magic at 0")),
         (["world", good, "none"], b"", pages.fault("script: bad-line at line 1")),
+        (["plan", good], b"", pages.fault("plan: bad-line at line 1")),
+        (["plan", good, "none"], b"", pages.fault("plan: bad-line at line 1")),
+        (["plan", "-"], b"exercise 1\nstation 1:1\nlose 0\n", pages.fault("plan: bad-line at line 3")),
         (["show", b"\xff"], b"", pages.fault("words: not UTF-8")),
         (["check", good], b"", Outcome(2, b"", Some())),
     ]

@@ -11,7 +11,7 @@ from pages import Outcome
 PATIENCE = 20  # seconds for one run
 UNWRITTEN = Outcome(2, b"", b"output: write\n")
 # The first line of each fault: what it is about, and what there is to say.
-SUBJECTS = rb"hex|file|recording|certificate|join|import|capture|script|world|live|station|line \d+|filter|view|chart|output|words"
+SUBJECTS = rb"hex|file|recording|certificate|join|import|capture|script|plan|world|live|station|line \d+|filter|view|chart|output|words"
 FAULT = re.compile(rb"(" + SUBJECTS + rb"): .*|memory")
 # How the program is called: its words, what it is given on standard input, and what stands before and behind it in a
 # line of the shell; then the outcomes that the pages allow.

@@ -6,6 +6,7 @@ the definitions in crates/siman_scripts/specs (ReasonText.antt, Nearest.antt).
 import re
 from typing import NamedTuple
 
+from .plan import read_source
 from .scripts import LARGEST_SCRIPT
 
 __all__ = ["SCRIPT_FORMS", "all_reasons", "line_of_move", "reason_of_command", "reason_of_script", "warning_of_script"]
@@ -270,7 +271,17 @@ def lines_of(text):
     return lines if lines[-1] else lines[:-1]
 
 
+HINT = "; siman plan reads it"
+
+
 def reason_of_script(text):
+    """The first reason by which a text is no script, with what is told behind it where `plan` reads the text; or None."""
+    reason = bare_reason_of_script(text)
+    is_source = reason is not None and read_source(text)[1] is None
+    return reason._replace(text=reason.text + HINT) if is_source else reason
+
+
+def bare_reason_of_script(text):
     """The first reason by which a text is no script, or None."""
     if len(text) > LARGEST_SCRIPT:
         return Reason(0, 0, TOO_LONG, "text: too long")

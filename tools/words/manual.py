@@ -77,7 +77,7 @@ def page(program, values_of):
         "OPTIONS": "\n".join([
             paragraph(r"\fB\-h\fR, \fB\-\-help\fR, \fBhelp\fR [\fICOMMAND\fR]", "Prints help, and ends."),
             paragraph(r"\fB\-V\fR, \fB\-\-version\fR", "Prints the version, and ends."),
-            paragraph(r"\fB\-\-json\fR", "Anywhere behind review, log, count or why: each line is an object of JSON."),
+            paragraph(r"\fB\-\-json\fR", "Anywhere behind review, log, count, why or plan: each line is an object of JSON."),
             paragraph(r"\fB\-\-prose\fR", "Anywhere behind review, in the place of \\-\\-json: sentences."),
         ]),
         "NAMES": "Values that words with a key may have:\n" + "\n".join(names),

@@ -4,7 +4,7 @@ MADE = "Made by tools/manual.py from the program's table of commands: not to be 
 # How the files that a word names mostly end; a word that is not here names no file.
 ENDS = {
     "REC": "dsrc", "OLD": "dsrc", "NEW": "dsrc", "PIECE": "dsrc", "CERT": "dsct", "SCRIPT": "script", "SETUP": "script",
-    "SVG": "svg", "CAPTURE": "pcap",
+    "SVG": "svg", "CAPTURE": "pcap", "SOURCE": "plan",
 }  # fmt: skip
 OPTIONS = {"--help": "Print help", "--version": "Print version"}
 HELP = "Print the help, or that of a command"
@@ -272,7 +272,8 @@ def fish_lines(command, values_of):
             files = f"__siman_files {end}" if end else "__siman_folders"
             yield f"{at} '__siman_at {place} {name}' -a '({files})'"
     for end in ends_of(behind):
-        files = f"__siman_others {end}" if are_others(behind) else f"__siman_files {end}"
+        offer = "__siman_others" if are_others(behind) else "__siman_files"
+        files = f"{offer} {end}" if end else "__siman_folders"
         yield f"{at} '__siman_behind {len(fixed) + 2} {name}' -a '({files})'"
     if offered(command, values_of):
         words = " ".join(offered(command, values_of))

@@ -27,26 +27,34 @@ def takes_more(command):
     return any(word.is_many for word in command.words) or any("=" in choice for choice in command.choices)
 
 
+def made_by(command):
+    """The word of the file that the command makes, or None."""
+    return next((word for word in command.words if word.is_made), None) if command else None
+
+
 def makes_file(words):
-    """Whether these words make a file, if all goes well. `--force` may stand anywhere among them."""
+    """Whether these words make a file, if all goes well. `--force`, or `--json` of a command that takes it, may stand
+    anywhere among them. Where the file need not be named, as that of `plan`, it is made if it is.
+    """
     command = command_of(words)
-    if command is None or not any(word.is_made for word in command.words):
+    made = made_by(command)
+    if made is None or any(is_option(word) and word not in command.choices for word in words[1:]):
         return False
     names = [word for word in words[1:] if not is_option(word)]
-    if any(is_option(word) and not (word == "--force" and word in command.choices) for word in words[1:]):
-        return False
-    least = least_names(command)
+    least = least_names(command) if made.is_needed else len(command.words)
     return len(names) >= least if takes_more(command) else len(names) == least
 
 
 def files_in(words):
-    """The places of the words that name files which the program opens, where they make none. `--json`, or `--prose` in
+    """The places of the words that name files which the program opens, where they make none and need not. `--json`, or `--prose` in
     its place, may stand once, anywhere among those of a command that takes it.
     """
     command = command_of(words)
-    if command is None or any(word.is_made for word in command.words):
+    made = made_by(command)
+    if command is None or (made and made.is_needed) or makes_file(words):
         return []
-    places = [place for place in range(1, len(words)) if words[place] not in command.choices]
+    choices = {*command.choices} - {"--force"}
+    places = [place for place in range(1, len(words)) if words[place] not in choices]
     behind = [words[place] for place in places]
     if len(words) - 1 - len(behind) > 1 or any(map(is_option, behind)) or behind.count("-") > 1:
         return []

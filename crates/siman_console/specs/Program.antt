@@ -35,6 +35,7 @@ use Rattle.siman_analysis_commands.specs.View.{ViewsNamed, ProseNamed}
 use Rattle.siman_outside.specs.Recorded.{SaysOfBytes, SaysOfBoth}
 use Rattle.siman_outside.specs.Saying.{SaysOfFile, SaysOfFiles}
 use Rattle.siman_file_commands.specs.Show.{ShowsRecording}
+use Rattle.siman_exercise_commands.specs.Plan.{PlansNamed}
 use Rattle.siman_exercise_commands.specs.ScriptTrial.{TriesInput}
 use Rattle.siman_exercise_commands.specs.Station.{EndsStation}
 use Rattle.siman_file_commands.specs.Why.{WhyNamed}
@@ -79,6 +80,7 @@ EndsTask told (asks.Station words) deeds input o = EndsStation told.passed words
 EndsTask told (View view recording filters spelling) deeds input o = EndsAs (ViewsNamed view spelling recording filters deeds) o
 EndsTask told (asks.Prose recording filters) deeds input o = EndsAs (ProseNamed recording filters deeds) o
 EndsTask told (asks.Why recording certificate spelling) deeds input o = EndsAs (WhyNamed spelling recording certificate deeds) o
+EndsTask told (asks.Plan source script spelling force) deeds input o = EndsAs (PlansNamed source script spelling force deeds) o
 EndsTask told (asks.Chart recording certificate picture words force) deeds input o = EndsAs (ChartsNamed recording certificate picture words force deeds) o
 
 -- HOW WORDS WITHOUT A TASK END: with lack of memory, with the help that they ask for, or with status 2 as a fault of usage, which writes nothing to the output

@@ -11,7 +11,7 @@ ghost use Rattle.siman_lines.specs.AtLines.{Telling};
 use crate::usage::end_usage;
 use siman_analysis_commands::{Prose, View, chart_named};
 use siman_exercise_commands::{
-    Links, WorldCommand, end_live, end_station, import_named, try_input,
+    Links, WorldCommand, end_live, end_station, import_named, plan_named, try_input,
 };
 use siman_file_commands::{
     AuditCommand, CheckCommand, ConvertCommand, ExportCommand, MendCommand, ShowCommand, end_lines,
@@ -175,6 +175,11 @@ fn end_task<'a, O: Links, R: Input<O::Line> + Drop, W: Write, E: Write>(
         Task::Why(recording, certificate, spelling) => {
             let names = (recording, certificate);
             let done = why_named(alloc, names, spelling, outside, out, notes);
+            conclude(done, errors)
+        }
+        Task::Plan(source, script, spelling, force) => {
+            let names = (source, script);
+            let done = plan_named(alloc, names, spelling, force, outside, out, notes);
             conclude(done, errors)
         }
         Task::Chart(recording, certificate, picture, steps, force) => {

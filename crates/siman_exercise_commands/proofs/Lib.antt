@@ -1,6 +1,7 @@
 mod Decided
 mod Imported
 mod Scripts
+mod Sources
 mod Files
 mod Trials
 mod Judged

@@ -1,5 +1,5 @@
 -- What was fetched of a script: what is made of it depends on no more.
-use Rattle.std.proofs.Common.{◌≡◌, ℕ, ◌+◌, ◌<◌, List, [], Bool, true, Option, Some, None, Err, nat_lt, length, IfSome, if◌then◌else◌, arith, refl, sym, ap, subst, ◌∙◌, inl, inr, take_all}
+use Rattle.std.proofs.Common.{◌≡◌, ℕ, ◌+◌, ◌<◌, List, [], Bool, true, Option, Some, None, Result, Err, nat_lt, length, IfSome, if◌then◌else◌, arith, refl, sym, ap, subst, ◌∙◌, inl, inr, take_all}
 use Rattle.std.proofs.lemmas.Bool.{cases_lt}
 use Rattle.std.proofs.lemmas.Bool.Decides.{nat_tests}
 use Rattle.std.proofs.lemmas.List.{length-take-le}
@@ -9,27 +9,36 @@ use Rattle.siman_scripts.specs.declared.why.LineReason.{LineReason}
 use Rattle.siman_scripts.specs.declared.why.Why.TheVariants.{TooLong}
 use Rattle.byte_files.specs.Fetching.{fetched}
 use Rattle.siman_outside.proofs.Offered.{Said}
-use Rattle.siman_exercise_commands.specs.Explained.{Scripted, TextRead, text_read, lines_if}
+use Rattle.std.specs.Result.{result_err}
+use Rattle.siman_plans.specs.declared.source_fault.SourceReason.{SourceReason}
+use Rattle.siman_plans.specs.Source.{SourceData}
+use Rattle.siman_plans.specs.Source as sources
+use Rattle.siman_exercise_commands.specs.Explained.{Scripted, TextRead, text_read, lines_if, hint_by, told_by}
 
 -- what is read of too long a text
 too_long : TextRead
-too_long = record { scripted = Err (BadLine 0); reason = Some (record { line = 0; column = 0; why = TooLong }); lines = [] }
+too_long = record { scripted = Err (BadLine 0); reason = told_by [] (Some (record { line = 0; column = 0; why = TooLong })); lines = [] }
 
-read_if : (long : Bool) (scripted : Scripted) (reason : Option LineReason) (text : List ℕ) → TextRead
-read_if long scripted reason text =
+read_if : (long : Bool) (scripted : Scripted) (reason : Option LineReason) (source : Result SourceData SourceReason) (text : List ℕ) → TextRead
+read_if long scripted reason source text =
     let read : Scripted = if long then Err (BadLine 0) else scripted in
-    record { scripted = read; reason = if long then Some (record { line = 0; column = 0; why = TooLong }) else reason; lines = lines_if read text }
+    record {
+      scripted = read;
+      reason = told_by (hint_by (result_err (if long then Err sources.too_long else source))) (if long then Some (record { line = 0; column = 0; why = TooLong }) else reason);
+      lines = lines_if read text;
+    }
 
-at_length : (long : Bool) (scripted : Scripted) (reason : Option LineReason) (text : List ℕ) → long ≡ true → read_if long scripted reason text ≡ too_long
+at_length : (long : Bool) (scripted : Scripted) (reason : Option LineReason) (source : Result SourceData SourceReason) (text : List ℕ) → long ≡ true
+    → read_if long scripted reason source text ≡ too_long
 unfolding read_if too_long
-at_length long scripted reason text is = rw is refl
+at_length long scripted reason source text is = rw is refl
 
 is_longer : (n : ℕ) → LARGEST_SCRIPT < n → nat_lt LARGEST_SCRIPT n ≡ true
 is_longer n h = grind (arith, nat_tests)
 
 too_large : (text : List ℕ) → LARGEST_SCRIPT < length text → text_read text ≡ too_long
 unfolding read_if
-too_large text h = at_length (nat_lt LARGEST_SCRIPT (length text)) _ _ text (is_longer (length text) h)
+too_large text h = at_length (nat_lt LARGEST_SCRIPT (length text)) _ _ _ text (is_longer (length text) h)
 
 -- The same is read of what was fetched.
 text_read-fetched : (text : List ℕ) → text_read (fetched LARGEST_SCRIPT text) ≡ text_read text

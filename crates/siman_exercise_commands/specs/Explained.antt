@@ -1,5 +1,5 @@
 -- Why a script is refused, and the place of a move that cannot be made (profile).
-use Rattle.std.specs.Prelude.{◌≡◌, ◌⊎◌, ⊤, ℕ, List, [], length, take, Option, Some, None, Result, Ok, Err}
+use Rattle.std.specs.Prelude.{◌≡◌, ◌⊎◌, ⊤, ℕ, List, [], ◌++◌, codes, length, take, option_map, Option, Some, None, Result, Ok, Err}
 use Rattle.siman_scripts.specs.declared.script_fault.ScriptFault.{ScriptFault}
 use Rattle.siman_scripts.specs.declared.script_fault.ScriptFault.TheVariants as scripts
 use Rattle.siman_scripts.specs.declared.why.LineReason.{LineReason}
@@ -10,6 +10,8 @@ use Rattle.siman_scripts.specs.Script.{ScriptData, script_at}
 use Rattle.siman_stations.specs.declared.world_fault.WorldFault.{WorldFault}
 use Rattle.siman_stations.specs.declared.world_fault.WorldFault.TheVariants as worlds
 use Rattle.siman_stations.specs.World.{WorldData, sent_in, entries_of}
+use Rattle.siman_plans.specs.declared.source_fault.SourceReason.{SourceReason}
+use Rattle.siman_plans.specs.Source.{source_reason_at}
 use Rattle.siman_outside.specs.declared.fault.Fault.{Fault}
 use Rattle.siman_outside.specs.declared.fault.Fault.TheVariants.{BadLine, UnknownStation, WorldStations, Move, Memory}
 use Rattle.siman_outside.specs.declared.move_refusal.MovePlace.{MovePlace}
@@ -26,23 +28,32 @@ abbrev pub lines_if : Scripted → List ℕ → List ℕ
 lines_if (Ok s) text = text
 lines_if (Err fault) text = []
 
--- WHAT IS READ OF A TEXT: its script, or its first refused line; why that is refused; and the text, if it is a
+-- what is told behind a reason where a plan reads the text as a source
+abbrev pub hint_by : Option SourceReason → List ℕ
+hint_by None = codes "; siman plan reads it"
+hint_by (Some reason) = []
+
+-- the text of a reason, and what is told behind it
+abbrev pub told_by : (hint : List ℕ) → Option LineReason → Option (List ℕ)
+told_by hint reason = option_map (λ r. reason_text r ++ hint) reason
+
+-- WHAT IS READ OF A TEXT: its script, or its first refused line; why that is refused, in words; and the text, if it is a
 -- script
 pub record TextRead : Type 0 where
   pub scripted : Scripted
-  pub reason : Option LineReason
+  pub reason : Option (List ℕ)
   pub lines : List ℕ
 
 abbrev pub text_read : List ℕ → TextRead
-text_read text = record { scripted = script_at text; reason = reason_at text; lines = lines_if (script_at text) text }
+text_read text = record { scripted = script_at text; reason = told_by (hint_by (source_reason_at text)) (reason_at text); lines = lines_if (script_at text) text }
 
--- what a fault has of the reason: its text
-abbrev pub IsWhy : Option LineReason → Option ShortText → Type 0
+-- what a fault has of the reason: its words
+abbrev pub IsWhy : Option (List ℕ) → Option ShortText → Type 0
 IsWhy None why = why ≡ None
-IsWhy (Some reason) why = (short : ShortText) × (why ≡ Some short) × (short_bytes short ≡ reason_text reason)
+IsWhy (Some words) why = (short : ShortText) × (why ≡ Some short) × (short_bytes short ≡ words)
 
 -- A SCRIPT IS REFUSED, for this reason; or memory ran out
-abbrev pub RefusesWith : ScriptFault → Option LineReason → Fault → Type 0
+abbrev pub RefusesWith : ScriptFault → Option (List ℕ) → Fault → Type 0
 RefusesWith (scripts.BadLine line) reason told = (told ≡ Memory) ⊎ ((why : Option ShortText) × IsWhy reason why × (told ≡ BadLine line why))
 RefusesWith (scripts.UnknownStation line) reason told = (told ≡ Memory) ⊎ ((why : Option ShortText) × IsWhy reason why × (told ≡ UnknownStation line why))
 RefusesWith scripts.Memory reason told = told ≡ Memory

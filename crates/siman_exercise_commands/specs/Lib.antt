@@ -8,3 +8,4 @@ pub mod Station
 pub mod Warned
 pub mod Assumed
 pub mod Import
+pub mod Plan

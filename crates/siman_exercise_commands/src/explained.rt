@@ -1,26 +1,57 @@
 //! Why a script is refused, and the place of a move that cannot be made.
 
-ghost use Rattle.std.specs.Prelude.{◌≡◌, Ok, Some, IfSome};
+ghost use Rattle.std.specs.Prelude.{◌≡◌, ◌++◌, Ok, Some, IfOk, IfSome};
+ghost use Rattle.siman_plans.specs.Source.{source_reason_at};
+ghost use Rattle.siman_scripts.specs.ReasonText.{reason_text};
+ghost use Rattle.siman_outside.specs.ShortTexts.{short_bytes};
 ghost use Rattle.siman_scripts.specs.MoveLine.{line_of_move};
 ghost use Rattle.siman_scripts.specs.Script.{ScriptData, script_at};
-ghost use Rattle.siman_exercise_commands.specs.Explained.{text_read, sends_before, IsPlacedAt, RefusesWith, Refuses, Stopped};
+ghost use Rattle.siman_exercise_commands.specs.Explained.{text_read, hint_by, told_by, sends_before, IsPlacedAt, RefusesWith, Refuses, Stopped};
 
 use crate::refusal::move_refusal;
 use crate::world::sent_count;
-use siman_outside::{Fault, MovePlace, short_text};
+use byte_files::put_placed;
+use siman_outside::{Fault, MovePlace, ShortText, short_of};
+use siman_plans::reason_of_source;
 use siman_scripts::{
     LineReason, Script, ScriptFault, line_of_move, placed_reason, read_script, reason_of_script,
 };
 use siman_stations::{WorldFault, run_world};
-use std::alloc::Global;
+use std::alloc::{AllocError, Global};
 
-/// Fault of a text that is no script, with this reason; `Memory` if memory runs out, or if the
-/// reason has more than 255 bytes, which none has.
-fn refused_for(alloc: Global, fault: ScriptFault, reason: Option<LineReason>) -> Fault<'static>
-    ensures { RefusesWith fault reason result }
+/// What is told behind a reason where a plan reads the text as a source.
+fn hint_of(alloc: Global, text: &[u8]) -> Result<&'static str, AllocError>
+    ensures { IfOk result (λ hint. hint.now ≡ hint_by (source_reason_at text.now)) }
+{
+    match reason_of_source(alloc, text)? {
+        None => Ok("; siman plan reads it"),
+        Some(_) => Ok(""),
+    }
+}
+
+/// The words of a reason, and what is told behind it. `None` if they have more than 255 bytes, or if
+/// memory runs out.
+fn words_of(alloc: Global, reason: LineReason, hint: &str) -> Option<ShortText>
+    ensures { IfSome result (λ short. short_bytes short ≡ reason_text reason ++ hint.now) }
+{
+    let mut words = Vec::new(alloc);
+    put_placed(&mut words, placed_reason(reason)).ok()?;
+    words.extend_from_slice(hint.as_bytes()).ok()?;
+    short_of(&words)
+}
+
+/// Fault of a text that is no script, with this reason and hint; `Memory` if memory runs out, or if
+/// their words have more than 255 bytes, which none have.
+fn refused_for(
+    alloc: Global,
+    fault: ScriptFault,
+    reason: Option<LineReason>,
+    hint: &str,
+) -> Fault<'static>
+    ensures { RefusesWith fault (told_by hint.now reason) result }
 {
     let why = match reason {
-        Some(reason) => match short_text(alloc, placed_reason(reason)) {
+        Some(reason) => match words_of(alloc, reason, hint) {
             Some(why) => Some(why),
             None => return Fault::Memory,
         },
@@ -33,12 +64,15 @@ fn refused_for(alloc: Global, fault: ScriptFault, reason: Option<LineReason>) ->
     }
 }
 
-/// Fault of a text that is no script, with its first reason.
+/// Fault of a text that is no script, with its first reason, and a hint where a plan reads it.
 pub(crate) fn refused(alloc: Global, text: &[u8], fault: ScriptFault) -> Fault<'static>
     ensures { Refuses (text_read text.now) fault result }
 {
     match reason_of_script(alloc, text) {
-        Ok(reason) => refused_for(alloc, fault, reason),
+        Ok(reason) => match hint_of(alloc, text) {
+            Ok(hint) => refused_for(alloc, fault, reason, hint),
+            Err(_) => Fault::Memory,
+        },
         Err(_) => Fault::Memory,
     }
 }

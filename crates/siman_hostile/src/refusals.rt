@@ -15,19 +15,23 @@ use crate::refusals::files::Judging;
 use crate::refusals::reasons::{Asking, AskingOfSteps};
 use crate::refusals::reviews::{WritingReview, make_streams};
 use crate::refusals::scripts::{Performing, Trying};
-use siman_refusals::{ReadingScript, RunningWorld, put_library_calls, result_of, room};
+use siman_refusals::{
+    ReadingScript, ReadingSource, RunningWorld, SayingPlan, put_library_calls, result_of, room,
+};
 use std::alloc::Global;
 use std::io;
 use std::io::Write;
 
 /// Names of the calls, in order.
-static CALLS: [&str; 8] = [
+static CALLS: [&str; 10] = [
     "check_files",
     "review",
     "why",
     "why of a certificate",
     "read_script",
     "run_world",
+    "reason_of_source",
+    "say_plan",
     "perform",
     "trial",
 ];
@@ -42,10 +46,12 @@ pub(crate) fn put_calls<W: Write>(alloc: Global, out: &mut W) -> io::Result<()> 
         result_of::<AskingOfSteps, _>(alloc, make_streams(alloc)),
         result_of::<ReadingScript, _>(alloc, Ok(())),
         result_of::<RunningWorld, _>(alloc, Ok(())),
+        result_of::<ReadingSource, _>(alloc, Ok(())),
+        result_of::<SayingPlan, _>(alloc, Ok(())),
         result_of::<Performing, _>(alloc, room(alloc)),
         result_of::<Trying, _>(alloc, room(alloc)),
     ];
-    for place in 0..8usize {
+    for place in 0..10usize {
         writeln!(out, "{}: {}", CALLS[place], told[place])?;
     }
     Ok(())

@@ -31,7 +31,7 @@ use Rattle.siman_outside.specs.declared.join_limit.JoinLimit.TheVariants as limi
 use Rattle.siman_outside.specs.declared.fault.Fault.{Fault}
 use Rattle.siman_outside.specs.declared.fault.Ended.{Ended}
 use Rattle.siman_outside.specs.declared.fault.Fault.TheVariants as faults
-use Rattle.siman_outside.specs.declared.fault.Fault.TheVariants.{NotBytePairs, HexLine, Input, File, Words, Recording, Already, Piece, OtherExercise, StationTwice, BackInTime, OtherOpening, Joined, Certificate, BadLine, UnknownStation, ScriptRead, WorldStations, LineFailed, StationWord, NotInSetup, ImportAddress, ImportHost, NotInImport, Filter, Step, OverLimit, ChartOverLimit, Output, SameAs, Exists, Memory}
+use Rattle.siman_outside.specs.declared.fault.Fault.TheVariants.{NotBytePairs, HexLine, Input, File, Words, Recording, Already, Piece, OtherExercise, StationTwice, BackInTime, OtherOpening, Joined, Certificate, BadLine, UnknownStation, ScriptRead, WorldStations, LineFailed, StationWord, NotInSetup, ImportAddress, ImportHost, NotInImport, Filter, Step, OverLimit, ChartOverLimit, SourceLine, PlanTooLong, Output, SameAs, Exists, Memory}
 use Rattle.siman_outside.specs.declared.files_fault.FilesFault.{FilesFault}
 use Rattle.siman_outside.specs.declared.files_fault.FilesFault.TheVariants as files
 use Rattle.siman_outside.specs.declared.input.InputFault.{InputFault}
@@ -112,6 +112,8 @@ reported_as (Filter word) = (codes "filter: ", word.now, None)
 reported_as (Step word steps) = (codes "filter: ", word.now, None)
 reported_as OverLimit = (codes "view: ", codes "over-limit", None)
 reported_as ChartOverLimit = (codes "chart: ", codes "over-limit", None)
+reported_as (SourceLine line why) = (codes "plan: ", codes "bad-line", Some (Line line))
+reported_as PlanTooLong = (codes "plan: ", codes "too-long", None)
 reported_as Output = (codes "output: ", codes "write", None)
 reported_as (SameAs name) = (codes "output: same as ", name.now, None)
 reported_as Exists = (codes "output: ", codes "exists", None)

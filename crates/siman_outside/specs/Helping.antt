@@ -42,6 +42,7 @@ most_names (shapes.Nothing command) words = 0
 most_names (shapes.One command) words = 1
 most_names (shapes.Two command) words = 2
 most_names shapes.PerhapsTwo words = 2
+most_names shapes.Source words = 2
 most_names takes words = words
 
 abbrev pub helps : Option Takes → List (List ℕ) → Bool

@@ -6,7 +6,7 @@ use Rattle.byte_files.specs.declared.output.WriteFailed.{WriteFailed}
 use Rattle.byte_files.specs.Pieces.{five, pieces_text}
 use Rattle.siman_print.specs.Records.{line_end}
 use Rattle.siman_outside.specs.declared.fault.Fault.{Fault}
-use Rattle.siman_outside.specs.declared.fault.Fault.TheVariants.{BadLine, UnknownStation, Move, Step}
+use Rattle.siman_outside.specs.declared.fault.Fault.TheVariants.{BadLine, UnknownStation, SourceLine, Move, Step}
 use Rattle.siman_outside.specs.ShortTexts.{short_bytes}
 use Rattle.siman_outside.specs.declared.move_refusal.MovePlace.{MovePlace}
 use Rattle.siman_outside.specs.declared.move_refusal.MoveRefusal.{MoveRefusal}
@@ -68,6 +68,7 @@ IsForeign text = (name kind : List ℕ) × (text ≡ five name (codes " is no sc
 abbrev pub IsReason : Fault → (text : List ℕ) → Type 0
 IsReason (BadLine line (Some why)) text = (text ≡ short_bytes why) ⊎ IsForeign text
 IsReason (UnknownStation line (Some why)) text = (text ≡ short_bytes why) ⊎ IsForeign text
+IsReason (SourceLine line (Some why)) text = (text ≡ short_bytes why) ⊎ IsForeign text
 IsReason (Move number refusal (Some place)) text = text ≡ move_text place refusal
 IsReason (Step word steps) text = text ≡ step_text steps
 IsReason other text = ⊤

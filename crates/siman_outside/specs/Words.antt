@@ -65,6 +65,9 @@ pub data Asked : Type 0 where
   Prose : (recording : List ℕ) → (filters : List (List ℕ)) → Asked
   -- what contradicts what in a recording, or in a certificate of it, if the words name one
   Why : (recording : List ℕ) → (certificate : Option (List ℕ)) → Spelling → Asked
+  -- what each line of a source does, the plain script to make, if the words name one, the spelling of the rows, and
+  -- whether an existing file is replaced
+  Plan : (source : List ℕ) → (script : Option (List ℕ)) → Spelling → (force : Bool) → Asked
   -- the picture of a recording in the sequence of a certificate, the file to make, the words that
   -- choose the shown steps, and whether an existing file is replaced
   Chart : (recording certificate picture : List ℕ) → (steps : List (List ℕ)) → (force : Bool) → Asked
@@ -101,6 +104,7 @@ asked_by text (tasks.Station words) = Station (named_by text words)
 asked_by text (tasks.View view recording filters spelling) = View view recording.now (map text filters.now) spelling
 asked_by text (tasks.Prose recording filters) = Prose recording.now (map text filters.now)
 asked_by text (tasks.Why recording certificate spelling) = Why recording.now (option_map (λ word. word.now) certificate) spelling
+asked_by text (tasks.Plan source script spelling force) = Plan source.now (option_map (λ word. word.now) script) spelling force
 asked_by text (tasks.Chart recording certificate picture steps force) = Chart recording.now certificate.now picture.now (map text steps.now) force
 
 -- an option: a word that begins with a hyphen and is longer than one byte
@@ -140,7 +144,7 @@ takes_of (row ∷ rows) name = if bytes_eq row.0 name then Some row.1 else takes
 unfoldable pub takes_named : List ℕ → Option Takes
 takes_named = takes_of (
     (codes "pdu", shapes.One Pdu) ∷ (codes "pdus", shapes.Nothing Pdus) ∷ (codes "show", shapes.One Show) ∷ (codes "check", shapes.Two Check)
-    ∷ (codes "audit", shapes.Two Audit) ∷ (codes "world", shapes.Two World) ∷ (codes "live", shapes.Two Live) ∷ (codes "station", shapes.Station) ∷ (codes "convert", shapes.Two Convert) ∷ (codes "mend", shapes.Two Mend)
+    ∷ (codes "audit", shapes.Two Audit) ∷ (codes "world", shapes.Two World) ∷ (codes "plan", shapes.Source) ∷ (codes "live", shapes.Two Live) ∷ (codes "station", shapes.Station) ∷ (codes "convert", shapes.Two Convert) ∷ (codes "mend", shapes.Two Mend)
     ∷ (codes "join", shapes.Pieces) ∷ (codes "import", shapes.Capture) ∷ (codes "export", shapes.Two Export) ∷ (codes "review", shapes.View Review) ∷ (codes "log", shapes.View Log) ∷ (codes "count", shapes.View Count) ∷ (codes "why", shapes.PerhapsTwo)
     ∷ (codes "chart", shapes.Picture) ∷ [])
 
@@ -295,6 +299,13 @@ why_asked spelling (recording ∷ certificate ∷ []) =
     if is_option recording || is_option certificate then None else Some (Why recording (Some certificate) spelling)
 why_asked spelling words = None
 
+-- PLAN needs a source, and takes the plain script to make, which alone may replace an existing file
+abbrev pub plan_asked : Spelling → (force : Bool) → List (List ℕ) → Option Asked
+plan_asked spelling force (source ∷ []) = if force || is_option source then None else Some (Plan source None spelling false)
+plan_asked spelling force (source ∷ script ∷ []) =
+    if is_option source || is_option script then None else Some (Plan source (Some script) spelling force)
+plan_asked spelling force words = None
+
 -- CHART needs a recording, its certificate and the file to make; the words after choose the shown
 -- steps
 abbrev pub chart_asked : (force : Bool) → List (List ℕ) → Option Asked
@@ -306,6 +317,7 @@ chart_asked force words = None
 abbrev pub takes_json : Takes → Bool
 takes_json (shapes.View view) = true
 takes_json shapes.PerhapsTwo = true
+takes_json shapes.Source = true
 takes_json takes = false
 
 -- the command that takes `--prose`
@@ -324,6 +336,7 @@ takes_force (shapes.Two command) = makes_file command
 takes_force shapes.Pieces = true
 takes_force shapes.Capture = true
 takes_force shapes.Picture = true
+takes_force shapes.Source = true
 takes_force takes = false
 
 -- the largest number of times that something may occur: once if it is allowed
@@ -355,6 +368,7 @@ taken shapes.Capture spelling force names = import_asked force names
 taken shapes.Station spelling force names = station_asked names
 taken (shapes.View view) spelling force names = view_asked view spelling names
 taken shapes.PerhapsTwo spelling force names = why_asked spelling names
+taken shapes.Source spelling force names = plan_asked spelling force names
 taken shapes.Picture spelling force names = chart_asked force names
 
 -- the task of words with allowed options; the one command that takes `--prose` is `review`

@@ -1,7 +1,7 @@
 //! Reads words by the table of commands: the task that they ask for.
 
 ghost use Rattle.std.specs.Prelude.{◌≡◌, ◌≤◌, length, map, option_map};
-ghost use Rattle.siman_outside.specs.Words.{asked_by, is_option, takes_of, takes_named, bare_asked, one_asked, two_asked, taken, last_apart, has_option, is_join_word, form_named, form_apart, parts_apart, join_choices_apart, are_names, fewest_pieces, pieces_asked, join_asked, anyone_apart, all_apart, listening_apart, import_asked, station_named, station_asked, view_asked, prose_asked, why_asked, chart_asked};
+ghost use Rattle.siman_outside.specs.Words.{asked_by, is_option, takes_of, takes_named, bare_asked, one_asked, two_asked, taken, last_apart, has_option, is_join_word, form_named, form_apart, parts_apart, join_choices_apart, are_names, fewest_pieces, pieces_asked, join_asked, anyone_apart, all_apart, listening_apart, import_asked, station_named, station_asked, view_asked, prose_asked, why_asked, plan_asked, chart_asked};
 
 use crate::commands::{
     ImportWords, JoinChoices, JoinForm, Listening, NoWord, OneWord, StationWords, Takes, Task,
@@ -322,6 +322,22 @@ fn why_words<S: AsStr>(spelling: Spelling, names: &[S]) -> Option<Task<'_, S>>
     }
 }
 
+/// The task of `plan`, for a source, or for a source and the plain script to make.
+fn plan_words<S: AsStr>(spelling: Spelling, force: bool, names: &[S]) -> Option<Task<'_, S>>
+    ensures { option_map (asked_by S.text) result ≡ plan_asked spelling force (map S.text names.now) }
+{
+    match names {
+        [source] if !force && !is_option(source.as_str()) => {
+            Some(Task::Plan(source.as_str(), None, spelling, false))
+        }
+        [source, script] if !is_option(source.as_str()) && !is_option(script.as_str()) => {
+            let script = Some(script.as_str());
+            Some(Task::Plan(source.as_str(), script, spelling, force))
+        }
+        _ => None,
+    }
+}
+
 /// The task of `chart`: recording, certificate and picture, and the words that choose the shown
 /// steps.
 fn chart_words<S: AsStr>(force: bool, words: &[S]) -> Option<Task<'_, S>>
@@ -359,6 +375,7 @@ pub(crate) fn taken<S: AsStr>(
         Takes::Station => station_words(names),
         Takes::View(view) => view_words(view, spelling, names),
         Takes::PerhapsTwo => why_words(spelling, names),
+        Takes::Source => plan_words(spelling, force, names),
         Takes::Picture => chart_words(force, names),
     }
 }

@@ -145,6 +145,9 @@ pub enum Task<'a, S> {
     /// What contradicts what: the file of the recording, that of a certificate, if the words name
     /// one, and the spelling of the rows.
     Why(&'a str, Option<&'a str>, Spelling),
+    /// Says what each line of a source does: its file, that of the plain script to make, if the words
+    /// name one, the spelling of the rows, and whether an existing file is replaced.
+    Plan(&'a str, Option<&'a str>, Spelling, bool),
     /// Draws the picture of an exercise: the file of the recording, that of its certificate, the
     /// file to make, the words that choose the shown steps, and whether an existing file is
     /// replaced.
@@ -169,6 +172,8 @@ pub enum Takes {
     View(ViewWord),
     /// The file of a recording, and perhaps that of a certificate.
     PerhapsTwo,
+    /// The file of a source, and perhaps the file to make.
+    Source,
     /// The file of a recording, that of a certificate, the file to make, and words that choose the
     /// shown steps.
     Picture,
@@ -195,7 +200,7 @@ impl Takes {
     pub(crate) fn json(self) -> bool
         ensures { result ≡ takes_json self }
     {
-        matches!(self, Takes::View(_) | Takes::PerhapsTwo)
+        matches!(self, Takes::View(_) | Takes::PerhapsTwo | Takes::Source)
     }
 
     /// Whether the command takes `--prose`.
@@ -211,7 +216,7 @@ impl Takes {
     {
         match self {
             Takes::Two(command) => command.makes_file(),
-            Takes::Pieces | Takes::Capture | Takes::Picture => true,
+            Takes::Pieces | Takes::Capture | Takes::Picture | Takes::Source => true,
             _ => false,
         }
     }

@@ -86,6 +86,11 @@ pub enum Fault<'a> {
     Step(&'a str, usize),
     /// The view would have more than 4,194,304 rows.
     OverLimit,
+    /// The line of this number, from 1, of the source of a plan cannot be read, or names a datagram
+    /// that there is not; why, if it is known.
+    SourceLine(usize, Option<ShortText>),
+    /// The plain script of a plan would have more than 1,048,576 bytes.
+    PlanTooLong,
     /// The picture would have more than 2,000 rows, or the entities of a station more than
     /// 4,194,304 spans.
     ChartOverLimit,
@@ -187,6 +192,8 @@ impl<'a> Fault<'a> {
             Fault::Filter(word) | Fault::Step(word, _) => ("filter: ", word, None),
             Fault::OverLimit => ("view: ", "over-limit", None),
             Fault::ChartOverLimit => ("chart: ", "over-limit", None),
+            Fault::SourceLine(line, _) => ("plan: ", "bad-line", Some(Place::Line(line))),
+            Fault::PlanTooLong => ("plan: ", "too-long", None),
             Fault::Output => ("output: ", "write", None),
             Fault::SameAs(name) => ("output: same as ", name, None),
             Fault::Exists => ("output: ", "exists", None),

@@ -91,7 +91,7 @@ fn most_names(takes: Takes, words: usize) -> usize
     match takes {
         Takes::Nothing(_) => 0,
         Takes::One(_) => 1,
-        Takes::Two(_) | Takes::PerhapsTwo => 2,
+        Takes::Two(_) | Takes::PerhapsTwo | Takes::Source => 2,
         Takes::Pieces | Takes::Capture | Takes::Station | Takes::View(_) | Takes::Picture => words,
     }
 }

@@ -98,6 +98,12 @@ pub fn named_by<'a>(task: &Task<'a, &'a str>) -> Named<'a> {
             second: second.unwrap_or(""),
             ..nothing
         },
+        Task::Plan(first, made, _, _) => Named {
+            first,
+            made: made.unwrap_or(""),
+            may_force: true,
+            ..nothing
+        },
         Task::Chart(first, second, made, _, _) => Named {
             first,
             second,

@@ -226,6 +226,8 @@ fn other_pieces<'a>(fault: Fault<'a>, names: Named<'a>, known: Known) -> TextPie
         Fault::Joined(limit) => limit_pieces(limit),
         Fault::Certificate(fault) => certificate_pieces(fault, names, known),
         Fault::BadLine(..) | Fault::UnknownStation(..) => words_alone("the text is no script"),
+        Fault::SourceLine(..) => words_alone("the text is no source of a plan"),
+        Fault::PlanTooLong => words_alone("the plain script would have more than 1048576 bytes"),
         Fault::ScriptRead(_) => named(names.first, " could not be read to its end"),
         Fault::WorldStations => words_alone("a station opens with at most 4096 entities"),
         Fault::Move(..) => words_alone("the move cannot be made"),
@@ -274,9 +276,9 @@ fn read_reason<'a>(fault: Fault<'a>) -> Option<Reason<'a>>
     ensures none { result ≡ None → (text : List ℕ) → IsReason fault.entry text }
 {
     match fault {
-        Fault::BadLine(_, Some(why)) | Fault::UnknownStation(_, Some(why)) => {
-            Some(Reason::Short(why))
-        }
+        Fault::BadLine(_, Some(why))
+        | Fault::UnknownStation(_, Some(why))
+        | Fault::SourceLine(_, Some(why)) => Some(Reason::Short(why)),
         Fault::Move(_, refusal, Some(place)) => Some(Reason::Text(move_pieces(place, refusal))),
         Fault::Step(_, steps) => Some(Reason::Text(step_pieces(steps))),
         _ => None,
@@ -301,9 +303,9 @@ fn foreign_reason<'a>(fault: Fault<'a>, names: Named<'a>, known: Known) -> Optio
     ensures { IfSome result (λ reason. IsReason fault.entry (reason_words reason)) }
 {
     match fault {
-        Fault::BadLine(_, Some(_)) | Fault::UnknownStation(_, Some(_)) => {
-            foreign_script(names.first, known.first)
-        }
+        Fault::BadLine(_, Some(_))
+        | Fault::UnknownStation(_, Some(_))
+        | Fault::SourceLine(_, Some(_)) => { foreign_script(names.first, known.first) }
         _ => None,
     }
 }

@@ -35,7 +35,7 @@ const SCRIPT: CommandWord = CommandWord {
 };
 
 /// The table of the commands, in the order of the help.
-pub(crate) const ROWS: [CommandRow; 18] = [
+pub(crate) const ROWS: [CommandRow; 19] = [
     CommandRow {
         name: "pdu",
         takes: Takes::One(OneWord::Pdu),
@@ -99,6 +99,25 @@ pub(crate) const ROWS: [CommandRow; 18] = [
                 name: "REC",
                 often: Often::Once,
                 about: "The file of the recording; it must not be there yet, or be empty",
+            },
+        ],
+    },
+    CommandRow {
+        name: "plan",
+        takes: Takes::Source,
+        usage: "siman plan <SOURCE> [SCRIPT] [--json] [--force]",
+        about: "Says what each line of a script does, and writes the plain script of one with labels and comments",
+        example: "Example:\n  siman plan convoy.plan convoy.script",
+        words: &[
+            CommandWord {
+                name: "SOURCE",
+                often: Often::Once,
+                about: "The file of the source: a script, or one with labels, comments and short words",
+            },
+            CommandWord {
+                name: "SCRIPT",
+                often: Often::AtMostOnce,
+                about: "The file of the plain script; it must not be there yet, or be empty",
             },
         ],
     },

@@ -2,8 +2,8 @@
 //! manager, an application and a station that are made 100,000 times, and a recording that is
 //! filled; `siman_hostile` runs them. It never calls a command, opens a file or uses a socket. The
 //! layer above may use no contract of it, only the outcomes that [`put_library_calls`],
-//! [`put_full_recording`], [`put_halves`] and [`put_station`] print, and those of [`ReadingScript`]
-//! and [`RunningWorld`].
+//! [`put_full_recording`], [`put_halves`] and [`put_station`] print, and those of [`ReadingScript`],
+//! [`ReadingSource`], [`RunningWorld`] and [`SayingPlan`].
 #![tactic(auto)]
 
 mod call;
@@ -36,7 +36,7 @@ pub use call::{LibraryCall, Said, refused, result_of, usual};
 pub use full::put_full_recording;
 pub use load::{put_halves, put_station};
 pub use recordings::{RECORDING, room};
-pub use scripts::{ReadingScript, RunningWorld, SCRIPT};
+pub use scripts::{ReadingScript, ReadingSource, RunningWorld, SCRIPT, SayingPlan};
 use std::alloc::Global;
 use std::io;
 use std::io::Write;

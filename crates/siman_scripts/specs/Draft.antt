@@ -121,6 +121,10 @@ with_move d act (Some i) = Ok (record d { part = parts.Moves; moves = d.moves ++
 abbrev pub in_part : Bool → Result DraftData ScriptLineFault → Result DraftData ScriptLineFault
 in_part test after = if test then after else Err Bad
 
+-- the draft where only moves may follow, if a move may follow
+abbrev pub moving : DraftData → DraftData
+moving d = if takes_moves d.part then record d { part = parts.Moves } else d
+
 -- THE EFFECT OF A STATEMENT on the draft of the lines before it, or why it is refused
 abbrev pub after : DraftData → Statement → Result DraftData ScriptLineFault
 after d says.Nothing = Ok d

@@ -1,7 +1,7 @@
 //! The script as its lines are read.
 
 ghost use Rattle.std.specs.Prelude.{◌≡◌, ◌<◌, ◌≤◌, length, position, IfOk, IfSome, Some, None, Ok, Result};
-ghost use Rattle.siman_scripts.specs.Draft.{DraftData, blank, is_at, index_of, last_address, after, wants_exercise, takes_outfits, takes_moves, Leaves, Finds};
+ghost use Rattle.siman_scripts.specs.Draft.{DraftData, blank, is_at, index_of, last_address, moving, after, wants_exercise, takes_outfits, takes_moves, Leaves, Finds};
 ghost use Rattle.siman_scripts.specs.Script.{is_whole, script_of};
 
 mod reasons;
@@ -20,7 +20,7 @@ use std::marker::Model;
 
 /// What the lines of a script so far give. Contracts see its stations and moves as lists.
 #[derive(Drop)]
-pub(crate) struct Draft {
+pub struct Draft {
     part: ScriptPart,
     exercise: u8,
     stations: Vec<StationDraft>,
@@ -204,6 +204,26 @@ impl Draft {
             act,
         })?;
         Ok(())
+    }
+
+    /// Whether a move may follow; if so, only moves may follow from here on.
+    pub fn begin_moves(&mut self) -> bool
+        ensures may { result ≡ takes_moves self.old.part }
+        ensures draft { self.new ≡ moving self.old }
+    {
+        if !takes_moves(self.part) {
+            return false;
+        }
+        self.part = ScriptPart::Moves;
+        true
+    }
+
+    /// Index of the station with this address, if any.
+    pub fn index_at(&self, address: Address) -> Option<usize>
+        ensures index { result ≡ index_of address self.now.stations }
+        ensures few { IfSome result (λ i. i < 256) }
+    {
+        index_of(&self.stations, address)
     }
 
     /// Whether there was an `exercise` line and a `station` line.

@@ -82,7 +82,7 @@ pub fn form_name(form: LineForm) -> &'static str
 }
 
 /// The form whose lines begin with this name, if any.
-pub(crate) fn form_named(name: &[u8]) -> Option<LineForm>
+pub fn form_named(name: &[u8]) -> Option<LineForm>
     ensures { result ≡ form_named name.now }
 {
     FORMS

@@ -21,7 +21,7 @@ pub fn address_of(word: &[u8]) -> Option<Address>
 }
 
 /// The value of a word `NAME=VALUE`.
-pub(crate) fn value_of<'a>(name: &[u8], word: &'a [u8]) -> Option<&'a [u8]>
+pub fn value_of<'a>(name: &[u8], word: &'a [u8]) -> Option<&'a [u8]>
     ensures { option_map (λ v. v.now) result ≡ value_of name.now word.now }
 {
     let (before, value) = split_once(word, b'=')?;
@@ -50,7 +50,7 @@ fn exercise(words: &[&[u8]]) -> Option<Statement>
 }
 
 /// The number of 32 bits in a word `NAME=NUMBER`.
-pub(crate) fn number_named(name: &[u8], word: &[u8]) -> Option<u32>
+pub fn number_named(name: &[u8], word: &[u8]) -> Option<u32>
     ensures { result ≡ number_named name.now word.now }
 {
     number_32(value_of(name, word)?)
@@ -187,7 +187,7 @@ fn station_line(
 }
 
 /// Statement of the words of a line, if they have a form.
-fn form_of(alloc: Global, words: &[&[u8]]) -> Result<Option<Statement>, AllocError>
+pub fn form_of(alloc: Global, words: &[&[u8]]) -> Result<Option<Statement>, AllocError>
     ensures { IfOk result (λ s. s ≡ form_of (map (λ w. w.now) words.now)) }
 {
     let (name, rest) = match words {
@@ -217,7 +217,7 @@ pub(crate) fn is_passed_over(line: &[u8]) -> bool
 }
 
 /// Statement of a line, without its line feed, if it is ASCII text and has a form.
-pub(crate) fn statement_of(alloc: Global, line: &[u8]) -> Result<Option<Statement>, AllocError>
+pub fn statement_of(alloc: Global, line: &[u8]) -> Result<Option<Statement>, AllocError>
     ensures { IfOk result (λ s. s ≡ statement_of line.now) }
 {
     if !is_ascii(line) {

@@ -7,7 +7,7 @@ use std::alloc::{AllocError, AllocFailed};
 
 /// Why a line of a script is refused.
 #[derive(Clone, Copy)]
-pub(crate) enum ScriptLineFault {
+pub enum ScriptLineFault {
     /// It has no valid form, is out of its part, or conflicts with the lines before.
     Bad,
     /// It names a station that has no line.

@@ -157,7 +157,7 @@ fn words_reason(form: LineForm, column: usize, words: &[PlacedWord<'_>]) -> Opti
 
 /// Column and reason of the words of a line, if they have no form; the line ends before this
 /// column.
-fn form_reason(
+pub fn form_reason(
     alloc: Global,
     column: usize,
     words: &[PlacedWord<'_>],

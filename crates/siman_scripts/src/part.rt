@@ -6,7 +6,7 @@ ghost use Rattle.siman_scripts.specs.Draft.{wants_exercise, takes_stations, take
 /// The part to which the next line of a script may belong; it may also belong to a later one,
 /// except in the part of the exercise.
 #[derive(Clone, Copy)]
-pub(crate) enum ScriptPart {
+pub enum ScriptPart {
     /// The `exercise` line.
     Exercise,
     /// The `station` lines.

@@ -84,7 +84,7 @@ fn plain_line_text(why: LineWhy) -> &'static str
 }
 
 /// Text of a reason of a line by itself.
-fn line_pieces(why: LineWhy) -> TextPieces<'static>
+pub fn line_pieces(why: LineWhy) -> TextPieces<'static>
     ensures { pieces_text result ≡ line_text why }
 {
     match why {
@@ -139,7 +139,7 @@ fn plain_text(why: Why) -> &'static str
 }
 
 /// Text of a reason of a line.
-fn why_pieces(why: Why) -> TextPieces<'static>
+pub fn why_pieces(why: Why) -> TextPieces<'static>
     ensures { pieces_text result ≡ why_text why }
 {
     match why {
@@ -168,7 +168,7 @@ fn why_pieces(why: Why) -> TextPieces<'static>
 }
 
 /// Text of a place; empty if the reason is about the whole text.
-fn place_pieces(line: usize, column: usize) -> TextPieces<'static>
+pub fn place_pieces(line: usize, column: usize) -> TextPieces<'static>
     ensures { pieces_text result ≡ place_text line column }
 {
     if column == 0 {

@@ -5,7 +5,7 @@ use dis_records::{Address, EntityState, FixedDatum};
 
 /// Rules by which the manager of a station orders.
 #[derive(Clone, Copy)]
-pub(crate) struct ManagerRules {
+pub struct ManagerRules {
     /// The request identifier of the first order.
     pub first_id: u32,
     /// Most sendings of an order, at least 1.
@@ -16,7 +16,7 @@ pub(crate) struct ManagerRules {
 
 /// Statement of one line of a script.
 #[derive(Drop)]
-pub(crate) enum Statement {
+pub enum Statement {
     /// None: the line is ignored.
     Nothing,
     /// The identifier of the exercise.

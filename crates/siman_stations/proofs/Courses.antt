@@ -1,18 +1,21 @@
 -- What a move makes of a world as it is kept is what is told of the moves.
 use Rattle.std.proofs.Common.{◌≡◌, ◌⊎◌, inl, inr, ℕ, zero, suc, ◌+◌, ◌<◌, ◌≤◌, Bool, ◌==◌, nat_le, nat_lt, true, false, List, [], ◌∷◌, ◌++◌, length, set, Option, Some, None, refl, sym, ap, subst, ◌∙◌, arith}
-use Rattle.std.specs.Prelude.{slice_get, IfSome, option_map, if◌then◌else◌}
+use Rattle.std.specs.Prelude.{slice_get, IfSome, option_and_then, OnOk, Result, Ok, Err, option_map, if◌then◌else◌}
 use Rattle.std.specs.Option.{option_or}
 use Rattle.std.proofs.lemmas.Bool.Decides.{nat_tests}
-use Rattle.std.proofs.lemmas.List.{length-map, length-set}
+use Rattle.std.proofs.lemmas.List.{length-append, length-map, length-set}
 use Rattle.std.proofs.lemmas.Option.{slice_get_within}
 use Rattle.dis_records.specs.declared.header.TheConstants.{LARGEST_DATAGRAM}
 use Rattle.siman_pdus.specs.declared.pdu.Pdu.{Pdu}
+use Rattle.siman_pdus.specs.Reading.{reading}
 use Rattle.siman_pdus.specs.Spelling.{pdu_size}
 use Rattle.exercise_model.specs.declared.recording.TheConstants.{MOST_ENTRIES}
 use Rattle.exercise_model.specs.Entry.{Entry, Sent, Received, Told}
 use Rattle.exercise_model.specs.Recording.{PlainRecording}
 use Rattle.siman_manager.specs.Book.{Book}
 use Rattle.siman_manager.specs.Calls.{AreRequests}
+use Rattle.siman_scripts.specs.declared.act.Act.{Act}
+use Rattle.siman_scripts.specs.declared.act.Act.TheVariants.{Command, Deliver, Tick, Tell}
 use Rattle.siman_scripts.specs.declared.act.Move.{Move}
 use Rattle.siman_stations.specs.declared.turn.Node.{Node}
 use Rattle.siman_stations.specs.declared.world.World.{World}
@@ -20,15 +23,18 @@ use Rattle.siman_stations.specs.declared.world_fault.MoveFault.{MoveFault}
 use Rattle.siman_stations.specs.declared.world_fault.MoveFault.TheVariants as faults
 use Rattle.siman_stations.specs.declared.world_fault.WorldFault.{WorldFault}
 use Rattle.siman_stations.specs.declared.world_fault.WorldFault.TheVariants as world_faults
-use Rattle.siman_stations.specs.World.{WorldData, Course, setting_of, outfit_of, settings_of, sent_in, brought, call_of, put_at, repeated_by, entries_by, act_fault, move_fault, first_fault, after_move, course_of}
+use Rattle.siman_stations.specs.World.{WorldData, Course, setting_of, outfit_of, settings_of, sent_in, brought, call_of, put_at, made_by, reply_by, arrival, datagram, repeated_by, entries_by, act_fault, move_fault, first_fault, after_move, course_of}
 use Rattle.siman_stations.specs.WorldLaw.{IsActInRange}
 use Rattle.siman_stations.specs.Sending.{next_repeat}
+use Rattle.siman_stations.specs.StationTurn.{sent_as}
 use Rattle.siman_stations.specs.Acts.{sends_of, with_entries, halves_entries}
-use Rattle.siman_stations.specs.Moves.{IsFit, Does, step_fault, node_fault}
-use Rattle.siman_stations.specs.Holds.{IsNode, Holds, IsAfter}
+use Rattle.siman_stations.specs.declared.moving.StepFault.{StepFault}
+use Rattle.siman_stations.specs.declared.moving.StepFault.TheVariants as step_faults
+use Rattle.siman_stations.specs.Moves.{IsFit, Does, Stays, step_fault, node_fault}
+use Rattle.siman_stations.specs.Holds.{IsNode, Holds, IsAfter, IsStillAfter}
 use Rattle.siman_stations.proofs.Offered.{fit_requests, repeat_is, repeat_own, repeat_told}
 use Rattle.siman_stations.proofs.CoursesActs.{AreTold, entries_same, act_same, node_on}
-use Rattle.siman_stations.proofs.Made.{all_made}
+use Rattle.siman_stations.proofs.Made.{all_made, neither}
 use Rattle.siman_stations.proofs.Stations.{put_other, all_sound}
 use Rattle.siman_stations.proofs.Closure.{state_is_told}
 
@@ -148,11 +154,16 @@ after_on w moves m old new is d can range =
           (state_is_told w moves is.world is.moves_are is.made m.station made.0.within) made.0.can d;
     }
 
+-- whatever else the call returned,
+pub made_after : {T E : Type 0} (w : WorldData) (moves : List Move) (m : Move) (old new : World) (r : Result T E) → IsAfter w moves old
+    → OnOk r (Does m old new) → OnOk r (step_fault old m ≡ None) → OnOk r (IsActInRange m.act) → OnOk r (IsAfter w (m ∷ moves) new)
+made_after w moves m old new (Ok v) is does can range = after_on w moves m old new is does can range
+made_after w moves m old new (Err e) is does can range = tt
+
 -- and its first fault is that of the next that is not.
-pub after_fault : (w : WorldData) (moves : List Move) (m : Move) (old : World) (f : MoveFault) → IsAfter w moves old → step_fault old m ≡ Some f
+pub fault_next : (w : WorldData) (moves : List Move) (m : Move) (f : MoveFault) → first_fault w moves ≡ None → move_fault w (course_of w moves) m ≡ Some f
     → first_fault w (m ∷ moves) ≡ Some (world_faults.Move (length moves) f)
-after_fault w moves m old f is e =
-    failed_next (first_fault w moves) (length moves) (move_fault w (course_of w moves) m) f is.made (sym (moves_same w (course_of w moves) m old is.holds) ∙ e)
+fault_next w moves m f made e = failed_next (first_fault w moves) (length moves) (move_fault w (course_of w moves) m) f made e
 
 -- A first fault stays the first.
 pub fault_stays : (w : WorldData) (newer older : List Move) (f : WorldFault) → first_fault w older ≡ Some f → first_fault w (newer ++ older) ≡ Some f
@@ -189,3 +200,70 @@ is_fit w moves kept is =
           (repeat_is (settings_of w s) ((course_of w moves).calls s) now p
           (sym (repeat_same w (course_of w moves) s now n (is.holds.nodes s n at) (fit_requests ((course_of w moves).calls s) fit)) ∙ e))).order.size);
     }
+
+-- and a world that refuses a move is still after those before it.
+pub still_after : (w : WorldData) (moves : List Move) (old new : World) → IsAfter w moves old → (fault : StepFault) → Stays old new fault
+    → IsStillAfter w moves new fault
+still_after w moves old new is (step_faults.Move f) same = record {
+  world = is.world;
+  moves_are = is.moves_are;
+  made = is.made;
+  holds = record {
+    recording = same.0 ∙ is.holds.recording;
+    sends = same.1 ∙ is.holds.sends;
+    count = ap length same.2 ∙ is.holds.count;
+    nodes = λ s n at. is.holds.nodes s n (subst (λ (ns : List Node). slice_get ns s ≡ Some n) same.2 at);
+  };
+}
+still_after w moves old new is step_faults.Memory same = tt
+
+-- The number of sent datagrams.
+
+count_sent : (es : List Entry) → length (sent_in es) ≤ length es
+count_sent [] = omega arith
+count_sent (Sent s stamp b ∷ es) = let h = count_sent es in omega (arith, h)
+count_sent (Received s stamp b ∷ es) = let h = count_sent es in omega (arith, h)
+count_sent (Told s e y ∷ es) = let h = count_sent es in omega (arith, h)
+
+pub count_is : (w : WorldData) (moves : List Move) (kept : World) → IsAfter w moves kept
+    → length kept.journal.sends.items ≡ length (sent_in (course_of w moves).entries)
+count_is w moves kept is = sym (length-map kept.journal.sends.items (λ b. b.items)) ∙ ap length is.holds.sends
+
+-- A world has no more entries than numbers for them.
+
+sent_few : (s now : ℕ) (o : Option Pdu) → length (sent_as s now o) ≤ 1
+sent_few s now None = omega arith
+sent_few s now (Some p) = omega arith
+
+arrival_few : (w : WorldData) (c : Course) (s now : ℕ) (o : Option (List ℕ)) → length (arrival w c s now o) ≤ 2
+arrival_few w c s now None = omega arith
+arrival_few w c s now (Some b) = let h = sent_few s now (option_and_then (reply_by w c s now) (reading b)) in omega (arith, h)
+
+entries_few : (w : WorldData) (c : Course) (s now : ℕ) (act : Act) → length (entries_by w c s now act) ≤ 2
+entries_few w c s now (Command order) = let h = sent_few s now (Some (made_by w c s now order)) in omega (arith, h)
+entries_few w c s now (Deliver k) = arrival_few w c s now (datagram c k)
+entries_few w c s now Tick = let h = sent_few s now (repeated_by w c s now) in omega (arith, h)
+entries_few w c s now (Tell e) = omega arith
+
+room_of : (n : ℕ) (act : Option MoveFault) → (if nat_le n MOST_ENTRIES then act else Some faults.Records) ≡ None → n ≤ MOST_ENTRIES
+room_of n act e = by (nat_le n MOST_ENTRIES) refl e where
+  by : (b : Bool) → nat_le n MOST_ENTRIES ≡ b → (if b then act else Some faults.Records) ≡ None → n ≤ MOST_ENTRIES
+  by true h e = grind (arith, nat_tests)
+  by false h e = absurd cc
+
+few : (w : WorldData) (moves : List Move) → first_fault w moves ≡ None → length (course_of w moves).entries ≤ MOST_ENTRIES
+unfolding course_of
+few w [] none = omega arith
+few w (m ∷ earlier) none =
+    let c = course_of w earlier in
+    let fault = (neither (first_fault w earlier) (world_faults.Move (length earlier)) (move_fault w c m) none).1 in
+    let room = room_of (length c.entries + 2) (if nat_lt m.station (length w.stations) then act_fault w c m.station m.now m.act else Some faults.NoSuchStation) fault in
+    let more = entries_few w c m.station m.now m.act in
+    let all = length-append c.entries (entries_by w c m.station m.now m.act) in
+    omega (arith, room, more, all)
+
+pub count_within : (w : WorldData) (moves : List Move) (kept : World) → IsAfter w moves kept → length (sent_in (course_of w moves).entries) ≤ MOST_ENTRIES
+count_within w moves kept is =
+    let all = few w moves is.made in
+    let sent = count_sent (course_of w moves).entries in
+    omega (arith, all, sent)

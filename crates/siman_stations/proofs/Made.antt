@@ -34,7 +34,7 @@ no_fault true true act e = (refl, e)
 no_fault true false act e = absurd cc
 no_fault false there act e = absurd cc
 
-neither : {X Y : Type 0} (o : Option Y) (f : X → Y) (p : Option X) → option_or o (option_map f p) ≡ None → (o ≡ None) × (p ≡ None)
+pub neither : {X Y : Type 0} (o : Option Y) (f : X → Y) (p : Option X) → option_or o (option_map f p) ≡ None → (o ≡ None) × (p ≡ None)
 neither None f None e = (refl, refl)
 neither None f (Some x) e = absurd cc
 neither (Some y) f p e = absurd cc

@@ -1,18 +1,15 @@
 -- Moves as they are made one after the other.
-use Rattle.std.proofs.Common.{◌≡◌, ◌⊎◌, inl, inr, ℕ, ◌+◌, ◌<◌, List, [], ◌∷◌, ◌++◌, length, map, take, reverse, get_or, Some, refl, sym, ap, ◌∙◌, arith, append_assoc}
+use Rattle.std.proofs.Common.{◌≡◌, ◌⊎◌, inl, inr, ℕ, ◌+◌, ◌<◌, List, [], ◌∷◌, ◌++◌, length, map, take, reverse, get_or, Some, None, refl, sym, ap, ◌∙◌, arith, append_assoc}
 use Rattle.std.proofs.lemmas.List.{map-id, map-append, length-map, reverse-append, length-reverse}
 use Rattle.std.specs.List.{enumerate_from}
 use Rattle.siman_scripts.specs.declared.act.Move.{Move}
 use Rattle.siman_stations.specs.declared.world_fault.WorldFault.{WorldFault}
 use Rattle.siman_stations.specs.declared.world_fault.WorldFault.TheVariants as world_faults
-use Rattle.siman_stations.specs.World.{WorldData, first_fault}
+use Rattle.siman_stations.specs.World.{WorldData, move_fault, course_of, first_fault}
 use Rattle.siman_stations.specs.declared.moving.StepFault.{StepFault}
 use Rattle.siman_stations.specs.declared.moving.StepFault.TheVariants as step_faults
-use Rattle.siman_stations.specs.declared.world.World.{World}
 use Rattle.siman_stations.specs.Acts.{Gives, at_move}
-use Rattle.siman_stations.specs.Holds.{IsAfter}
-use Rattle.siman_stations.specs.Moves.{step_fault}
-use Rattle.siman_stations.proofs.Courses.{fault_stays, after_fault}
+use Rattle.siman_stations.proofs.Courses.{fault_stays, fault_next}
 
 -- moves without their numbers
 abbrev pub plain : List (ℕ × Move) → List Move
@@ -76,10 +73,10 @@ pub number_is : (xs : List Move) (ps : List (ℕ × Move)) (p : ℕ × Move) →
 number_is xs ps p s = length-reverse (plain ps) ∙ (length-map ps (λ (q : ℕ × Move). q.1) ∙ (let h = s.number in omega arith))
 
 -- a move that is not made, after those before it were, has the first fault of all, or memory ran out
-pub run_fault : (w : WorldData) (xs : List Move) (ps : List (ℕ × Move)) (p : ℕ × Move) (world : World) (fault : StepFault) → IsPlaced 0 xs ps p
-    → IsAfter w (reverse (plain ps)) world → Gives (step_fault world p.1) fault
+pub run_fault : (w : WorldData) (xs : List Move) (ps : List (ℕ × Move)) (p : ℕ × Move) (fault : StepFault) → IsPlaced 0 xs ps p
+    → first_fault w (reverse (plain ps)) ≡ None → Gives (move_fault w (course_of w (reverse (plain ps))) p.1) fault
     → (at_move p.0 fault ≡ world_faults.Memory) ⊎ (first_fault w (reverse xs) ≡ Some (at_move p.0 fault))
-run_fault w xs ps p world (step_faults.Move f) s is h =
+run_fault w xs ps p (step_faults.Move f) s made h =
     inr (first_of_all w xs ps p (world_faults.Move p.0 f) s
-    (after_fault w (reverse (plain ps)) p.1 world f is h ∙ ap (λ (n : ℕ). Some (world_faults.Move n f)) (number_is xs ps p s)))
-run_fault w xs ps p world step_faults.Memory s is h = inl refl
+    (fault_next w (reverse (plain ps)) p.1 f made h ∙ ap (λ (n : ℕ). Some (world_faults.Move n f)) (number_is xs ps p s)))
+run_fault w xs ps p step_faults.Memory s made h = inl refl

@@ -98,6 +98,11 @@ abbrev pub Gives : Option MoveFault → StepFault → Type 0
 Gives reason (step_faults.Move fault) = reason ≡ Some fault
 Gives reason step_faults.Memory = Unit {0}
 
+-- an act that is refused changes neither the recording nor the sent datagrams, nor manager and application
+abbrev pub Keeps : (journal : Journal) → (n : Node) → (after : Journal) → (m : Node) → StepFault → Type 0
+Keeps journal n after m (step_faults.Move fault) = (after.recording ≡ journal.recording) × (sends_of after ≡ sends_of journal) × (m ≡ n)
+Keeps journal n after m step_faults.Memory = Unit {0}
+
 -- the fault of a world whose move of a number was not made
 abbrev pub at_move : ℕ → StepFault → WorldFault
 at_move number (step_faults.Move fault) = world_faults.Move number fault

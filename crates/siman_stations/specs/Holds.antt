@@ -6,6 +6,8 @@ use Rattle.siman_application.specs.Ranges.{IsProfileInRange}
 use Rattle.siman_application.specs.Application.{came}
 use Rattle.siman_manager.specs.Calls.{Call, kept}
 use Rattle.siman_scripts.specs.declared.act.Move.{Move}
+use Rattle.siman_stations.specs.declared.moving.StepFault.{StepFault}
+use Rattle.siman_stations.specs.declared.moving.StepFault.TheVariants as step_faults
 use Rattle.siman_stations.specs.declared.turn.Node.{Node}
 use Rattle.siman_stations.specs.declared.world.World.{World}
 use Rattle.siman_scripts.specs.Stations.{WorldStationData}
@@ -52,3 +54,8 @@ pub record IsAfter (w : WorldData) (moves : List Move) (kept : World) : Type 0 w
   pub moves_are : AreMovesInRange moves
   pub made : first_fault w moves ≡ None
   pub holds : Holds w (course_of w moves) kept
+
+-- after these moves a world refused one more, and is still after them; or memory ran out
+abbrev pub IsStillAfter : WorldData → List Move → World → StepFault → Type 0
+IsStillAfter w moves kept (step_faults.Move fault) = IsAfter w moves kept
+IsStillAfter w moves kept step_faults.Memory = Unit {0}

@@ -8,6 +8,8 @@ use Rattle.siman_stations.specs.declared.turn.Node.{Node}
 use Rattle.siman_stations.specs.declared.world.World.{World}
 use Rattle.siman_stations.specs.declared.world_fault.MoveFault.{MoveFault}
 use Rattle.siman_stations.specs.declared.world_fault.MoveFault.TheVariants as faults
+use Rattle.siman_stations.specs.declared.moving.StepFault.{StepFault}
+use Rattle.siman_stations.specs.declared.moving.StepFault.TheVariants as step_faults
 use Rattle.siman_stations.specs.World.{sent_in}
 use Rattle.siman_stations.specs.Acts.{Writes, Goes, sends_of, halves_entries, halves_fault, RepeatsShort}
 
@@ -27,6 +29,12 @@ pub record Does (m : Move) (old new : World) : Type 0 where
   pub nodes : new.nodes.items ≡ slice_set old.nodes.items m.station after
   pub halves : Goes (sends_of old.journal) m.now m.act before after
   pub entries : Writes (halves_entries (sends_of old.journal) before m.station m.now m.act) old.journal new.journal
+
+-- a move that is refused changes neither the recording nor the sent datagrams, nor any manager and application
+abbrev pub Stays : World → World → StepFault → Type 0
+Stays old new (step_faults.Move fault) =
+    (new.journal.recording ≡ old.journal.recording) × (sends_of new.journal ≡ sends_of old.journal) × (new.nodes.items ≡ old.nodes.items)
+Stays old new step_faults.Memory = Unit {0}
 
 -- why a station, if there is such a station, cannot do an act
 abbrev pub node_fault : List (List ℕ) → ℕ → Act → Option Node → Option MoveFault

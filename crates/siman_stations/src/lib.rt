@@ -6,15 +6,16 @@
 //! the PDU to the manager, with any [`Recorder`]; [`order_text`] and [`repeat_text`] make the texts
 //! of orders and of repeats. [`run_world`] makes the moves of a list in their order, and returns
 //! the recording of what its stations sent, received and told, or the first move that cannot be
-//! made; [`begin_world`] returns the stations in their initial state. The crate reads no script,
-//! opens no file, reads no clock and sends nothing.
+//! made; [`begin_world`] returns the stations in their initial state, and a [`World`] makes one move
+//! after the other. The crate reads no script, opens no file, reads no clock and sends nothing.
 //!
 //! The contract for the layer above: what is recorded and how application and manager change
 //! (`specs/StationTurn.antt`, `specs/Sending.antt`); the invariant of a station
 //! (`specs/Halves.antt`), which each step preserves ([`halves_follow_logs`]), and under which
 //! nothing that the station sends or tells has a cause against it ([`deeds_have_no_cause`]);
 //! the recording of a world, or its first fault, as functions of the moves (`specs/World.antt`),
-//! and that its entries are a run ([`worlds_are_runs`]).
+//! also of a world after some of its moves (`specs/Holds.antt`), and that its entries are a run
+//! ([`worlds_are_runs`]).
 #![tactic(auto)]
 
 mod journal;
@@ -29,10 +30,11 @@ mod world_fault;
 mod world_laws;
 
 pub use laws::{deeds_have_no_cause, halves_follow_logs};
+pub use moving::StepFault;
 pub use recorder::Recorder;
 pub use sending::{OrderTextFault, order_text, repeat_text};
 pub use station_fault::StationFault;
 pub use turn::{Node, TurnFault, stamp_of, take_turn};
-pub use world::{InitialWorld, begin_world, run_world};
+pub use world::{InitialWorld, World, begin_world, run_world};
 pub use world_fault::{MoveFault, WorldFault};
 pub use world_laws::worlds_are_runs;

@@ -1,6 +1,6 @@
 //! One move of a station of a world.
 
-ghost use Rattle.std.specs.Prelude.{◌≡◌, ◌∷◌, [], ◌<◌, ◌≤◌, length, true, is_some, IfOk, IfErr, IfSome, OnOk, None, Some, slice_get, option_and_then};
+ghost use Rattle.std.specs.Prelude.{◌≡◌, ◌⊎◌, ◌∷◌, [], ◌<◌, ◌≤◌, length, true, is_some, IfOk, IfErr, IfSome, OnOk, None, Some, slice_get, option_and_then};
 ghost use Rattle.dis_records.specs.declared.header.TheConstants.{LARGEST_DATAGRAM};
 ghost use Rattle.siman_pdus.specs.Reading.{reading};
 ghost use Rattle.siman_pdus.specs.Spelling.{pdu_text};
@@ -10,7 +10,7 @@ ghost use Rattle.siman_application.specs.Play.{state_over};
 ghost use Rattle.siman_application.specs.Application.{came};
 ghost use Rattle.siman_stations.specs.Asked.{order_fault, tell_fault};
 ghost use Rattle.siman_stations.specs.Sending.{next_order, after_order, next_repeat, after_tick};
-ghost use Rattle.siman_stations.specs.Acts.{HasRoom, Writes, RepeatsShort, AreShort, Gives, LacksMemory, at_move, Goes, send_fault, as_move, sends_of, turn_if, halves_fault, halves_entries};
+ghost use Rattle.siman_stations.specs.Acts.{HasRoom, Writes, RepeatsShort, AreShort, Gives, LacksMemory, Keeps, at_move, Goes, send_fault, as_move, sends_of, turn_if, halves_fault, halves_entries};
 ghost use Rattle.siman_stations.specs.StationTurn.{sent_as, TakesBoth};
 ghost use Rattle.siman_stations.specs.Sending.{IsOrderInRange};
 ghost use Rattle.siman_stations.specs.WorldLaw.{IsActInRange};
@@ -26,8 +26,10 @@ use std::alloc::{AllocError, Global};
 
 /// Why a move was not made.
 #[derive(Drop)]
-pub(crate) enum StepFault {
+pub enum StepFault {
+    /// It cannot be made.
     Move(MoveFault),
+    /// Memory ran out.
     Memory,
 }
 
@@ -62,6 +64,7 @@ fn make_order(node: &mut Node, now: u64, order: Order, text: &mut Vec<u8>) -> Re
     ensures made { OnOk result (as_move (order_fault node.old.manager now order) ≡ None) }
     ensures in_range { OnOk result (IsOrderInRange order) }
     ensures fault { IfErr result (Gives (as_move (order_fault node.old.manager now order))) }
+    ensures kept { IfErr result (λ fault. (fault ≡ StepFault.Memory) ⊎ (node.new ≡ node.old)) }
 {
     if !order.body.is_request() {
         return Err(StepFault::Move(MoveFault::NotARequest));
@@ -105,6 +108,7 @@ fn command(
     ensures made { OnOk result (as_move (order_fault node.old.manager now order) ≡ None) }
     ensures in_range { OnOk result (IsOrderInRange order) }
     ensures fault { IfErr result (Gives (as_move (order_fault node.old.manager now order))) }
+    ensures kept { IfErr result (Keeps journal.old node.old journal.new node.new) }
 {
     make_order(node, now, order, &mut journal.text)?;
     journal.send(alloc, station, now)?;
@@ -156,6 +160,7 @@ fn deliver(
     ensures halves { OnOk result (TakesBoth (option_and_then reading (slice_get (sends_of journal.old) number)) node.old node.new) }
     ensures sent { OnOk result (number < length (sends_of journal.old)) }
     ensures fault { IfErr result (Gives (send_fault (sends_of journal.old) number)) }
+    ensures kept { IfErr result (Keeps journal.old node.old journal.new node.new) }
 {
     let number = number as usize;
     if number >= journal.sends.len() {
@@ -186,6 +191,7 @@ fn tell(journal: &mut Journal, node: &Node, station: u16, entity: u16) -> Result
     ensures entries { OnOk result (Writes (Told station entity (state_over node.now.application.outfit (came node.now.application) entity) ∷ []) journal.old journal.new) }
     ensures entity { OnOk result (is_entity entity ≡ true) }
     ensures fault { IfErr result (Gives (as_move (tell_fault entity))) }
+    ensures kept { IfErr result (Keeps journal.old node.now journal.new node.now) }
 {
     if !is_entity(entity) {
         return Err(StepFault::Move(MoveFault::NoSuchEntity));
@@ -212,6 +218,7 @@ pub(crate) fn act_at(
     ensures done { OnOk result (halves_fault (sends_of journal.old) node.old now act ≡ None) }
     ensures in_range { OnOk result (IsActInRange act) }
     ensures fault { IfErr result (Gives (halves_fault (sends_of journal.old) node.old now act)) }
+    ensures kept { IfErr result (Keeps journal.old node.old journal.new node.new) }
 {
     match act {
         Act::Command(order) => command(alloc, journal, node, station, now, order),

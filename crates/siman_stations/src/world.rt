@@ -1,16 +1,17 @@
 //! Worlds: stations that make a list of moves, and the recording of it.
 
-ghost use Rattle.std.specs.Prelude.{◌≡◌, ◌⊎◌, [], map, reverse, true, false, Some, None, OnOk, IfOk, IfErr};
+ghost use Rattle.std.specs.Prelude.{◌≡◌, ◌⊎◌, ◌≤◌, ◌∷◌, [], List, length, map, reverse, true, false, Some, None, OnOk, IfOk, IfErr};
 ghost use Rattle.std.specs.List.{list_all};
+ghost use Rattle.exercise_model.specs.declared.recording.TheConstants.{MOST_ENTRIES};
 ghost use Rattle.exercise_model.specs.declared.form.Form.TheVariants.{First};
 ghost use Rattle.exercise_model.specs.History.{past};
 ghost use Rattle.exercise_model.specs.Recording.{opened};
 ghost use Rattle.exercise_model.specs.Run.{IsRun};
 ghost use Rattle.exercise_model.specs.Station.{are_stations};
 ghost use Rattle.siman_stations.specs.Acts.{Gives};
-ghost use Rattle.siman_stations.specs.Holds.{IsNewNode, AreNewNodes, IsAfter};
-ghost use Rattle.siman_stations.specs.Moves.{IsFit, Does, step_fault};
-ghost use Rattle.siman_stations.specs.World.{WorldData, is_world_station, are_world_stations, first_fault, world_refusal, world_recording};
+ghost use Rattle.siman_stations.specs.Holds.{IsNewNode, AreNewNodes, IsAfter, IsStillAfter};
+ghost use Rattle.siman_stations.specs.Moves.{IsFit, Does, Stays, step_fault};
+ghost use Rattle.siman_stations.specs.World.{WorldData, setting_of, sent_in, is_world_station, are_world_stations, move_fault, course_of, first_fault, world_refusal, world_recording};
 ghost use Rattle.siman_stations.specs.WorldLaw.{IsActInRange};
 
 use crate::Node;
@@ -29,7 +30,7 @@ const MOST_OPENING: usize = 4096;
 
 /// A world after some of its moves.
 #[derive(Drop)]
-struct World {
+pub struct World {
     journal: Journal,
     /// Manager and application of each station.
     nodes: Vec<Node>,
@@ -149,8 +150,12 @@ pub fn begin_world(
 }
 
 impl World {
-    /// A world before its first move.
-    fn begin(alloc: Global, exercise: u8, stations: Vec<WorldStation>) -> Result<World, WorldFault>
+    /// A world before its first move. Fails with Stations if a world cannot have these stations.
+    pub fn begin(
+        alloc: Global,
+        exercise: u8,
+        stations: Vec<WorldStation>,
+    ) -> Result<World, WorldFault>
         ensures begun { let w : WorldData = record { exercise = exercise; stations = stations.items } in IfOk result (IsAfter w []) }
         ensures stations { OnOk result (are_world_stations stations.items ≡ true) }
         ensures fault { IfErr result (λ fault. (fault ≡ WorldFault.Memory) ⊎ ((fault ≡ WorldFault.Stations) × (are_world_stations stations.items ≡ false))) }
@@ -169,6 +174,7 @@ impl World {
         ensures made { OnOk result (step_fault self.old step ≡ None) }
         ensures in_range { OnOk result (IsActInRange step.act) }
         ensures fault { IfErr result (Gives (step_fault self.old step)) }
+        ensures kept { IfErr result (Stays self.old self.new) }
     {
         let Move { now, station, act } = step;
         if self.journal.recording.entry_count() + 2 > MOST_ENTRIES {
@@ -181,6 +187,40 @@ impl World {
         act_at(alloc, &mut self.journal, node, station, now, act)
     }
 
+    /// Makes one more move. Fails with the reason why it cannot be made, and stays as it was, or for
+    /// want of memory.
+    pub fn make(&mut self, alloc: Global, step: Move) -> Result<(), StepFault>
+        requires { (w : WorldData) × (ms : List Move) × IsAfter w ms self.old }
+        ensures after { (w : WorldData) → (ms : List Move) → IsAfter w ms self.old → OnOk result (IsAfter w (step ∷ ms) self.new) }
+        ensures made { (w : WorldData) → (ms : List Move) → IsAfter w ms self.old → OnOk result (move_fault w (course_of w ms) step ≡ None) }
+        ensures fault { (w : WorldData) → (ms : List Move) → IsAfter w ms self.old → IfErr result (Gives (move_fault w (course_of w ms) step)) }
+        ensures kept { (w : WorldData) → (ms : List Move) → IsAfter w ms self.old → IfErr result (IsStillAfter w ms self.new) }
+    {
+        self.step(alloc, step)
+    }
+
+    /// Recording of the moves so far.
+    pub fn recording(&self) -> &Recording
+        ensures { (w : WorldData) → (ms : List Move) → IsAfter w ms self.now → result.now ≡ record { setting = setting_of w; entries = (course_of w ms).entries } }
+    {
+        &self.journal.recording
+    }
+
+    /// Number of datagrams that the stations sent so far.
+    pub fn sent_count(&self) -> usize
+        ensures { (w : WorldData) → (ms : List Move) → IsAfter w ms self.now → (result ≡ length (sent_in (course_of w ms).entries)) × (result ≤ MOST_ENTRIES) }
+    {
+        self.journal.sends.len()
+    }
+
+    /// Recording of the moves so far, without the world.
+    pub fn into_recording(self) -> Recording
+        ensures { (w : WorldData) → (ms : List Move) → IsAfter w ms self → result ≡ record { setting = setting_of w; entries = (course_of w ms).entries } }
+    {
+        let World { journal, .. } = self;
+        journal.recording
+    }
+
     /// Makes moves in their order.
     fn run(&mut self, alloc: Global, moves: Vec<Move>) -> Result<(), WorldFault>
         requires { (w : WorldData) × IsAfter w [] self.old }
@@ -188,7 +228,7 @@ impl World {
         ensures fault { (w : WorldData) → IsAfter w [] self.old → IfErr result (λ fault. (fault ≡ WorldFault.Memory) ⊎ (first_fault w (reverse moves.items) ≡ Some fault)) }
     {
         for (number, step) in moves.into_iter().enumerate() {
-            match self.step(alloc, step) {
+            match self.make(alloc, step) {
                 Ok(()) => {}
                 Err(fault) => return Err(fault.at(number)),
             }
@@ -220,6 +260,5 @@ pub fn run_world(
 {
     let mut world = World::begin(alloc, exercise, stations)?;
     world.run(alloc, moves)?;
-    let World { journal, .. } = world;
-    Ok(journal.recording)
+    Ok(world.into_recording())
 }

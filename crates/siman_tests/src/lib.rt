@@ -49,6 +49,8 @@ mod scripts;
 #[cfg(test)]
 mod sockets;
 #[cfg(test)]
+mod sources;
+#[cfg(test)]
 mod troubles;
 pub mod uses;
 #[cfg(test)]

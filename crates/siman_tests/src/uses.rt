@@ -33,6 +33,7 @@ mod order;
 mod part;
 mod picture;
 mod pieces;
+mod plan;
 mod post;
 mod reason;
 mod receipt;

@@ -12,6 +12,7 @@ const WORDS: [&str; WORD_COUNT] = [
     "check",
     "audit",
     "world",
+    "plan",
     "live",
     "station",
     "convert",
@@ -109,10 +110,10 @@ const WORDS: [&str; WORD_COUNT] = [
 const MOST: usize = 10;
 
 /// Number of words.
-const WORD_COUNT: usize = 98;
+const WORD_COUNT: usize = 99;
 
 /// Number of command lines.
-const LINE_COUNT: usize = 31;
+const LINE_COUNT: usize = 34;
 
 /// Correct command lines, of every command.
 const LINES: [&[&str]; LINE_COUNT] = [
@@ -130,6 +131,9 @@ const LINES: [&[&str]; LINE_COUNT] = [
     &["audit", "done", "order", "--force"],
     &["world", "script", "new"],
     &["world", "-", "done", "--force"],
+    &["plan", "script", "--json"],
+    &["plan", "script", "new"],
+    &["plan", "-", "done", "--force", "--json"],
     &["live", "script", "new"],
     &["convert", "done", "new"],
     &["convert", "rec", "empty"],

@@ -55,6 +55,11 @@ returns-in-Why g c =
     let did = c.why_named-done.ensures in
     rw c.in-Why.is (did.0, did.1, did.2, (c.why_named-done.result, did.3, (c.conclude-in-Why.ensures.ends, c.conclude-in-Why.ensures.fault, c.conclude-in-Why.ensures.begun)))
 
+pub returns-in-Plan : goal.returns-in-Plan
+returns-in-Plan g c =
+    let did = c.plan_named-done.ensures in
+    rw c.in-Plan.is (did.0, did.1, did.2, (c.plan_named-done.result, did.3, (c.conclude-in-Plan.ensures.ends, c.conclude-in-Plan.ensures.fault, c.conclude-in-Plan.ensures.begun)))
+
 pub returns-in-Chart : goal.returns-in-Chart
 returns-in-Chart g c =
     let did = c.chart_named-charted.ensures in

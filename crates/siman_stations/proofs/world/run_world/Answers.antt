@@ -11,5 +11,5 @@ pub returns-clause-run : goal.returns-clause-run
 returns-clause-run c =
     let w : WorldData = record { exercise = c.args.exercise; stations = c.args.stations.items } in
     let after : IsAfter w (reverse c.args.moves.items) c.run.new.self = c.in_ok-run.ensures.after w c.in_ok-world.ensures.begun in
-    subst (λ (r : PlainRecording). IsRun r.setting (past r.entries)) (sym after.holds.recording)
+    subst (λ (r : PlainRecording). IsRun r.setting (past r.entries)) (sym (c.into_recording.ensures w (reverse c.args.moves.items) after))
     (is_run w (reverse c.args.moves.items) after.world after.moves_are after.made)

@@ -8,19 +8,17 @@ use Rattle.siman_stations.specs.declared.world_fault.WorldFault.{WorldFault}
 use Rattle.siman_stations.specs.declared.world_fault.WorldFault.TheVariants.{Memory}
 use Rattle.siman_stations.specs.World.{first_fault}
 use Rattle.siman_stations.specs.Holds.{IsAfter}
-use Rattle.siman_stations.proofs.Courses.{after_on, is_fit}
 use Rattle.siman_stations.proofs.NumberedMoves.{plain, all_plain, latest_first, stands, run_fault}
 use Rattle.siman_stations.proofs.world.World.run.Goals as goal
 
-pub step-requires : goal.step-requires
-step-requires c =
-    is_fit c.requires.0 (reverse (plain c.loop-number.yielded)) c.loop-number.self (c.loop-number.invariant c.requires.0 c.requires.1)
+pub make-requires : goal.make-requires
+make-requires c =
+    (c.requires.0, reverse (plain c.loop-number.yielded), c.loop-number.invariant c.requires.0 c.requires.1)
 
 pub loop-number-preserved : goal.loop-number-preserved
 loop-number-preserved c = λ w h.
-    subst (λ (ms : List Move). IsAfter w ms c.step.new.self) (sym (latest_first c.loop-number.yielded (c.in-Some.number, c.in-Some.step)))
-    (after_on w (reverse (plain c.loop-number.yielded)) c.in-Some.step c.loop-number.self c.step.new.self
-    (c.loop-number.invariant w h) c.in-Ok.ensures.does c.in-Ok.ensures.made c.in-Ok.ensures.in_range)
+    subst (λ (ms : List Move). IsAfter w ms c.make.new.self) (sym (latest_first c.loop-number.yielded (c.in-Some.number, c.in-Some.step)))
+    (c.in-Ok.ensures.after w (reverse (plain c.loop-number.yielded)) (c.loop-number.invariant w h))
 
 pub returns-in-Err-clause-fault : goal.returns-in-Err-clause-fault
 returns-in-Err-clause-fault c = λ w h.
@@ -33,8 +31,9 @@ returns-in-Err-clause-fault c = λ w h.
     let turn = YieldsList-turn road ps c.loop-number.number-iterator c.loop-number.yielded_by c.next.result c.next.new.self
     (c.in-Some.number, c.in-Some.step) c.in-Some.is c.next.ensures.steps in
     subst (λ (f : WorldFault). (f ≡ Memory) ⊎ (first_fault w (reverse xs) ≡ Some f)) (sym c.at.ensures)
-    (run_fault w xs ps (c.in-Some.number, c.in-Some.step) c.loop-number.self c.in-Err.fault
-    (stands xs ps (c.in-Some.number, c.in-Some.step) before turn) (c.loop-number.invariant w h) c.in-Err.ensures.fault)
+    (let after = c.loop-number.invariant w h in
+    run_fault w xs ps (c.in-Some.number, c.in-Some.step) c.in-Err.fault (stands xs ps (c.in-Some.number, c.in-Some.step) before turn) after.made
+    (c.in-Err.ensures.fault w (reverse (plain ps)) after))
 
 pub returns-clause-after : goal.returns-clause-after
 returns-clause-after c = λ w h.

@@ -1,0 +1,17 @@
+pub mod SourceWidth
+pub mod SourceLabels
+pub mod SourceForms
+pub mod Receipts
+pub mod Moves
+pub mod Lines
+pub mod Plans
+pub mod Joined
+pub mod PlanTexts
+pub mod SourceLaws
+pub mod Said
+pub mod PlainWords
+pub mod PlainForms
+pub mod PlainActs
+pub mod PlainReading
+pub mod PlainMoves
+pub mod PlainLaws

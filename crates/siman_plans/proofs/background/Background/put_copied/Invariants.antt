@@ -1,0 +1,13 @@
+-- With the rows of what is left, those so far are the rows of all.
+use Rattle.std.proofs.Common.{◌≡◌, ◌+◌, ◌++◌, length, string_bytes}
+use Rattle.siman_print.specs.Spelled.{lines_spelled}
+use Rattle.siman_plans.specs.ClosingLines.{copied_rows}
+use Rattle.siman_plans.proofs.background.Background.put_copied.Given as goal
+
+abbrev pub invariant-loop-others : goal.invariant-loop-others
+invariant-loop-others l =
+    (string_bytes l.text ++ lines_spelled l.spelling (copied_rows l.self l.number l.others) ≡ string_bytes l.initial.text ++ lines_spelled l.spelling (copied_rows l.self 0 l.sent))
+    × (l.number + length l.others ≡ length l.sent)
+
+abbrev pub decreases-loop-others : goal.decreases-loop-others
+decreases-loop-others l = length l.others

@@ -1,0 +1,4 @@
+use Rattle.siman_stations.proofs.world.World.into_recording.Goals as goal
+
+pub returns : goal.returns
+returns c = λ w ms h. h.holds.recording

@@ -62,11 +62,13 @@ _siman() {
     case ${words[1]}:$((${#words[@]} - 3)) in
         help:0) _siman_words 'pdu pdus show check audit world plan live station convert mend join import export review log count why chart help' ;;
         show:0) _siman_files dsrc ;;
+        show:*) _siman_words '--torn' ;;
         check:0) _siman_files dsrc ;;
         check:1) _siman_files dsct ;;
+        check:*) _siman_words '--torn' ;;
         audit:0) _siman_files dsrc ;;
         audit:1) _siman_folders ;;
-        audit:*) _siman_words '--force' ;;
+        audit:*) _siman_words '--torn --force' ;;
         world:0) _siman_files script ;;
         world:1) _siman_folders ;;
         world:*) _siman_words '--force' ;;
@@ -90,19 +92,19 @@ _siman() {
         import:*) _siman_words 'port= on= cut=keep shared echo opening=none opening=assumed --force' ;;
         export:0) _siman_files dsrc ;;
         export:1) _siman_folders ;;
-        export:*) _siman_words '--force' ;;
+        export:*) _siman_words '--torn --force' ;;
         review:0) _siman_files dsrc ;;
-        review:*) _siman_words 'station= entity= request= fate=done fate=answered fate=refused fate=pending fate=unheard fate=unanswered fate=lost fate=unknown fate=nobody --json --prose' ;;
+        review:*) _siman_words 'station= entity= request= fate=done fate=answered fate=refused fate=pending fate=unheard fate=unanswered fate=lost fate=unknown fate=nobody --json --prose --torn' ;;
         log:0) _siman_files dsrc ;;
-        log:*) _siman_words 'station= entity= request= kind=create-entity kind=remove-entity kind=start-resume kind=stop-freeze kind=acknowledge kind=action-request kind=action-response kind=data-query kind=set-data kind=data kind=event-report kind=comment kind=told kind=other --json' ;;
+        log:*) _siman_words 'station= entity= request= kind=create-entity kind=remove-entity kind=start-resume kind=stop-freeze kind=acknowledge kind=action-request kind=action-response kind=data-query kind=set-data kind=data kind=event-report kind=comment kind=told kind=other --json --torn' ;;
         count:0) _siman_files dsrc ;;
-        count:*) _siman_words 'station= entity= request= kind=create-entity kind=remove-entity kind=start-resume kind=stop-freeze kind=acknowledge kind=action-request kind=action-response kind=data-query kind=set-data kind=data kind=event-report kind=comment kind=told kind=other --json' ;;
+        count:*) _siman_words 'station= entity= request= kind=create-entity kind=remove-entity kind=start-resume kind=stop-freeze kind=acknowledge kind=action-request kind=action-response kind=data-query kind=set-data kind=data kind=event-report kind=comment kind=told kind=other --json --torn' ;;
         why:0) _siman_files dsrc ;;
-        why:*) _siman_files dsct; _siman_words '--json' ;;
+        why:*) _siman_files dsct; _siman_words '--json --torn' ;;
         chart:0) _siman_files dsrc ;;
         chart:1) _siman_files dsct ;;
         chart:2) _siman_folders ;;
-        chart:*) _siman_words '--force' ;;
+        chart:*) _siman_words '--torn --force' ;;
     esac
 }
 

@@ -276,14 +276,14 @@ def exercise(seed, stations, moves, form):
 
 
 def usage_fault(told):
-    usage = ["text", "text Usage: siman chart <REC> <CERT> <SVG> [CHOICE]... [--force]", "text", "text For more information, try '--help'."]
+    usage = ["text", "text Usage: siman chart <REC> <CERT> <SVG> [CHOICE]... [--torn] [--force]", "text", "text For more information, try '--help'."]
     return ["status 2", "errors", *told, *usage]
 
 
 HELP = """\
 Draws an exercise in the sequence of its certificate, or up to where it is contradicted, and writes the picture
 
-Usage: siman chart <REC> <CERT> <SVG> [CHOICE]... [--force]
+Usage: siman chart <REC> <CERT> <SVG> [CHOICE]... [--torn] [--force]
 
 Arguments:
   <REC>        The file of the recording
@@ -292,6 +292,7 @@ Arguments:
   [CHOICE]...  What is shown: from=STEP the first step, to=STEP the last, counted from 0; clock=us, clock=ms or clock=s the time of day, of stamps in that unit; each may stand once; entity=S:A:E bars of this entity, station=S:A the column of this station, and of no other than those named
 
 Options:
+      --torn   Reads what stands whole of a recording that is torn, as one that is still written, and warns
       --force  Replaces a file that has the name of the one that is made
   -h, --help   Print help
 

@@ -80,7 +80,7 @@ def faults(cases):
     text = recording(list(logs())[:5])
     for name, bad, why in (
         ("an-empty-file", b"", "recording is an empty file"),
-        ("a-torn-recording", text[:60], "siman mend recording NEW keeps its whole entries, where its stations stand whole"),
+        ("a-torn-recording", text[:60], "siman mend recording NEW keeps its whole entries, where its stations stand whole, and --torn reads them"),
         ("a-bad-head", text[:9] + b"\2" + text[10:], "recording: a field of its head is bad"),
         ("a-script-for-a-recording", b"exercise 7\nstation 1:1\n", "recording is no recording: it looks like a script"),
     ):
@@ -140,13 +140,14 @@ def failing(cases):
 HELP = """\
 Writes the datagrams of a recording as a capture, which Wireshark and tshark show as DIS
 
-Usage: siman export <REC> <NEW> [--force]
+Usage: siman export <REC> <NEW> [--torn] [--force]
 
 Arguments:
   <REC>  The file of the recording
   <NEW>  The file of the capture, in pcapng; it must not be there yet, or be empty
 
 Options:
+      --torn   Reads what stands whole of a recording that is torn, as one that is still written, and warns
       --force  Replaces a file that has the name of the one that is made
   -h, --help   Print help
 
@@ -154,7 +155,7 @@ Example:
   siman export exercise.dsrc exercise.pcapng
 """
 # What is told of words that ask for no task, behind the line of the fault.
-USAGE = "Usage: siman export <REC> <NEW> [--force]\n\nFor more information, try '--help'.\n"
+USAGE = "Usage: siman export <REC> <NEW> [--torn] [--force]\n\nFor more information, try '--help'.\n"
 
 
 def untaken(cases, name, words, outcome):
@@ -178,7 +179,7 @@ def words(cases):
         ("force-twice", ["--force", "recording", "new", "--force"], "the argument '--force' cannot be used multiple times"),
     ):
         untaken(cases, name, ["export", *call], Outcome(2, b"", f"error: {why}\n\n{USAGE}".encode()))
-    twice = USAGE.replace("export <REC> <NEW> [--force]", "[COMMAND]")
+    twice = USAGE.replace("export <REC> <NEW> [--torn] [--force]", "[COMMAND]")
     told = f"error: standard input, '-', can be read once\n\n{twice}"
     untaken(cases, "standard-input-twice", ["export", "-", "-"], Outcome(2, b"", told.encode()))
 

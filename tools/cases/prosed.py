@@ -191,20 +191,20 @@ def words(files):
         yield from ["", f"case both-spellings-{said.replace(' ', '-')}", f"words review {said}", *usage_fault(both, "siman [COMMAND]")]
     twice = "error: the argument '--prose' cannot be used multiple times"
     for said in ("losses --prose --prose", "--prose losses --json --prose"):
-        usage = usage_fault(twice, "siman review <REC> [FILTER]... [--json|--prose]")
+        usage = usage_fault(twice, "siman review <REC> [FILTER]... [--json|--prose] [--torn]")
         yield from ["", f"case sentences-twice-{said.replace(' ', '-')}", f"words review {said}", *usage]
     for said, usage in (
-        ("log losses --prose", "log <REC> [FILTER]... [--json]"), ("count losses --prose", "count <REC> [FILTER]... [--json]"),
-        ("why losses --prose", "why <REC> [CERT] [--json]"), ("show losses --prose", "show <REC>"),
-        ("check losses losses --prose", "check <REC> <CERT>"),
-        ("chart losses - new --prose", "chart <REC> <CERT> <SVG> [CHOICE]... [--force]"),
+        ("log losses --prose", "log <REC> [FILTER]... [--json] [--torn]"), ("count losses --prose", "count <REC> [FILTER]... [--json] [--torn]"),
+        ("why losses --prose", "why <REC> [CERT] [--json] [--torn]"), ("show losses --prose", "show <REC> [--torn]"),
+        ("check losses losses --prose", "check <REC> <CERT> [--torn]"),
+        ("chart losses - new --prose", "chart <REC> <CERT> <SVG> [CHOICE]... [--torn] [--force]"),
     ):  # fmt: skip
         none = usage_fault("error: unexpected argument '--prose' found", f"siman {usage}")
         yield from ["", f"case no-sentences-of-{said.replace(' ', '-')}", f"words {said}", *none]
     help_text = """\
 Prints what became of each order of a recording, and how each entity lived
 
-Usage: siman review <REC> [FILTER]... [--json|--prose]
+Usage: siman review <REC> [FILTER]... [--json|--prose] [--torn]
 
 Arguments:
   <REC>        The file of the recording
@@ -213,6 +213,7 @@ Arguments:
 Options:
       --json   Prints the rows in JSON, one object a line
       --prose  Prints sentences in place of rows
+      --torn   Reads what stands whole of a recording that is torn, as one that is still written, and warns
   -h, --help   Print help
 
 Example:

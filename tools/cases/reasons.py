@@ -39,7 +39,7 @@ def try_looks(trials, examples):
     trials.expect(["show", "-"], fault("recording: magic at 0", "- is no recording: those begin with DSRC0001 or DSRC0002"), given=SCRIPT)
     empty, torn = in_folder(trials, "empty", b""), in_folder(trials, "torn", b"DSRC0001\x01")
     trials.expect(["log", empty], fault("recording: truncated at 0", f"{empty} is an empty file"))
-    trials.expect(["log", torn], fault("recording: truncated at 9", f"siman mend {torn} NEW keeps its whole entries, where its stations stand whole"))
+    trials.expect(["log", torn], fault("recording: truncated at 9", f"siman mend {torn} NEW keeps its whole entries, where its stations stand whole, and --torn reads them"))
 
 
 def try_files(trials, examples):

@@ -79,6 +79,7 @@ def page(program, values_of):
             paragraph(r"\fB\-V\fR, \fB\-\-version\fR", "Prints the version, and ends."),
             paragraph(r"\fB\-\-json\fR", "Anywhere behind review, log, count, why or plan: each line is an object of JSON."),
             paragraph(r"\fB\-\-prose\fR", "Anywhere behind review, in the place of \\-\\-json: sentences."),
+            paragraph(r"\fB\-\-torn\fR", "Anywhere behind a command that reads a recording to tell of it: what stands whole of a torn one is read."),
         ]),
         "NAMES": "Values that words with a key may have:\n" + "\n".join(names),
         "FILES": FORMATS,

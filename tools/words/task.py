@@ -47,7 +47,7 @@ def makes_file(words):
 
 def files_in(words):
     """The places of the words that name files which the program opens, where they make none and need not. `--json`, or `--prose` in
-    its place, may stand once, anywhere among those of a command that takes it.
+    its place, and `--torn` may stand once each, anywhere among those of a command that takes them.
     """
     command = command_of(words)
     made = made_by(command)
@@ -56,7 +56,9 @@ def files_in(words):
     choices = {*command.choices} - {"--force"}
     places = [place for place in range(1, len(words)) if words[place] not in choices]
     behind = [words[place] for place in places]
-    if len(words) - 1 - len(behind) > 1 or any(map(is_option, behind)) or behind.count("-") > 1:
+    apart = [word for word in words[1:] if word in choices]
+    torn = apart.count("--torn")
+    if torn > 1 or len(apart) - torn > 1 or any(map(is_option, behind)) or behind.count("-") > 1:
         return []
     least = sum(word.is_needed for word in command.words)
     if len(behind) < least or (not takes_more(command) and len(behind) > len(command.words)):

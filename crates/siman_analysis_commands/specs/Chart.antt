@@ -21,6 +21,7 @@ use Rattle.exercise_chart.specs.declared.selection.BlockedEntry.{BlockedEntry}
 use Rattle.exercise_chart.specs.Marks.{MarksData, marks_of}
 use Rattle.exercise_chart.specs.Picture.{row_fact, step_fact, LeadsDown, HasState}
 use Rattle.siman_print.specs.Spelled.{lines_text}
+use Rattle.siman_outside.specs.declared.commands.Reading.{Reading}
 use Rattle.siman_outside.specs.declared.fault.Fault.{Fault}
 use Rattle.siman_outside.specs.declared.fault.Fault.TheVariants.{Memory, Output}
 use Rattle.siman_outside.specs.Making.{Answered, MakesFile, WritesShort}
@@ -114,14 +115,14 @@ ChartsAlone words window r (Err fault) =
 
 -- ---- files
 
--- THE RESULT OF TWO FILES with these bytes, if they are known
-abbrev pub ChartsFiles : (words : List (List ℕ)) → Window → (recording certificate : Option (List ℕ)) → Result PictureTexts Fault → Type 0
-ChartsFiles words window recording certificate charted =
-    (out : Stream) × SaysOfBoth (λ r steps charted out. Charts words window r steps charted) recording certificate charted out
+-- THE RESULT OF TWO FILES with these bytes, if they are known, the recording as it is read
+abbrev pub ChartsFiles : Reading → (words : List (List ℕ)) → Window → (recording certificate : Option (List ℕ)) → Result PictureTexts Fault → Type 0
+ChartsFiles reading words window recording certificate charted =
+    (out : Stream) × SaysOfBoth reading (λ r steps charted out. Charts words window r steps charted) recording certificate charted out
 
 -- THE RESULT OF THE FILE OF A RECORDING ALONE
-abbrev pub ChartsFile : (words : List (List ℕ)) → Window → (recording : Option (List ℕ)) → Result PictureTexts Fault → Type 0
-ChartsFile words window recording charted = (out : Stream) × SaysOfBytes (λ r charted out. ChartsAlone words window r charted) recording charted out
+abbrev pub ChartsFile : Reading → (words : List (List ℕ)) → Window → (recording : Option (List ℕ)) → Result PictureTexts Fault → Type 0
+ChartsFile reading words window recording charted = (out : Stream) × SaysOfBytes reading (λ r charted out. ChartsAlone words window r charted) recording charted out
 
 -- THE FILE OF A PICTURE: the picture, and then the rows of the answer, with their status; a failed write leaves a prefix of the picture and no row, or the whole picture and a prefix of the rows
 abbrev pub PutsPicture : PictureTexts → Answered → (file out : Stream) → Type 0
@@ -137,14 +138,14 @@ abbrev pub is_alone : (certificate : List ℕ) → Bool
 is_alone certificate = bytes_eq certificate (codes "-")
 
 -- The files are opened: both, neither of which is the one to be made, before either is read; or the recording alone.
-abbrev pub ChartsOpened : (alone : Bool) → (recording certificate picture : List ℕ) → (words : List (List ℕ)) → Window → (force : Bool) → List Deed → Answered → Stream → Type 0
-ChartsOpened true recording certificate picture words window force deeds answered out =
-    MakesOfFile (ChartsFile words window) MakesPicture force recording picture deeds answered out
-ChartsOpened false recording certificate picture words window force deeds answered out =
-    MakesOfFiles (ChartsFiles words window) MakesPicture force recording certificate picture deeds answered out
+abbrev pub ChartsOpened : Reading → (alone : Bool) → (recording certificate picture : List ℕ) → (words : List (List ℕ)) → Window → (force : Bool) → List Deed → Answered → Stream → Type 0
+ChartsOpened reading true recording certificate picture words window force deeds answered out =
+    MakesOfFile (ChartsFile reading words window) MakesPicture force recording picture deeds answered out
+ChartsOpened reading false recording certificate picture words window force deeds answered out =
+    MakesOfFiles (ChartsFiles reading words window) MakesPicture force recording certificate picture deeds answered out
 
 -- WHAT `chart` DOES: the first bad word is reported, with nothing opened; or the files are opened, and the picture is made, of a good certificate or up to the first bad step, or of the recording alone
-abbrev pub ChartsNamed : (recording certificate picture : List ℕ) → (words : List (List ℕ)) → (force : Bool) → List Deed → Answered → Stream → Type 0
-ChartsNamed recording certificate picture words force deeds answered out =
+abbrev pub ChartsNamed : Reading → (recording certificate picture : List ℕ) → (words : List (List ℕ)) → (force : Bool) → List Deed → Answered → Stream → Type 0
+ChartsNamed reading recording certificate picture words force deeds answered out =
     ((word : List ℕ) × (fault : Fault) × (window_of words ≡ Err word) × IsFilterFault word fault × (deeds ≡ []) × (answered ≡ Err fault) × Keeps out.old out.new)
-    ⊎ ((window : Window) × (window_of words ≡ Ok window) × ChartsOpened (is_alone certificate) recording certificate picture words window force deeds answered out)
+    ⊎ ((window : Window) × (window_of words ≡ Ok window) × ChartsOpened reading (is_alone certificate) recording certificate picture words window force deeds answered out)

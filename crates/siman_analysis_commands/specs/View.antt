@@ -8,6 +8,7 @@ use Rattle.exercise_log.specs.Count.{count_rows}
 use Rattle.exercise_log.specs.Log.{kept_at, log_text}
 use Rattle.siman_print.specs.declared.spelling.Spelling.{Spelling}
 use Rattle.siman_print.specs.Spelled.{lines_spelled}
+use Rattle.siman_outside.specs.declared.commands.Reading.{Reading}
 use Rattle.siman_outside.specs.declared.commands.ViewWord.{ViewWord}
 use Rattle.siman_outside.specs.declared.commands.ViewWord.TheVariants.{Review, Log, Count}
 use Rattle.siman_outside.specs.declared.fault.Fault.{Fault}
@@ -75,16 +76,16 @@ PrintsView Review spelling filters r = PrintsReview (Rows spelling) filters r
 PrintsView Log spelling filters r = PrintsText (log_text spelling r filters)
 PrintsView Count spelling filters r = Answers (SaysCounts spelling filters r)
 
--- THE FILTERS ARE JUDGED FIRST: the first word that is none is reported, with nothing opened; otherwise the recording of the file is answered for under the filters
-abbrev pub SaysNamed : ViewWord → (List Filter → PlainRecording → Answered → (out : Stream) → Type 0) → (name : List ℕ) → (words : List (List ℕ)) → List Deed → Answered → (out : Stream) → Type 0
-SaysNamed view says name words deeds answered out =
+-- THE FILTERS ARE JUDGED FIRST: the first word that is none is reported, with nothing opened; otherwise the recording of the file, as it is read, is answered for under the filters
+abbrev pub SaysNamed : ViewWord → Reading → (List Filter → PlainRecording → Answered → (out : Stream) → Type 0) → (name : List ℕ) → (words : List (List ℕ)) → List Deed → Answered → (out : Stream) → Type 0
+SaysNamed view reading says name words deeds answered out =
     ((fault : Fault) × (IsBadFilter view words fault ⊎ (fault ≡ Memory)) × (deeds ≡ []) × (answered ≡ Err fault) × Keeps out.old out.new)
-    ⊎ ((filters : List Filter) × AskFor view words filters × SaysOfFile (SaysOfBytes (says filters)) name deeds answered out)
+    ⊎ ((filters : List Filter) × AskFor view words filters × SaysOfFile (SaysOfBytes reading (says filters)) name deeds answered out)
 
 -- the answer of a view
-abbrev pub ViewsNamed : ViewWord → Spelling → (name : List ℕ) → (words : List (List ℕ)) → List Deed → Answered → (out : Stream) → Type 0
-ViewsNamed view spelling = SaysNamed view (PrintsView view spelling)
+abbrev pub ViewsNamed : ViewWord → Spelling → Reading → (name : List ℕ) → (words : List (List ℕ)) → List Deed → Answered → (out : Stream) → Type 0
+ViewsNamed view spelling reading = SaysNamed view reading (PrintsView view spelling)
 
 -- the answer of `review` in sentences
-abbrev pub ProseNamed : (name : List ℕ) → (words : List (List ℕ)) → List Deed → Answered → (out : Stream) → Type 0
-ProseNamed = SaysNamed Review (PrintsReview Sentences)
+abbrev pub ProseNamed : Reading → (name : List ℕ) → (words : List (List ℕ)) → List Deed → Answered → (out : Stream) → Type 0
+ProseNamed reading = SaysNamed Review reading (PrintsReview Sentences)

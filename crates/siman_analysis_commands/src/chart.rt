@@ -12,37 +12,46 @@ use crate::picture::PictureTexts;
 use exercise_check::Certificate;
 use exercise_model::ExerciseLog;
 use siman_outside::{
-    Fault, Notes, OfCertificate, OfRecording, Outside, if_free, make_file, open_input, open_inputs,
-    say_of_certificate, say_of_recording,
+    Fault, Notes, OfCertificate, OfRecording, Outside, Reading, if_free, make_file, open_input,
+    open_inputs, say_of_certificate, say_of_recording,
 };
 use std::alloc::Global;
 use std::io::Write;
 
-/// The command `chart`, with its words, and the steps and the clock that they select.
+/// The command `chart`, with its words, the steps and the clock that they select, and how the
+/// recording is read.
 #[derive(Drop)]
 pub(crate) struct ChartCommand<'a> {
     pub words: &'a [&'a str],
     pub window: Window,
+    /// How the recording is read.
+    pub reading: Reading,
 }
 
 /// Opens the files of a recording and of its certificate, the first two names, and makes the
-/// picture under the third of what `words` choose; `-` for the second name stands for no certificate. Returns the status. `Filter` for a word that
+/// picture under the third of what `words` choose; `-` for the second name stands for no
+/// certificate. The recording is read as `reading` says. Returns the status. `Filter` for a word that
 /// chooses nothing, before any file is opened, or one that names a station that the recording does
 /// not have; `Step` for one that names a step past the last.
 pub fn chart_named<'a, O: Outside, W: Write>(
     alloc: Global,
     names: (&'a str, &'a str, &'a str),
     force: bool,
+    reading: Reading,
     words: &'a [&'a str],
     outside: &mut O,
     out: &mut W,
     notes: &mut Notes,
 ) -> Result<u8, Fault<'a>>
-    ensures { Did O.deeds O.holds outside.old outside.new (λ deeds. ChartsNamed names.entry.0.now names.entry.1.now names.entry.2.now (map (λ word. word.now) words.now) force deeds result (stream (W.contents out.old) (W.contents out.new))) }
+    ensures { Did O.deeds O.holds outside.old outside.new (λ deeds. ChartsNamed reading names.entry.0.now names.entry.1.now names.entry.2.now (map (λ word. word.now) words.now) force deeds result (stream (W.contents out.old) (W.contents out.new))) }
 {
     match window_of(words) {
         Ok(window) => {
-            let command = ChartCommand { words, window };
+            let command = ChartCommand {
+                words,
+                window,
+                reading,
+            };
             chart_of(alloc, names, force, command, outside, out, notes)
         }
         Err(word) => Err(Fault::Filter(word)),
@@ -59,7 +68,7 @@ fn chart_of<'a, O: Outside, W: Write>(
     out: &mut W,
     notes: &mut Notes,
 ) -> Result<u8, Fault<'a>>
-    ensures { Did O.deeds O.holds outside.old outside.new (λ deeds. ChartsOpened (is_alone names.entry.1.now) names.entry.0.now names.entry.1.now names.entry.2.now (map (λ word. word.now) command.entry.words.now) command.entry.window force deeds result (stream (W.contents out.old) (W.contents out.new))) }
+    ensures { Did O.deeds O.holds outside.old outside.new (λ deeds. ChartsOpened command.entry.reading (is_alone names.entry.1.now) names.entry.0.now names.entry.1.now names.entry.2.now (map (λ word. word.now) command.entry.words.now) command.entry.window force deeds result (stream (W.contents out.old) (W.contents out.new))) }
 {
     let (recording, certificate, picture) = names;
     if certificate.as_bytes() == b"-".as_slice() {
@@ -87,7 +96,7 @@ fn chart_of_files<'a, O: Outside, W: Write>(
     out: &mut W,
     notes: &mut Notes,
 ) -> Result<u8, Fault<'a>>
-    ensures { Did O.deeds O.holds outside.old outside.new (λ deeds. MakesOfFiles (ChartsFiles (map (λ word. word.now) command.entry.words.now) command.entry.window) MakesPicture force names.entry.0.now names.entry.1.now names.entry.2.now deeds result (stream (W.contents out.old) (W.contents out.new))) }
+    ensures { Did O.deeds O.holds outside.old outside.new (λ deeds. MakesOfFiles (ChartsFiles command.entry.reading (map (λ word. word.now) command.entry.words.now) command.entry.window) MakesPicture force names.entry.0.now names.entry.1.now names.entry.2.now deeds result (stream (W.contents out.old) (W.contents out.new))) }
 {
     let (recording, certificate, picture) = names;
     let opened = open_inputs((recording, certificate), picture, outside);
@@ -105,13 +114,22 @@ fn chart_opened<'a, O: Outside>(
     notes: &mut Notes,
 ) -> Result<PictureTexts, Fault<'a>>
     ensures done { Adds (O.deeds outside.old) (O.deeds outside.new) (Reads (O.bytes opened.0) ∷ Reads (O.bytes opened.1) ∷ []) }
-    ensures comes { ChartsFiles (map (λ word. word.now) command.entry.words.now) command.entry.window (O.bytes opened.0) (O.bytes opened.1) result }
+    ensures comes { ChartsFiles command.entry.reading (map (λ word. word.now) command.entry.words.now) command.entry.window (O.bytes opened.0) (O.bytes opened.1) result }
 {
     let (recording, certificate) = opened;
     let recording = outside.read(recording);
     let certificate = outside.read(certificate);
     let mut nothing: Vec<u8> = Vec::new(alloc);
-    say_of_certificate(alloc, command, recording, certificate, &mut nothing, notes)
+    let reading = command.reading;
+    say_of_certificate(
+        alloc,
+        command,
+        reading,
+        recording,
+        certificate,
+        &mut nothing,
+        notes,
+    )
 }
 
 /// Opens the recording alone, and makes the picture.
@@ -124,7 +142,7 @@ fn chart_of_file<'a, O: Outside, W: Write>(
     out: &mut W,
     notes: &mut Notes,
 ) -> Result<u8, Fault<'a>>
-    ensures { Did O.deeds O.holds outside.old outside.new (λ deeds. MakesOfFile (ChartsFile (map (λ word. word.now) command.entry.words.now) command.entry.window) MakesPicture force names.entry.0.now names.entry.1.now deeds result (stream (W.contents out.old) (W.contents out.new))) }
+    ensures { Did O.deeds O.holds outside.old outside.new (λ deeds. MakesOfFile (ChartsFile command.entry.reading (map (λ word. word.now) command.entry.words.now) command.entry.window) MakesPicture force names.entry.0.now names.entry.1.now deeds result (stream (W.contents out.old) (W.contents out.new))) }
 {
     let opened = open_input(names, outside);
     let opened = if_free(opened, names.1, force, outside)?;
@@ -141,11 +159,12 @@ fn chart_alone<'a, O: Outside>(
     notes: &mut Notes,
 ) -> Result<PictureTexts, Fault<'a>>
     ensures done { Adds (O.deeds outside.old) (O.deeds outside.new) (Reads (O.bytes opened) ∷ []) }
-    ensures comes { ChartsFile (map (λ word. word.now) command.entry.words.now) command.entry.window (O.bytes opened) result }
+    ensures comes { ChartsFile command.entry.reading (map (λ word. word.now) command.entry.words.now) command.entry.window (O.bytes opened) result }
 {
     let recording = outside.read(opened);
     let mut nothing: Vec<u8> = Vec::new(alloc);
-    say_of_recording(alloc, command, recording, &mut nothing, notes)
+    let reading = command.reading;
+    say_of_recording(alloc, command, reading, recording, &mut nothing, notes)
 }
 
 impl<'a> OfCertificate<'a> for ChartCommand<'a> {

@@ -6,6 +6,7 @@ use Rattle.std.specs.declared.io.ErrorKind.{ErrorKind}
 use Rattle.byte_files.specs.Text.{lines_of}
 use Rattle.siman_outside.specs.declared.commands.NoWord.{NoWord}
 use Rattle.siman_outside.specs.declared.commands.OneWord.{OneWord}
+use Rattle.siman_outside.specs.declared.commands.Reading.{Reading}
 use Rattle.siman_outside.specs.declared.commands.TwoWords.{TwoWords}
 use Rattle.siman_outside.specs.Words.{Asked, Trial, Bare, One, Two, View, asked}
 use Rattle.siman_outside.specs.Helping.{asks_help}
@@ -42,9 +43,9 @@ use Rattle.siman_file_commands.specs.Why.{WhyNamed}
 use Rattle.siman_exercise_commands.specs.World.{RunsFile, PutsWorld}
 
 -- WHAT A COMMAND DOES: the files that it opens and makes, in their order, its answer or fault, and its output
-abbrev pub DoesOne : OneWord → (word : List ℕ) → List Deed → Answered → Stream → Type 0
-DoesOne OneWord.Pdu hex deeds answered out = (deeds ≡ []) × IsSaid (said_of_hex hex) answered out.old out.new
-DoesOne OneWord.Show recording deeds answered out = SaysOfFile (SaysOfBytes ShowsRecording) recording deeds answered out
+abbrev pub DoesOne : OneWord → (word : List ℕ) → Reading → List Deed → Answered → Stream → Type 0
+DoesOne OneWord.Pdu hex reading deeds answered out = (deeds ≡ []) × IsSaid (said_of_hex hex) answered out.old out.new
+DoesOne OneWord.Show recording reading deeds answered out = SaysOfFile (SaysOfBytes reading ShowsRecording) recording deeds answered out
 
 -- the ending with this answer or fault, and with no recording begun
 abbrev pub EndsIn : Answered → Outcome → Type 0
@@ -55,14 +56,14 @@ abbrev pub EndsAs : (Answered → Stream → Type 0) → Outcome → Type 0
 EndsAs Tells o = (answered : Answered) × Tells answered o.out × EndsIn answered o
 
 -- the ending of a command with two words
-abbrev pub EndsTwo : {L : Type 0} → Telling L → TwoWords → (first second : List ℕ) → (force : Bool) → List Deed → Outcome → Type 0
-EndsTwo told TwoWords.Check recording certificate force deeds o = EndsAs (SaysOfFiles (SaysOfBoth ChecksCertificate) recording certificate deeds) o
-EndsTwo told TwoWords.Audit recording certificate force deeds o = EndsAs (MakesOfFile SearchesFile (MakesProduct PutsSequence) force recording certificate deeds) o
-EndsTwo told TwoWords.World script recording force deeds o = EndsAs (MakesOfFile RunsFile (MakesProduct PutsWorld) force script recording deeds) o
-EndsTwo told TwoWords.Live script recording force deeds o = EndsLive told script recording deeds o
-EndsTwo told TwoWords.Convert old new force deeds o = EndsAs (MakesOfFile CarriesFile (MakesProduct PutsConverted) force old new deeds) o
-EndsTwo told TwoWords.Mend old new force deeds o = EndsAs (MakesOfFile MendsFile (MakesProduct PutsMended) force old new deeds) o
-EndsTwo told TwoWords.Export recording new force deeds o = EndsAs (MakesOfFile ExportsFile (MakesProduct PutsExported) force recording new deeds) o
+abbrev pub EndsTwo : {L : Type 0} → Telling L → TwoWords → (first second : List ℕ) → (force : Bool) → Reading → List Deed → Outcome → Type 0
+EndsTwo told TwoWords.Check recording certificate force reading deeds o = EndsAs (SaysOfFiles (SaysOfBoth reading ChecksCertificate) recording certificate deeds) o
+EndsTwo told TwoWords.Audit recording certificate force reading deeds o = EndsAs (MakesOfFile (SearchesFile reading) (MakesProduct PutsSequence) force recording certificate deeds) o
+EndsTwo told TwoWords.World script recording force reading deeds o = EndsAs (MakesOfFile RunsFile (MakesProduct PutsWorld) force script recording deeds) o
+EndsTwo told TwoWords.Live script recording force reading deeds o = EndsLive told script recording deeds o
+EndsTwo told TwoWords.Convert old new force reading deeds o = EndsAs (MakesOfFile CarriesFile (MakesProduct PutsConverted) force old new deeds) o
+EndsTwo told TwoWords.Mend old new force reading deeds o = EndsAs (MakesOfFile MendsFile (MakesProduct PutsMended) force old new deeds) o
+EndsTwo told TwoWords.Export recording new force reading deeds o = EndsAs (MakesOfFile (ExportsFile reading) (MakesProduct PutsExported) force recording new deeds) o
 
 -- the ending of a command without words, which reads standard input with these bytes, if they are known
 abbrev pub EndsBare : NoWord → Option (List ℕ) → Outcome → Type 0
@@ -72,16 +73,16 @@ EndsBare NoWord.Pdus input o = ((bytes : List ℕ) × Has input bytes × EndsLin
 abbrev pub EndsTask : {L : Type 0} → Telling L → Asked → List Deed → Option (List ℕ) → Outcome → Type 0
 EndsTask told Trial deeds input o = (deeds ≡ []) × EndsAs (TriesInput input) o
 EndsTask told (Bare command) deeds input o = (deeds ≡ []) × EndsBare command input o
-EndsTask told (One command word) deeds input o = EndsAs (DoesOne command word deeds) o
-EndsTask told (Two command first second force) deeds input o = EndsTwo told command first second force deeds o
+EndsTask told (One command word reading) deeds input o = EndsAs (DoesOne command word reading deeds) o
+EndsTask told (Two command first second force reading) deeds input o = EndsTwo told command first second force reading deeds o
 EndsTask told (asks.Join pieces made choices force) deeds input o = EndsAs (JoinsPieces pieces force made choices deeds) o
 EndsTask told (asks.Import words force) deeds input o = EndsAs (ImportsNamed words force deeds) o
 EndsTask told (asks.Station words) deeds input o = EndsStation told.passed words deeds input o
-EndsTask told (View view recording filters spelling) deeds input o = EndsAs (ViewsNamed view spelling recording filters deeds) o
-EndsTask told (asks.Prose recording filters) deeds input o = EndsAs (ProseNamed recording filters deeds) o
-EndsTask told (asks.Why recording certificate spelling) deeds input o = EndsAs (WhyNamed spelling recording certificate deeds) o
+EndsTask told (View view recording filters spelling reading) deeds input o = EndsAs (ViewsNamed view spelling reading recording filters deeds) o
+EndsTask told (asks.Prose recording filters reading) deeds input o = EndsAs (ProseNamed reading recording filters deeds) o
+EndsTask told (asks.Why recording certificate spelling reading) deeds input o = EndsAs (WhyNamed spelling reading recording certificate deeds) o
 EndsTask told (asks.Plan source script spelling force) deeds input o = EndsAs (PlansNamed source script spelling force deeds) o
-EndsTask told (asks.Chart recording certificate picture words force) deeds input o = EndsAs (ChartsNamed recording certificate picture words force deeds) o
+EndsTask told (asks.Chart recording certificate picture words force reading) deeds input o = EndsAs (ChartsNamed reading recording certificate picture words force deeds) o
 
 -- HOW WORDS WITHOUT A TASK END: with lack of memory, with the help that they ask for, or with status 2 as a fault of usage, which writes nothing to the output
 abbrev pub EndsUsage : (helps : Bool) → Outcome → Type 0

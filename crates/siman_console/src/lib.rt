@@ -31,9 +31,9 @@ pub use siman_file_commands::{
 };
 pub use siman_outside::{
     CommandLine, Ended, Endpoint, FileKind, FilesFault, JoinForm, Known, LARGEST_CERTIFICATE,
-    LARGEST_RECORDING, Listening, NoWord, Notes, OneWord, Outside, SystemCall, SystemFault, Task,
-    TwoWords, Unread, ViewWord, asks_help, end, file_kind_of, read_words, say_of_certificate,
-    say_of_recording,
+    LARGEST_RECORDING, Listening, NoWord, Notes, OneWord, Outside, Reading, SystemCall,
+    SystemFault, Task, TwoWords, Unread, ViewWord, asks_help, end, file_kind_of, read_words,
+    say_of_certificate, say_of_recording,
 };
 pub use siman_print::Spelling;
 pub use siman_scripts::{

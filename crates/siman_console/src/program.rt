@@ -19,30 +19,35 @@ use siman_file_commands::{
 };
 use siman_lines::Input;
 use siman_outside::{
-    Ended, Ending, Fault, NoWord, Notes, OneWord, Outside, Task, TwoWords, ViewWord, asks_help,
-    conclude, explained, make_of_file, named_by, nothing_named, of_error, read_words, say_of_file,
-    say_of_files, usage_text,
+    Ended, Ending, Fault, NoWord, Notes, OneWord, Outside, Reading, Task, TwoWords, ViewWord,
+    asks_help, conclude, explained, make_of_file, named_by, nothing_named, of_error, read_words,
+    say_of_file, say_of_files, usage_text,
 };
 use siman_print::Spelling;
 use std::alloc::{AllocError, Global};
 use std::io;
 use std::io::Write;
 
-/// Runs a command with one word, and returns its status.
+/// Runs a command with one word, and returns its status. Of the warnings about a recording only that
+/// it is torn is noted.
 fn do_one<'a, O: Outside, W: Write>(
     alloc: Global,
     command: OneWord,
     word: &'a str,
+    reading: Reading,
     outside: &mut O,
     out: &mut W,
+    notes: &mut Notes,
 ) -> Result<u8, Fault<'a>>
-    ensures { Did O.deeds O.holds outside.old outside.new (λ deeds. DoesOne command word.now deeds result (stream (W.contents out.old) (W.contents out.new))) }
+    ensures { Did O.deeds O.holds outside.old outside.new (λ deeds. DoesOne command word.now reading deeds result (stream (W.contents out.old) (W.contents out.new))) }
 {
     match command {
         OneWord::Pdu => show_word(alloc, word, out),
         OneWord::Show => {
-            let notes = &mut Notes::nothing();
-            say_of_file(alloc, ShowCommand, word, outside, out, notes)
+            let mut noted = Notes::nothing();
+            let shown = say_of_file(alloc, ShowCommand, reading, word, outside, out, &mut noted);
+            notes.note_further(noted.further);
+            shown
         }
     }
 }
@@ -53,23 +58,32 @@ fn end_two<'a, O: Links, W: Write, E: Write>(
     alloc: Global,
     command: TwoWords,
     words: (&'a str, &'a str, bool),
+    reading: Reading,
     outside: &mut O,
     out: &mut W,
     errors: &mut E,
     notes: &mut Notes,
 ) -> Ending<'a>
     ensures { let told : Telling O.Line = record { received = O.Line.received; sent = O.Line.sent; failures = O.Line.failures; passed = O.Line.passed } in
-        Did O.deeds O.holds outside.old outside.new (λ deeds. EndsTwo told command words.entry.0.now words.entry.1.now words.entry.2 deeds (outcome_of result (stream (W.contents out.old) (W.contents out.new)) (stream (E.contents errors.old) (E.contents errors.new)))) }
+        Did O.deeds O.holds outside.old outside.new (λ deeds. EndsTwo told command words.entry.0.now words.entry.1.now words.entry.2 reading deeds (outcome_of result (stream (W.contents out.old) (W.contents out.new)) (stream (E.contents errors.old) (E.contents errors.new)))) }
 {
     let (first, second, force) = words;
     let names = (first, second);
     match command {
         TwoWords::Check => conclude(
-            say_of_files(alloc, CheckCommand, names, outside, out, notes),
+            say_of_files(alloc, CheckCommand, reading, names, outside, out, notes),
             errors,
         ),
         TwoWords::Audit => conclude(
-            make_of_file(alloc, AuditCommand, names, force, outside, out, notes),
+            make_of_file(
+                alloc,
+                AuditCommand { reading },
+                names,
+                force,
+                outside,
+                out,
+                notes,
+            ),
             errors,
         ),
         TwoWords::World => conclude(
@@ -86,7 +100,15 @@ fn end_two<'a, O: Links, W: Write, E: Write>(
             errors,
         ),
         TwoWords::Export => conclude(
-            make_of_file(alloc, ExportCommand, names, force, outside, out, notes),
+            make_of_file(
+                alloc,
+                ExportCommand { reading },
+                names,
+                force,
+                outside,
+                out,
+                notes,
+            ),
             errors,
         ),
     }
@@ -99,15 +121,16 @@ fn do_view<'a, O: Outside, W: Write>(
     view: ViewWord,
     words: (&'a str, &'a [&'a str]),
     spelling: Spelling,
+    reading: Reading,
     outside: &mut O,
     out: &mut W,
     notes: &mut Notes,
 ) -> Result<u8, Fault<'a>>
-    ensures { Did O.deeds O.holds outside.old outside.new (λ deeds. ViewsNamed view spelling words.entry.0.now (map (λ word. word.now) words.entry.1.now) deeds result (stream (W.contents out.old) (W.contents out.new))) }
+    ensures { Did O.deeds O.holds outside.old outside.new (λ deeds. ViewsNamed view spelling reading words.entry.0.now (map (λ word. word.now) words.entry.1.now) deeds result (stream (W.contents out.old) (W.contents out.new))) }
 {
     let (recording, words) = words;
     match View::of(alloc, view, words, spelling) {
-        Ok(asked) => say_of_file(alloc, asked, recording, outside, out, notes),
+        Ok(asked) => say_of_file(alloc, asked, reading, recording, outside, out, notes),
         Err(fault) => Err(fault),
     }
 }
@@ -117,15 +140,16 @@ fn do_view<'a, O: Outside, W: Write>(
 fn do_prose<'a, O: Outside, W: Write>(
     alloc: Global,
     words: (&'a str, &'a [&'a str]),
+    reading: Reading,
     outside: &mut O,
     out: &mut W,
     notes: &mut Notes,
 ) -> Result<u8, Fault<'a>>
-    ensures { Did O.deeds O.holds outside.old outside.new (λ deeds. ProseNamed words.entry.0.now (map (λ word. word.now) words.entry.1.now) deeds result (stream (W.contents out.old) (W.contents out.new))) }
+    ensures { Did O.deeds O.holds outside.old outside.new (λ deeds. ProseNamed reading words.entry.0.now (map (λ word. word.now) words.entry.1.now) deeds result (stream (W.contents out.old) (W.contents out.new))) }
 {
     let (recording, words) = words;
     match Prose::of(alloc, words) {
-        Ok(asked) => say_of_file(alloc, asked, recording, outside, out, notes),
+        Ok(asked) => say_of_file(alloc, asked, reading, recording, outside, out, notes),
         Err(fault) => Err(fault),
     }
 }
@@ -146,13 +170,13 @@ fn end_task<'a, O: Links, R: Input<O::Line> + Drop, W: Write, E: Write>(
     match task {
         Task::Trial => conclude(try_input(alloc, input, out), errors),
         Task::Bare(NoWord::Pdus) => end_lines(alloc, input, out, errors),
-        Task::One(command, word) => {
-            let done = do_one(alloc, command, word, outside, out);
+        Task::One(command, word, reading) => {
+            let done = do_one(alloc, command, word, reading, outside, out, notes);
             conclude(done, errors)
         }
-        Task::Two(command, first, second, force) => {
+        Task::Two(command, first, second, force, reading) => {
             let words = (first, second, force);
-            end_two(alloc, command, words, outside, out, errors, notes)
+            end_two(alloc, command, words, reading, outside, out, errors, notes)
         }
         Task::Join(pieces, new, choices, force) => {
             let joined = join_pieces(alloc, pieces, new, force, choices, outside, out);
@@ -163,18 +187,18 @@ fn end_task<'a, O: Links, R: Input<O::Line> + Drop, W: Write, E: Write>(
             conclude(imported, errors)
         }
         Task::Station(words) => end_station(alloc, words, outside, input, out, errors),
-        Task::View(view, recording, words, spelling) => {
+        Task::View(view, recording, words, spelling, reading) => {
             let words = (recording, words);
-            let done = do_view(alloc, view, words, spelling, outside, out, notes);
+            let done = do_view(alloc, view, words, spelling, reading, outside, out, notes);
             conclude(done, errors)
         }
-        Task::Prose(recording, words) => {
-            let done = do_prose(alloc, (recording, words), outside, out, notes);
+        Task::Prose(recording, words, reading) => {
+            let done = do_prose(alloc, (recording, words), reading, outside, out, notes);
             conclude(done, errors)
         }
-        Task::Why(recording, certificate, spelling) => {
+        Task::Why(recording, certificate, spelling, reading) => {
             let names = (recording, certificate);
-            let done = why_named(alloc, names, spelling, outside, out, notes);
+            let done = why_named(alloc, names, spelling, reading, outside, out, notes);
             conclude(done, errors)
         }
         Task::Plan(source, script, spelling, force) => {
@@ -182,9 +206,9 @@ fn end_task<'a, O: Links, R: Input<O::Line> + Drop, W: Write, E: Write>(
             let done = plan_named(alloc, names, spelling, force, outside, out, notes);
             conclude(done, errors)
         }
-        Task::Chart(recording, certificate, picture, steps, force) => {
+        Task::Chart(recording, certificate, picture, steps, force, reading) => {
             let names = (recording, certificate, picture);
-            let charted = chart_named(alloc, names, force, steps, outside, out, notes);
+            let charted = chart_named(alloc, names, force, reading, steps, outside, out, notes);
             conclude(charted, errors)
         }
     }

@@ -1,6 +1,7 @@
 -- The text of a recording that is shown, in its parts.
 use Rattle.std.proofs.Common.{◌≡◌, List, ℕ, ◌++◌, length, Option, Result, Err, inl, inr, refl}
 use Rattle.exercise_recording.specs.Reading.{recording_at}
+use Rattle.siman_outside.specs.declared.commands.Reading.TheVariants as readings
 use Rattle.siman_outside.specs.declared.fault.Fault.{Fault}
 use Rattle.siman_outside.specs.declared.limits.TheConstants.{LARGEST_RECORDING}
 use Rattle.siman_outside.specs.Outside.{Given, Stream}
@@ -18,7 +19,7 @@ pub whole_text : (r : PlainRecording) (line : List ℕ) → line ≡ line_spelle
 whole_text r line e = rw e refl
 
 -- what is shown of a file
-pub shown_file : (known : Option (List ℕ)) (answered : Result ℕ Fault) (out : Stream) → SaysOfBytes ShowsRecording known answered out
+pub shown_file : (known : Option (List ℕ)) (answered : Result ℕ Fault) (out : Stream) → SaysOfBytes readings.Whole ShowsRecording known answered out
     → Given known (λ bytes. GivesShow (recording_at LARGEST_RECORDING bytes) answered out.old out.new)
 shown_file known answered out (bytes, has, inl (fault, inl (bad, none, why), is, keeps)) = (bytes, has, (Err fault, rw why (none, keeps), is))
 shown_file known answered out (bytes, has, inl (fault, inr (inl why), is, keeps)) = (bytes, has, (Err fault, rw why keeps, is))

@@ -3,6 +3,7 @@ use Rattle.std.proofs.Common.{◌≡◌, ℕ, List, Option, true, false, ◌==�
 use Rattle.std.specs.Io.KnownBytes.{Keeps}
 use Rattle.exercise_recording.specs.Reading.{recording_at}
 use Rattle.exercise_check.specs.Certificate.{certificate_at}
+use Rattle.siman_outside.specs.declared.commands.Reading.TheVariants as readings
 use Rattle.siman_outside.specs.declared.fault.Fault.{Fault}
 use Rattle.siman_outside.specs.declared.files_fault.FilesFault.{FilesFault}
 use Rattle.siman_outside.specs.declared.files_fault.FilesFault.TheVariants.{Recording, Certificate, Write, Memory}
@@ -29,7 +30,7 @@ uncertified recorded certified r fault old new read (inr (inl is)) keeps = (Err 
 uncertified recorded certified r fault old new read (inr (inr is)) keeps = (Err (files_fault fault), rw is keeps, rw is refl)
 
 -- WHAT IS SAID OF TWO FILES
-pub judged_files : (recording certificate : Option (List ℕ)) (answered : Result ℕ Fault) (out : Stream) → SaysOfBoth ChecksCertificate recording certificate answered out
+pub judged_files : (recording certificate : Option (List ℕ)) (answered : Result ℕ Fault) (out : Stream) → SaysOfBoth readings.Whole ChecksCertificate recording certificate answered out
     → Given recording (λ bytes. Given certificate (λ text. GivesCheck (recording_at LARGEST_RECORDING bytes) (certificate_at LARGEST_CERTIFICATE text) answered out.old out.new))
 judged_files recording certificate answered out (bytes, has, inl (fault, why, is, keeps)) =
     (bytes, has, of_any _ certificate (λ text. rw is (unread _ (certificate_at LARGEST_CERTIFICATE text) fault out.old out.new why keeps)))

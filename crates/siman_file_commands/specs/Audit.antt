@@ -15,12 +15,11 @@ use Rattle.siman_outside.specs.declared.fault.Fault.{Fault}
 use Rattle.siman_outside.specs.declared.product.Product.{Product}
 use Rattle.siman_outside.specs.declared.product.Product.TheVariants.{File, Nothing}
 use Rattle.siman_file_commands.specs.declared.audit.SequenceTexts.{SequenceTexts}
-use Rattle.siman_outside.specs.Recorded.{Recorded, IsUnsearched, explained_text}
+use Rattle.siman_outside.specs.declared.commands.Reading.{Reading}
+use Rattle.siman_outside.specs.Recorded.{Recorded, recording_by, IsUnsearched, explained_text}
 use Rattle.siman_outside.specs.Ending.{EndsWith}
 use Rattle.siman_outside.specs.Outside.{Given, Stream}
 use Rattle.siman_outside.specs.Making.{PutsBoth, PutsProduct}
-use Rattle.siman_outside.specs.declared.limits.TheConstants.{LARGEST_RECORDING}
-use Rattle.exercise_recording.specs.Reading.{recording_at}
 use Rattle.siman_print.specs.Spelled.{lines_text}
 use Rattle.exercise_conflict.specs.Blocked.{blocked_lines}
 
@@ -94,6 +93,6 @@ abbrev pub EndsAudit : Recorded → (status : ℕ) → (file out errors : Stream
 EndsAudit recorded status file out errors =
     (answered : Result ℕ Fault) × GivesAudit recorded answered file out × EndsWith answered status errors.old errors.new
 
--- THE RESULT FOR A FILE with these bytes, if they are known
-abbrev pub SearchesFile : (known : Option (List ℕ)) → Result Finding Fault → Type 0
-SearchesFile known found = Given known (λ bytes. Searches (recording_at LARGEST_RECORDING bytes) found)
+-- THE RESULT FOR A FILE with these bytes, if they are known, as they are read
+abbrev pub SearchesFile : Reading → (known : Option (List ℕ)) → Result Finding Fault → Type 0
+SearchesFile reading known found = Given known (λ bytes. Searches (recording_by reading bytes) found)

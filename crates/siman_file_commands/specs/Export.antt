@@ -14,7 +14,8 @@ use Rattle.siman_outside.specs.declared.product.Product.{Product}
 use Rattle.siman_outside.specs.declared.product.Product.TheVariants.{File, Nothing}
 use Rattle.siman_outside.specs.Making.{PutsBoth}
 use Rattle.siman_outside.specs.Outside.{Given, Stream}
-use Rattle.siman_outside.specs.Recorded.{Recorded, IsUnsearched}
+use Rattle.siman_outside.specs.declared.commands.Reading.{Reading}
+use Rattle.siman_outside.specs.Recorded.{Recorded, recording_by, IsUnsearched}
 use Rattle.siman_file_commands.specs.declared.export.ExportedFile.{ExportedFile}
 
 -- the line `exported packets=N told=N`: entries that have a packet, and states told, which have none
@@ -39,9 +40,9 @@ Exports recorded (Ok (File exported)) =
 Exports recorded (Ok (Nothing text)) = ⊥
 Exports recorded (Err fault) = IsUnsearched recorded fault
 
--- THE RESULT FOR A FILE with these bytes, if they are known
-abbrev pub ExportsFile : (known : Option (List ℕ)) → Result (Product ExportedFile) Fault → Type 0
-ExportsFile known result = Given known (λ bytes. Exports (recording_at LARGEST_RECORDING bytes) result)
+-- THE RESULT FOR A FILE with these bytes, if they are known, as they are read
+abbrev pub ExportsFile : Reading → (known : Option (List ℕ)) → Result (Product ExportedFile) Fault → Type 0
+ExportsFile reading known result = Given known (λ bytes. Exports (recording_by reading bytes) result)
 
 -- The capture of a recording is written to the file, and then the line, with status 0; or memory ran out before anything was.
 abbrev pub PutsCapture : PlainRecording → (line : List ℕ) → Result ℕ Fault → (file out : Stream) → Type 0

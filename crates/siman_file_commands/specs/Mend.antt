@@ -11,7 +11,7 @@ use Rattle.siman_print.specs.Spelled.{line_text}
 use Rattle.siman_outside.specs.declared.fault.Fault.{Fault}
 use Rattle.siman_outside.specs.declared.fault.Fault.TheVariants.{Recording, Memory}
 use Rattle.siman_file_commands.specs.declared.mend.MendedFile.{MendedFile}
-use Rattle.siman_file_commands.specs.declared.mend.TheConstants.{LARGEST_TORN_RECORDING}
+use Rattle.siman_outside.specs.declared.limits.TheConstants.{LARGEST_TORN_RECORDING}
 use Rattle.siman_print.specs.CountLine.{counted}
 use Rattle.siman_outside.specs.declared.product.Product.{Product}
 use Rattle.siman_outside.specs.declared.product.Product.TheVariants.{File, Nothing}

@@ -16,6 +16,7 @@ use Rattle.exercise_conflict.specs.Told.{conflict_lines, conflict_entries, refus
 use Rattle.exercise_log.specs.Named.{named_lines}
 use Rattle.siman_outside.specs.Making.{Answered}
 use Rattle.siman_outside.specs.Outside.{Stream, Deed}
+use Rattle.siman_outside.specs.declared.commands.Reading.{Reading}
 use Rattle.siman_outside.specs.Recorded.{SaysOfBytes, SaysOfBoth}
 use Rattle.siman_outside.specs.Saying.{SaysOfFile, SaysOfFiles}
 use Rattle.siman_outside.specs.AnswerText.{Answers}
@@ -72,7 +73,7 @@ SaysWhyNot spelling r steps text status =
 
 -- ---- by the names of files
 
--- THE ANSWER OF `why` for the name of a recording, and perhaps of a certificate: they are opened in that order before either is read
-abbrev pub WhyNamed : Spelling → (name : List ℕ) → (other : Option (List ℕ)) → List Deed → Answered → (out : Stream) → Type 0
-WhyNamed spelling name None = SaysOfFile (SaysOfBytes (λ r. Answers (SaysWhy spelling r))) name
-WhyNamed spelling name (Some other) = SaysOfFiles (SaysOfBoth (λ r steps. Answers (SaysWhyNot spelling r steps))) name other
+-- THE ANSWER OF `why` for the name of a recording, which is read so, and perhaps of a certificate: they are opened in that order before either is read
+abbrev pub WhyNamed : Spelling → Reading → (name : List ℕ) → (other : Option (List ℕ)) → List Deed → Answered → (out : Stream) → Type 0
+WhyNamed spelling reading name None = SaysOfFile (SaysOfBytes reading (λ r. Answers (SaysWhy spelling r))) name
+WhyNamed spelling reading name (Some other) = SaysOfFiles (SaysOfBoth reading (λ r steps. Answers (SaysWhyNot spelling r steps))) name other

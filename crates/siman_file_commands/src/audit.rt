@@ -17,7 +17,7 @@ use exercise_check::{Certificate, good_steps_have_no_cause, write_certificate};
 use exercise_conflict::put_blocked;
 use exercise_model::{ExerciseLog, entries_have_one_place, what_explains_holds};
 use siman_outside::{
-    Fault, Making, Notes, OfFile, OfRecording, Product, end, put_of_file, put_settled,
+    Fault, Making, Notes, OfFile, OfRecording, Product, Reading, end, put_of_file, put_settled,
     say_of_recording,
 };
 use siman_print::{Spelling, counted};
@@ -35,7 +35,10 @@ pub struct SequenceTexts {
 /// The command `audit`: the certificate of a sequence that explains a recording, or its blocked
 /// list if there is no such sequence.
 #[derive(Drop)]
-pub struct AuditCommand;
+pub struct AuditCommand {
+    /// How the recording is read.
+    pub reading: Reading,
+}
 
 /// Reads a recording and searches for a sequence that explains it. If there is such a sequence,
 /// writes its whole certificate to the file, then `explained steps=N` to `out`, and returns status
@@ -60,7 +63,10 @@ pub fn audit_command<R: Read + Drop, F: Write, W: Write, E: Write>(
         (bytes : List ℕ) × Has (R.remaining recording) bytes × EndsAudit (recording_at LARGEST_RECORDING bytes) result file out errors }
     ensures silent { result ≤ 1 → Keeps (E.contents errors.old) (E.contents errors.new) }
 {
-    let found = put_of_file(alloc, AuditCommand, recording, certificate, out);
+    let command = AuditCommand {
+        reading: Reading::Whole,
+    };
+    let found = put_of_file(alloc, command, recording, certificate, out);
     end(found, errors).status
 }
 
@@ -87,7 +93,7 @@ impl OfFile for AuditCommand {
 
     type Made = SequenceTexts;
 
-    ghost reads = { λ _. SearchesFile };
+    ghost reads = { λ command. SearchesFile command.reading };
 
     fn read<R: Read + Drop>(
         self,
@@ -96,7 +102,8 @@ impl OfFile for AuditCommand {
         notes: &mut Notes,
     ) -> Result<Product<SequenceTexts>, Fault<'static>> {
         let mut nothing: Vec<u8> = Vec::new(alloc);
-        say_of_recording(alloc, self, file, &mut nothing, notes)
+        let reading = self.reading;
+        say_of_recording(alloc, self, reading, file, &mut nothing, notes)
     }
 }
 

@@ -11,7 +11,7 @@ ghost use Rattle.siman_file_commands.specs.Check.{Judges, judged_status, files_f
 use byte_files::put;
 use exercise_check::{Certificate, CheckFault, check, no_line, report_text};
 use exercise_model::ExerciseLog;
-use siman_outside::{Fault, FilesFault, Notes, OfCertificate, end, say_of_certificate};
+use siman_outside::{Fault, FilesFault, Notes, OfCertificate, Reading, end, say_of_certificate};
 use std::alloc::Global;
 use std::io::{Read, Write};
 
@@ -34,7 +34,16 @@ pub fn check_files<R: Read + Drop, C: Read + Drop, W: Write>(
         × Judges (recording_at LARGEST_RECORDING bytes) (certificate_at LARGEST_CERTIFICATE text) result (W.contents out.old) (W.contents out.new)) }
 {
     let notes = &mut Notes::nothing();
-    match say_of_certificate(alloc, CheckCommand, recording, certificate, out, notes) {
+    let reading = Reading::Whole;
+    match say_of_certificate(
+        alloc,
+        CheckCommand,
+        reading,
+        recording,
+        certificate,
+        out,
+        notes,
+    ) {
         Ok(status) => Ok(status == 0),
         Err(fault) => Err(files_fault(fault)),
     }
@@ -57,7 +66,16 @@ pub fn check_command<R: Read + Drop, C: Read + Drop, W: Write, E: Write>(
     ensures silent { result ≤ 1 → Keeps (E.contents errors.old) (E.contents errors.new) }
 {
     let notes = &mut Notes::nothing();
-    let judged = say_of_certificate(alloc, CheckCommand, recording, certificate, out, notes);
+    let reading = Reading::Whole;
+    let judged = say_of_certificate(
+        alloc,
+        CheckCommand,
+        reading,
+        recording,
+        certificate,
+        out,
+        notes,
+    );
     end(judged, errors).status
 }
 

@@ -7,8 +7,10 @@ ghost use Rattle.siman_file_commands.specs.Export.{exported_line, GivesLine};
 ghost use Rattle.siman_print.specs.Spelled.{line_text};
 
 use exercise_model::ExerciseLog;
-use exercise_recording::{RecordingView, export, fetch_recording, told_count};
-use siman_outside::{Fault, LARGEST_RECORDING, Making, Notes, OfFile, Product, put_settled};
+use exercise_recording::{RecordingView, export, told_count};
+use siman_outside::{
+    Fault, LARGEST_RECORDING, Making, Notes, OfFile, Product, Reading, put_settled, read_bytes,
+};
 use siman_print::{Field, Value, named_line};
 use std::alloc::{AllocError, Global};
 use std::io::{Read, Write};
@@ -65,22 +67,25 @@ impl Making for ExportedFile {
 
 /// The command `export`, which makes a capture of a recording.
 #[derive(Drop)]
-pub struct ExportCommand;
+pub struct ExportCommand {
+    /// How the recording is read.
+    pub reading: Reading,
+}
 
 impl OfFile for ExportCommand {
     ghost use Rattle.siman_file_commands.specs.Export.{ExportsFile};
 
     type Made = ExportedFile;
 
-    ghost reads = { λ _. ExportsFile };
+    ghost reads = { λ command. ExportsFile command.reading };
 
     fn read<R: Read + Drop>(
         self,
         alloc: Global,
         file: R,
-        _notes: &mut Notes,
+        notes: &mut Notes,
     ) -> Result<Product<ExportedFile>, Fault<'static>> {
-        let bytes = fetch_recording(alloc, file, LARGEST_RECORDING)?;
+        let bytes = read_bytes(alloc, self.reading, file, notes)?;
         let line = judged_line(alloc, &bytes)?;
         Ok(Product::File(ExportedFile { bytes, line }))
     }

@@ -2,20 +2,16 @@
 
 ghost use Rattle.std.specs.Prelude.{◌≡◌, ℕ, List, IfOk, string_bytes};
 ghost use Rattle.exercise_recording.specs.Mending.{mended_at};
-ghost use Rattle.siman_file_commands.specs.declared.mend.TheConstants.{LARGEST_TORN_RECORDING};
+ghost use Rattle.siman_outside.specs.declared.limits.TheConstants.{LARGEST_TORN_RECORDING};
 ghost use Rattle.siman_outside.specs.Outside.{Has};
 ghost use Rattle.siman_file_commands.specs.Mend.{torn_line, mended_text, Mends};
 ghost use Rattle.siman_print.specs.Spelled.{line_text};
 
 use exercise_recording::{FormatFault, Mended, Mending};
-use siman_outside::{Fault, Making, Notes, OfFile, Product, put_settled};
+use siman_outside::{Fault, LARGEST_TORN_RECORDING, Making, Notes, OfFile, Product, put_settled};
 use siman_print::{Field, Value, counted, named_line};
 use std::alloc::{AllocError, Global};
 use std::io::{Read, Write};
-
-/// Size in bytes of the largest recording that is mended. The result is at most five bytes longer,
-/// so each mended recording can be read.
-pub(crate) const LARGEST_TORN_RECORDING: u64 = 268_435_451;
 
 /// The whole part of a recording, to be written with an end, and the line of the answer.
 #[derive(Drop)]

@@ -17,7 +17,8 @@ use exercise_findings::{Account, Findings};
 use exercise_log::Entries;
 use exercise_model::ExerciseLog;
 use siman_outside::{
-    AnswerText, Fault, Notes, OfCertificate, OfRecording, Outside, say_of_file, say_of_files,
+    AnswerText, Fault, Notes, OfCertificate, OfRecording, Outside, Reading, say_of_file,
+    say_of_files,
 };
 use siman_print::Spelling;
 use std::alloc::{AllocError, Global};
@@ -43,24 +44,25 @@ pub struct WhyCommand {
 }
 
 /// Opens the file of a recording, then that of a certificate, if one is named, before either is
-/// read; writes the answer of `why` and returns the status.
+/// read; writes the answer of `why` and returns the status. The recording is read as `reading` says.
 pub fn why_named<'a, O: Outside, W: Write>(
     alloc: Global,
     names: (&'a str, Option<&'a str>),
     spelling: Spelling,
+    reading: Reading,
     outside: &mut O,
     out: &mut W,
     notes: &mut Notes,
 ) -> Result<u8, Fault<'a>>
-    ensures { Did O.deeds O.holds outside.old outside.new (λ deeds. WhyNamed spelling names.entry.0.now (option_map (λ other. other.now) names.entry.1) deeds result (stream (W.contents out.old) (W.contents out.new))) }
+    ensures { Did O.deeds O.holds outside.old outside.new (λ deeds. WhyNamed spelling reading names.entry.0.now (option_map (λ other. other.now) names.entry.1) deeds result (stream (W.contents out.old) (W.contents out.new))) }
 {
     let (recording, certificate) = names;
     let command = WhyCommand { spelling };
     match certificate {
-        None => say_of_file(alloc, command, recording, outside, out, notes),
+        None => say_of_file(alloc, command, reading, recording, outside, out, notes),
         Some(certificate) => {
             let names = (recording, certificate);
-            say_of_files(alloc, command, names, outside, out, notes)
+            say_of_files(alloc, command, reading, names, outside, out, notes)
         }
     }
 }

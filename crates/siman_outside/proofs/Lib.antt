@@ -8,3 +8,4 @@ mod Searches
 mod Verdicts
 pub mod Offered
 mod Lasts
+mod Torn

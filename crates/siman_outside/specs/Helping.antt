@@ -3,7 +3,8 @@ use Rattle.std.specs.Prelude.{ℕ, ◌-◌, Bool, true, false, List, [], ◌∷�
 use Rattle.std.specs.Str.{bytes_eq}
 use Rattle.siman_outside.specs.declared.commands.Takes.{Takes}
 use Rattle.siman_outside.specs.declared.commands.Takes.TheVariants as shapes
-use Rattle.siman_outside.specs.Words.{is_option, is_choice, most, takes_json, takes_prose, takes_force, takes_named}
+use Rattle.siman_outside.specs.Options.{most, takes_json, takes_prose, takes_force, takes_torn}
+use Rattle.siman_outside.specs.Words.{is_option, is_choice, takes_named}
 
 -- `--help`, or `-h` and more; `--version`, or `-V` and more
 abbrev pub is_short : (letter : ℕ) → List ℕ → Bool
@@ -20,21 +21,22 @@ abbrev pub left_of : (option word : List ℕ) → (left : ℕ) → ℕ
 left_of option word left = if bytes_eq word option then left - 1 else left
 
 -- a refused word: an option that is not allowed any more or not taken, or one name too many
-abbrev pub is_refused : (names json prose force : ℕ) → List ℕ → Bool
-is_refused names json prose force word =
+abbrev pub is_refused : (names json prose force torn : ℕ) → List ℕ → Bool
+is_refused names json prose force torn word =
     if bytes_eq word (codes "--json") then json == 0
     else if bytes_eq word (codes "--prose") then prose == 0
     else if bytes_eq word (codes "--force") then force == 0
+    else if bytes_eq word (codes "--torn") then torn == 0
     else (names == 0) || is_option word
 
 -- words after a command ask for its help, before any word that it refuses
-abbrev pub helps_behind : (names json prose force : ℕ) → List (List ℕ) → Bool
-helps_behind names json prose force [] = false
-helps_behind names json prose force (word ∷ words) =
+abbrev pub helps_behind : (names json prose force torn : ℕ) → List (List ℕ) → Bool
+helps_behind names json prose force torn [] = false
+helps_behind names json prose force torn (word ∷ words) =
     is_help word
-    || (if is_refused names json prose force word then false
+    || (if is_refused names json prose force torn word then false
     else helps_behind (if is_choice word then names else names - 1) (left_of (codes "--json") word json) (left_of (codes "--prose") word prose) (left_of (codes "--force") word force)
-    words)
+    (left_of (codes "--torn") word torn) words)
 
 -- the largest number of names that a command takes, of so many words
 abbrev pub most_names : Takes → (words : ℕ) → ℕ
@@ -47,7 +49,7 @@ most_names takes words = words
 
 abbrev pub helps : Option Takes → List (List ℕ) → Bool
 helps None words = false
-helps (Some takes) words = helps_behind (most_names takes (length words)) (most (takes_json takes)) (most (takes_prose takes)) (most (takes_force takes)) words
+helps (Some takes) words = helps_behind (most_names takes (length words)) (most (takes_json takes)) (most (takes_prose takes)) (most (takes_force takes)) (most (takes_torn takes)) words
 
 -- `help` alone, or before the name of a command or itself
 abbrev pub is_topic : List (List ℕ) → Bool

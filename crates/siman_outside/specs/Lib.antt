@@ -12,6 +12,7 @@ pub mod FileKinds
 pub mod Notes
 pub mod ImportWords
 pub mod Hosts
+pub mod Options
 pub mod Words
 pub mod Helping
 pub mod Reasons

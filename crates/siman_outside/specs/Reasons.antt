@@ -4,6 +4,8 @@ use Rattle.std.specs.Io.KnownBytes.{Keeps}
 use Rattle.byte_files.specs.Writing.{Writes}
 use Rattle.byte_files.specs.declared.output.WriteFailed.{WriteFailed}
 use Rattle.byte_files.specs.Pieces.{five, pieces_text}
+use Rattle.exercise_recording.specs.declared.format_fault.FormatFault.{FormatFault}
+use Rattle.exercise_recording.specs.FaultText.{name_of, place_of}
 use Rattle.siman_print.specs.Records.{line_end}
 use Rattle.siman_outside.specs.declared.fault.Fault.{Fault}
 use Rattle.siman_outside.specs.declared.fault.Fault.TheVariants.{BadLine, UnknownStation, SourceLine, Move, Step}
@@ -59,6 +61,7 @@ step_text (suc last) = five (codes "the number of steps is ") (decimal (suc last
 abbrev pub reason_words : Reason → List ℕ
 reason_words (reasons.Short text) = short_bytes text
 reason_words (reasons.Text pieces) = pieces_text pieces
+reason_words (reasons.Both first second) = pieces_text first ++ pieces_text second
 
 -- The text says that a file is no script and looks like one of another kind.
 abbrev pub IsForeign : (text : List ℕ) → Type 0
@@ -108,9 +111,17 @@ lacking_text dropped fragments bundled =
     (words_if fragments (codes " parts of datagrams are missing (fragments);")) (words_if bundled (codes " datagrams of several PDUs are not read (bundled);"))
     (codes " the counts say how many")
 
+-- A recording is torn: its fault, and how many entries are read of it.
+abbrev pub torn_text : FormatFault → List ℕ
+torn_text fault = five (codes "the recording is torn, ") (name_of fault) (codes " at ") (decimal (place_of fault)) (codes ": ")
+
+abbrev pub kept_text : (entries : ℕ) → List ℕ
+kept_text entries = five (codes "its entries that stand whole before that are read, ") (decimal entries) (codes " in all") [] []
+
 abbrev pub warning_text : Warning → List ℕ
 warning_text (warnings.NothingMeant datagrams exercise) = meant_text datagrams exercise
 warning_text (warnings.NoSuchStation line site application) = nobody_text line site application
+warning_text (warnings.Torn fault entries) = torn_text fault ++ kept_text entries
 warning_text (warnings.NotWhole dropped fragments bundled) = lacking_text dropped fragments bundled
 warning_text (warnings.Unopened text) = short_bytes text
 

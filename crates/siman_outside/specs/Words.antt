@@ -17,11 +17,14 @@ use Rattle.siman_outside.specs.declared.commands.JoinForm.{JoinForm}
 use Rattle.siman_outside.specs.declared.commands.JoinForm.TheVariants.{Open, Closed}
 use Rattle.siman_outside.specs.declared.commands.ImportWords.{ImportWords}
 use Rattle.siman_outside.specs.declared.commands.Listening.{Listening}
+use Rattle.siman_outside.specs.declared.commands.Reading.{Reading}
+use Rattle.siman_outside.specs.declared.commands.Reading.TheVariants.{Whole, Torn}
 use Rattle.siman_outside.specs.declared.commands.StationWords.{StationWords}
 use Rattle.siman_outside.specs.declared.commands.Takes.{Takes}
 use Rattle.siman_outside.specs.declared.commands.Takes.TheVariants as shapes
 use Rattle.siman_outside.specs.declared.commands.Task.{Task}
 use Rattle.siman_outside.specs.declared.commands.Task.TheVariants as tasks
+use Rattle.siman_outside.specs.Options.{takes_json, takes_prose, takes_force, takes_torn, most}
 use Rattle.siman_outside.specs.ImportWords.{Choices, choices_by, choices_of}
 
 -- the words of a station: a script, the station's address, its recording, its socket and its peers,
@@ -48,10 +51,11 @@ pub record ImportAsked : Type 0 where
 pub data Asked : Type 0 where
   Trial : Asked
   Bare : NoWord → Asked
-  One : OneWord → (word : List ℕ) → Asked
-  -- a command, its two words, and whether an existing file with the second name is replaced, for a
-  -- command that makes one
-  Two : TwoWords → (first second : List ℕ) → (force : Bool) → Asked
+  -- a command, its word, and how it is read where it is a recording
+  One : OneWord → (word : List ℕ) → Reading → Asked
+  -- a command, its two words, whether an existing file with the second name is replaced, for a
+  -- command that makes one, and how the first is read where it is a recording
+  Two : TwoWords → (first second : List ℕ) → (force : Bool) → Reading → Asked
   -- the pieces of an exercise, the file to make, the form that it is to have, if the words give
   -- one, and whether an existing file is replaced
   Join : (pieces : List (List ℕ)) → (made : List ℕ) → JoinChoices → (force : Bool) → Asked
@@ -59,18 +63,21 @@ pub data Asked : Type 0 where
   Import : ImportAsked → (force : Bool) → Asked
   -- a station that runs over the network
   Station : StationAsked → Asked
-  -- a view of a recording, the words that choose among its rows, and their spelling
-  View : ViewWord → (recording : List ℕ) → (filters : List (List ℕ)) → Spelling → Asked
-  -- the sentences of a review of a recording, and the words that choose among its rows
-  Prose : (recording : List ℕ) → (filters : List (List ℕ)) → Asked
-  -- what contradicts what in a recording, or in a certificate of it, if the words name one
-  Why : (recording : List ℕ) → (certificate : Option (List ℕ)) → Spelling → Asked
+  -- a view of a recording, the words that choose among its rows, their spelling, and how the
+  -- recording is read
+  View : ViewWord → (recording : List ℕ) → (filters : List (List ℕ)) → Spelling → Reading → Asked
+  -- the sentences of a review of a recording, the words that choose among its rows, and how the
+  -- recording is read
+  Prose : (recording : List ℕ) → (filters : List (List ℕ)) → Reading → Asked
+  -- what contradicts what in a recording, or in a certificate of it, if the words name one, and
+  -- how the recording is read
+  Why : (recording : List ℕ) → (certificate : Option (List ℕ)) → Spelling → Reading → Asked
   -- what each line of a source does, the plain script to make, if the words name one, the spelling of the rows, and
   -- whether an existing file is replaced
   Plan : (source : List ℕ) → (script : Option (List ℕ)) → Spelling → (force : Bool) → Asked
   -- the picture of a recording in the sequence of a certificate, the file to make, the words that
-  -- choose the shown steps, and whether an existing file is replaced
-  Chart : (recording certificate picture : List ℕ) → (steps : List (List ℕ)) → (force : Bool) → Asked
+  -- choose the shown steps, whether an existing file is replaced, and how the recording is read
+  Chart : (recording certificate picture : List ℕ) → (steps : List (List ℕ)) → (force : Bool) → Reading → Asked
 
 -- the task with its words as texts, given the text of each word
 abbrev pub named_by : {S : Type 0} → (text : S → List ℕ) → StationWords S → StationAsked
@@ -96,16 +103,16 @@ import_named words = record {
 abbrev pub asked_by : {S : Type 0} → (text : S → List ℕ) → Task S → Asked
 asked_by text tasks.Trial = Trial
 asked_by text (tasks.Bare command) = Bare command
-asked_by text (tasks.One command word) = One command word.now
-asked_by text (tasks.Two command first second force) = Two command first.now second.now force
+asked_by text (tasks.One command word reading) = One command word.now reading
+asked_by text (tasks.Two command first second force reading) = Two command first.now second.now force reading
 asked_by text (tasks.Join pieces made choices force) = Join (map text pieces.now) made.now choices force
 asked_by text (tasks.Import words force) = Import (import_named words) force
 asked_by text (tasks.Station words) = Station (named_by text words)
-asked_by text (tasks.View view recording filters spelling) = View view recording.now (map text filters.now) spelling
-asked_by text (tasks.Prose recording filters) = Prose recording.now (map text filters.now)
-asked_by text (tasks.Why recording certificate spelling) = Why recording.now (option_map (λ word. word.now) certificate) spelling
+asked_by text (tasks.View view recording filters spelling reading) = View view recording.now (map text filters.now) spelling reading
+asked_by text (tasks.Prose recording filters reading) = Prose recording.now (map text filters.now) reading
+asked_by text (tasks.Why recording certificate spelling reading) = Why recording.now (option_map (λ word. word.now) certificate) spelling reading
 asked_by text (tasks.Plan source script spelling force) = Plan source.now (option_map (λ word. word.now) script) spelling force
-asked_by text (tasks.Chart recording certificate picture steps force) = Chart recording.now certificate.now picture.now (map text steps.now) force
+asked_by text (tasks.Chart recording certificate picture steps force reading) = Chart recording.now certificate.now picture.now (map text steps.now) force reading
 
 -- an option: a word that begins with a hyphen and is longer than one byte
 abbrev pub is_option : List ℕ → Bool
@@ -118,22 +125,23 @@ times wanted (word ∷ words) = if bytes_eq word wanted then times wanted words 
 
 -- an option that some commands take, anywhere after the command
 abbrev pub is_choice : List ℕ → Bool
-is_choice word = bytes_eq word (codes "--json") || (bytes_eq word (codes "--prose") || bytes_eq word (codes "--force"))
+is_choice word = bytes_eq word (codes "--json") || (bytes_eq word (codes "--prose") || (bytes_eq word (codes "--force") || bytes_eq word (codes "--torn")))
 
 -- the words after a command without these options
 abbrev pub names_in : List (List ℕ) → List (List ℕ)
 names_in [] = []
 names_in (word ∷ words) = if is_choice word then names_in words else word ∷ names_in words
 
--- the names after a command, and how many times `--json`, `--prose` and `--force` occur among them
+-- the names after a command, and how many times `--json`, `--prose`, `--force` and `--torn` occur among them
 pub record Behind : Type 0 where
   pub names : List (List ℕ)
   pub json : ℕ
   pub prose : ℕ
   pub force : ℕ
+  pub torn : ℕ
 
 abbrev pub behind_of : List (List ℕ) → Behind
-behind_of words = record { names = names_in words; json = times (codes "--json") words; prose = times (codes "--prose") words; force = times (codes "--force") words }
+behind_of words = record { names = names_in words; json = times (codes "--json") words; prose = times (codes "--prose") words; force = times (codes "--force") words; torn = times (codes "--torn") words }
 
 -- what the named command takes by a table, if it is in the table
 abbrev pub takes_of : List (List ℕ × Takes) → (name : List ℕ) → Option Takes
@@ -153,13 +161,14 @@ abbrev pub bare_asked : NoWord → List (List ℕ) → Option Asked
 bare_asked command [] = Some (Bare command)
 bare_asked command words = None
 
-abbrev pub one_asked : OneWord → List (List ℕ) → Option Asked
-one_asked command (word ∷ []) = if is_option word then None else Some (One command word)
-one_asked command words = None
+abbrev pub one_asked : OneWord → Reading → List (List ℕ) → Option Asked
+one_asked command reading (word ∷ []) = if is_option word then None else Some (One command word reading)
+one_asked command reading words = None
 
-abbrev pub two_asked : TwoWords → (force : Bool) → List (List ℕ) → Option Asked
-two_asked command force (first ∷ second ∷ []) = if is_option first || is_option second then None else Some (Two command first second force)
-two_asked command force words = None
+abbrev pub two_asked : TwoWords → (force : Bool) → Reading → List (List ℕ) → Option Asked
+two_asked command force reading (first ∷ second ∷ []) =
+    if is_option first || is_option second then None else Some (Two command first second force reading)
+two_asked command force reading words = None
 
 -- the split of a word and the words after it, given the split of those
 abbrev pub before_last : List ℕ → Option (List (List ℕ) × List ℕ) → List (List ℕ) × List ℕ
@@ -281,23 +290,28 @@ station_asked words = let p = listening_apart words in if has_option p.0 then No
 abbrev pub spelling_by : (json : ℕ) → Spelling
 spelling_by json = if json == 0 then Text else Json
 
+-- how a recording is read, given how many times `--torn` occurs
+abbrev pub reading_by : (torn : ℕ) → Reading
+reading_by torn = if torn == 0 then Whole else Torn
+
 -- A VIEW needs a recording; the words after it choose among the rows
-abbrev pub view_asked : ViewWord → Spelling → List (List ℕ) → Option Asked
-view_asked view spelling [] = None
-view_asked view spelling (recording ∷ filters) =
-    if is_option recording || has_option filters then None else Some (View view recording filters spelling)
+abbrev pub view_asked : ViewWord → Spelling → Reading → List (List ℕ) → Option Asked
+view_asked view spelling reading [] = None
+view_asked view spelling reading (recording ∷ filters) =
+    if is_option recording || has_option filters then None else Some (View view recording filters spelling reading)
 
 -- THE SENTENCES OF A REVIEW need a recording; the words after it choose among the rows
-abbrev pub prose_asked : List (List ℕ) → Option Asked
-prose_asked [] = None
-prose_asked (recording ∷ filters) = if is_option recording || has_option filters then None else Some (Prose recording filters)
+abbrev pub prose_asked : Reading → List (List ℕ) → Option Asked
+prose_asked reading [] = None
+prose_asked reading (recording ∷ filters) =
+    if is_option recording || has_option filters then None else Some (Prose recording filters reading)
 
 -- WHY needs a recording, and takes a certificate
-abbrev pub why_asked : Spelling → List (List ℕ) → Option Asked
-why_asked spelling (recording ∷ []) = if is_option recording then None else Some (Why recording None spelling)
-why_asked spelling (recording ∷ certificate ∷ []) =
-    if is_option recording || is_option certificate then None else Some (Why recording (Some certificate) spelling)
-why_asked spelling words = None
+abbrev pub why_asked : Spelling → Reading → List (List ℕ) → Option Asked
+why_asked spelling reading (recording ∷ []) = if is_option recording then None else Some (Why recording None spelling reading)
+why_asked spelling reading (recording ∷ certificate ∷ []) =
+    if is_option recording || is_option certificate then None else Some (Why recording (Some certificate) spelling reading)
+why_asked spelling reading words = None
 
 -- PLAN needs a source, and takes the plain script to make, which alone may replace an existing file
 abbrev pub plan_asked : Spelling → (force : Bool) → List (List ℕ) → Option Asked
@@ -308,41 +322,10 @@ plan_asked spelling force words = None
 
 -- CHART needs a recording, its certificate and the file to make; the words after choose the shown
 -- steps
-abbrev pub chart_asked : (force : Bool) → List (List ℕ) → Option Asked
-chart_asked force (recording ∷ certificate ∷ picture ∷ steps) =
-    if has_option (recording ∷ certificate ∷ picture ∷ steps) then None else Some (Chart recording certificate picture steps force)
-chart_asked force words = None
-
--- the commands that take `--json`
-abbrev pub takes_json : Takes → Bool
-takes_json (shapes.View view) = true
-takes_json shapes.PerhapsTwo = true
-takes_json shapes.Source = true
-takes_json takes = false
-
--- the command that takes `--prose`
-abbrev pub takes_prose : Takes → Bool
-takes_prose (shapes.View Review) = true
-takes_prose takes = false
-
--- the commands that make a file and can replace an existing one, and so take `--force`
-abbrev pub makes_file : TwoWords → Bool
-makes_file Check = false
-makes_file Live = false
-makes_file command = true
-
-abbrev pub takes_force : Takes → Bool
-takes_force (shapes.Two command) = makes_file command
-takes_force shapes.Pieces = true
-takes_force shapes.Capture = true
-takes_force shapes.Picture = true
-takes_force shapes.Source = true
-takes_force takes = false
-
--- the largest number of times that something may occur: once if it is allowed
-abbrev pub most : Bool → ℕ
-most true = 1
-most false = 0
+abbrev pub chart_asked : (force : Bool) → Reading → List (List ℕ) → Option Asked
+chart_asked force reading (recording ∷ certificate ∷ picture ∷ steps) =
+    if has_option (recording ∷ certificate ∷ picture ∷ steps) then None else Some (Chart recording certificate picture steps force reading)
+chart_asked force reading words = None
 
 -- A WORD `-` IS STANDARD INPUT, which is read once; a station reads its lines there
 abbrev pub reads_lines : Takes → Bool
@@ -357,23 +340,23 @@ is_spelled_once takes b = nat_le b.json (most (takes_json takes)) && (nat_le b.p
 abbrev pub are_taken : Takes → Behind → Bool
 are_taken takes b =
     is_spelled_once takes b
-    && (nat_le b.force (most (takes_force takes)) && nat_le (times (codes "-") b.names) (most (not (reads_lines takes))))
+    && (nat_le b.force (most (takes_force takes)) && (nat_le b.torn (most (takes_torn takes)) && nat_le (times (codes "-") b.names) (most (not (reads_lines takes)))))
 
-abbrev pub taken : Takes → Spelling → (force : Bool) → List (List ℕ) → Option Asked
-taken (shapes.Nothing command) spelling force names = bare_asked command names
-taken (shapes.One command) spelling force names = one_asked command names
-taken (shapes.Two command) spelling force names = two_asked command force names
-taken shapes.Pieces spelling force names = join_asked force names
-taken shapes.Capture spelling force names = import_asked force names
-taken shapes.Station spelling force names = station_asked names
-taken (shapes.View view) spelling force names = view_asked view spelling names
-taken shapes.PerhapsTwo spelling force names = why_asked spelling names
-taken shapes.Source spelling force names = plan_asked spelling force names
-taken shapes.Picture spelling force names = chart_asked force names
+abbrev pub taken : Takes → Spelling → (force : Bool) → Reading → List (List ℕ) → Option Asked
+taken (shapes.Nothing command) spelling force reading names = bare_asked command names
+taken (shapes.One command) spelling force reading names = one_asked command reading names
+taken (shapes.Two command) spelling force reading names = two_asked command force reading names
+taken shapes.Pieces spelling force reading names = join_asked force names
+taken shapes.Capture spelling force reading names = import_asked force names
+taken shapes.Station spelling force reading names = station_asked names
+taken (shapes.View view) spelling force reading names = view_asked view spelling reading names
+taken shapes.PerhapsTwo spelling force reading names = why_asked spelling reading names
+taken shapes.Source spelling force reading names = plan_asked spelling force names
+taken shapes.Picture spelling force reading names = chart_asked force reading names
 
 -- the task of words with allowed options; the one command that takes `--prose` is `review`
 abbrev pub asked_in : Takes → Behind → Option Asked
-asked_in takes b = if b.prose == 0 then taken takes (spelling_by b.json) (not (b.force == 0)) b.names else prose_asked b.names
+asked_in takes b = if b.prose == 0 then taken takes (spelling_by b.json) (not (b.force == 0)) (reading_by b.torn) b.names else prose_asked (reading_by b.torn) b.names
 
 -- the task of the words after a command
 abbrev pub asked_behind : Option Takes → Behind → Option Asked

@@ -4,8 +4,8 @@ ghost use Rattle.std.specs.Prelude.{◌≡◌, ◌≤◌, length, map, option_ma
 ghost use Rattle.siman_outside.specs.Words.{asked_by, is_option, takes_of, takes_named, bare_asked, one_asked, two_asked, taken, last_apart, has_option, is_join_word, form_named, form_apart, parts_apart, join_choices_apart, are_names, fewest_pieces, pieces_asked, join_asked, anyone_apart, all_apart, listening_apart, import_asked, station_named, station_asked, view_asked, prose_asked, why_asked, plan_asked, chart_asked};
 
 use crate::commands::{
-    ImportWords, JoinChoices, JoinForm, Listening, NoWord, OneWord, StationWords, Takes, Task,
-    TwoWords, ViewWord,
+    ImportWords, JoinChoices, JoinForm, Listening, NoWord, OneWord, Reading, StationWords, Takes,
+    Task, TwoWords, ViewWord,
 };
 use crate::import_words::choices_of;
 use crate::rows::CommandRow;
@@ -50,21 +50,26 @@ fn no_word<S: AsStr>(command: NoWord, words: &[S]) -> Option<Task<'_, S>>
     }
 }
 
-fn one_word<S: AsStr>(command: OneWord, words: &[S]) -> Option<Task<'_, S>>
-    ensures { option_map (asked_by S.text) result ≡ one_asked command (map S.text words.now) }
+fn one_word<S: AsStr>(command: OneWord, reading: Reading, words: &[S]) -> Option<Task<'_, S>>
+    ensures { option_map (asked_by S.text) result ≡ one_asked command reading (map S.text words.now) }
 {
     match words {
-        [word] if !is_option(word.as_str()) => Some(Task::One(command, word.as_str())),
+        [word] if !is_option(word.as_str()) => { Some(Task::One(command, word.as_str(), reading)) }
         _ => None,
     }
 }
 
-fn two_words<S: AsStr>(command: TwoWords, force: bool, words: &[S]) -> Option<Task<'_, S>>
-    ensures { option_map (asked_by S.text) result ≡ two_asked command force (map S.text words.now) }
+fn two_words<S: AsStr>(
+    command: TwoWords,
+    force: bool,
+    reading: Reading,
+    words: &[S],
+) -> Option<Task<'_, S>>
+    ensures { option_map (asked_by S.text) result ≡ two_asked command force reading (map S.text words.now) }
 {
     match words {
         [first, second] if !is_option(first.as_str()) && !is_option(second.as_str()) => {
-            Some(Task::Two(command, first.as_str(), second.as_str(), force))
+            Some(Task::Two(command, first.as_str(), second.as_str(), force, reading))
         }
         _ => None,
     }
@@ -282,41 +287,46 @@ fn station_words<S: AsStr>(words: &[S]) -> Option<Task<'_, S>>
     named_station(listening, names)
 }
 
-fn view_words<S: AsStr>(view: ViewWord, spelling: Spelling, words: &[S]) -> Option<Task<'_, S>>
-    ensures { option_map (asked_by S.text) result ≡ view_asked view spelling (map S.text words.now) }
+fn view_words<S: AsStr>(
+    view: ViewWord,
+    spelling: Spelling,
+    reading: Reading,
+    words: &[S],
+) -> Option<Task<'_, S>>
+    ensures { option_map (asked_by S.text) result ≡ view_asked view spelling reading (map S.text words.now) }
 {
     match words {
         [recording, filters @ ..] if !is_option(recording.as_str()) && !has_option(filters) => {
-            Some(Task::View(view, recording.as_str(), filters, spelling))
+            Some(Task::View(view, recording.as_str(), filters, spelling, reading))
         }
         _ => None,
     }
 }
 
 /// The task of the sentences of a review.
-pub(crate) fn prose_words<S: AsStr>(words: &[S]) -> Option<Task<'_, S>>
-    ensures { option_map (asked_by S.text) result ≡ prose_asked (map S.text words.now) }
+pub(crate) fn prose_words<S: AsStr>(reading: Reading, words: &[S]) -> Option<Task<'_, S>>
+    ensures { option_map (asked_by S.text) result ≡ prose_asked reading (map S.text words.now) }
 {
     match words {
         [recording, filters @ ..] if !is_option(recording.as_str()) && !has_option(filters) => {
-            Some(Task::Prose(recording.as_str(), filters))
+            Some(Task::Prose(recording.as_str(), filters, reading))
         }
         _ => None,
     }
 }
 
 /// The task of `why`, for a recording, or for a recording and a certificate.
-fn why_words<S: AsStr>(spelling: Spelling, names: &[S]) -> Option<Task<'_, S>>
-    ensures { option_map (asked_by S.text) result ≡ why_asked spelling (map S.text names.now) }
+fn why_words<S: AsStr>(spelling: Spelling, reading: Reading, names: &[S]) -> Option<Task<'_, S>>
+    ensures { option_map (asked_by S.text) result ≡ why_asked spelling reading (map S.text names.now) }
 {
     match names {
         [recording] if !is_option(recording.as_str()) => {
-            Some(Task::Why(recording.as_str(), None, spelling))
+            Some(Task::Why(recording.as_str(), None, spelling, reading))
         }
         [recording, certificate]
             if !is_option(recording.as_str()) && !is_option(certificate.as_str()) => {
             let certificate = Some(certificate.as_str());
-            Some(Task::Why(recording.as_str(), certificate, spelling))
+            Some(Task::Why(recording.as_str(), certificate, spelling, reading))
         }
         _ => None,
     }
@@ -340,8 +350,8 @@ fn plan_words<S: AsStr>(spelling: Spelling, force: bool, names: &[S]) -> Option<
 
 /// The task of `chart`: recording, certificate and picture, and the words that choose the shown
 /// steps.
-fn chart_words<S: AsStr>(force: bool, words: &[S]) -> Option<Task<'_, S>>
-    ensures { option_map (asked_by S.text) result ≡ chart_asked force (map S.text words.now) }
+fn chart_words<S: AsStr>(force: bool, reading: Reading, words: &[S]) -> Option<Task<'_, S>>
+    ensures { option_map (asked_by S.text) result ≡ chart_asked force reading (map S.text words.now) }
 {
     match words {
         [recording, certificate, picture, steps @ ..] if !has_option(words) => {
@@ -351,6 +361,7 @@ fn chart_words<S: AsStr>(force: bool, words: &[S]) -> Option<Task<'_, S>>
                 picture.as_str(),
                 steps,
                 force,
+                reading,
             ))
         }
         _ => None,
@@ -362,20 +373,21 @@ pub(crate) fn taken<S: AsStr>(
     takes: Takes,
     spelling: Spelling,
     force: bool,
+    reading: Reading,
     names: &[S],
 ) -> Option<Task<'_, S>>
-    ensures { option_map (asked_by S.text) result ≡ taken takes spelling force (map S.text names.now) }
+    ensures { option_map (asked_by S.text) result ≡ taken takes spelling force reading (map S.text names.now) }
 {
     match takes {
         Takes::Nothing(command) => no_word(command, names),
-        Takes::One(command) => one_word(command, names),
-        Takes::Two(command) => two_words(command, force, names),
+        Takes::One(command) => one_word(command, reading, names),
+        Takes::Two(command) => two_words(command, force, reading, names),
         Takes::Pieces => join_words(force, names),
         Takes::Capture => import_words(force, names),
         Takes::Station => station_words(names),
-        Takes::View(view) => view_words(view, spelling, names),
-        Takes::PerhapsTwo => why_words(spelling, names),
+        Takes::View(view) => view_words(view, spelling, reading, names),
+        Takes::PerhapsTwo => why_words(spelling, reading, names),
         Takes::Source => plan_words(spelling, force, names),
-        Takes::Picture => chart_words(force, names),
+        Takes::Picture => chart_words(force, reading, names),
     }
 }

@@ -2,10 +2,11 @@
 //! anywhere among the names.
 
 ghost use Rattle.std.specs.Prelude.{◌≡◌, ◌≤◌, IfOk, length, map, option_map};
-ghost use Rattle.siman_outside.specs.Words.{times, is_choice, names_in, behind_of, line_of, asked_by, spelling_by, most, is_spelled_once, reads_lines, are_taken, asked_behind, asked_by_name};
+ghost use Rattle.siman_outside.specs.Options.{most};
+ghost use Rattle.siman_outside.specs.Words.{times, is_choice, names_in, behind_of, line_of, asked_by, spelling_by, reading_by, is_spelled_once, reads_lines, are_taken, asked_behind, asked_by_name};
 
 use crate::asking::{prose_words, taken, takes_named};
-use crate::commands::{Takes, Task};
+use crate::commands::{Reading, Takes, Task};
 use siman_print::Spelling;
 use std::alloc::{AllocError, Global};
 use std::convert::AsStr;
@@ -19,6 +20,7 @@ pub(crate) struct Behind<'a> {
     json: usize,
     prose: usize,
     force: usize,
+    torn: usize,
 }
 
 impl<'a> Model for Behind<'a> {
@@ -27,7 +29,7 @@ impl<'a> Model for Behind<'a> {
 
     ghost Value = { Behind };
 
-    ghost view = { λ b. record { names = map (λ name. name.now) b.names.items; json = b.json; prose = b.prose; force = b.force } };
+    ghost view = { λ b. record { names = map (λ name. name.now) b.names.items; json = b.json; prose = b.prose; force = b.force; torn = b.torn } };
 }
 
 /// How many times `wanted` occurs among words.
@@ -46,12 +48,12 @@ fn times<S: AsStr>(wanted: &str, words: &[S]) -> usize
     count
 }
 
-/// Whether a word is an option that is allowed anywhere after a command: `--json`, `--prose` or
-/// `--force`.
+/// Whether a word is an option that is allowed anywhere after a command: `--json`, `--prose`,
+/// `--force` or `--torn`.
 pub(crate) fn is_choice(word: &str) -> bool
     ensures { result ≡ is_choice word.now }
 {
-    word == "--json" || word == "--prose" || word == "--force"
+    word == "--json" || word == "--prose" || word == "--force" || word == "--torn"
 }
 
 /// The words after a command without these options.
@@ -83,6 +85,7 @@ pub(crate) fn behind_of<'a, S: AsStr>(
         json: times("--json", words),
         prose: times("--prose", words),
         force: times("--force", words),
+        torn: times("--torn", words),
     })
 }
 
@@ -94,6 +97,17 @@ fn spelling_by(json: usize) -> Spelling
         Spelling::Text
     } else {
         Spelling::Json
+    }
+}
+
+/// How a recording is read, given how many times `--torn` occurs: whole unless it occurs.
+fn reading_by(torn: usize) -> Reading
+    ensures { result ≡ reading_by torn }
+{
+    if torn == 0 {
+        Reading::Whole
+    } else {
+        Reading::Torn
     }
 }
 
@@ -129,6 +143,7 @@ impl<'a> Behind<'a> {
     {
         self.is_spelled_once(takes)
             && self.force <= most(takes.force())
+            && self.torn <= most(takes.torn())
             && times("-", &self.names) <= most(!reads_lines(takes))
     }
 
@@ -139,10 +154,12 @@ impl<'a> Behind<'a> {
     {
         match takes {
             Some(takes) if self.are_taken(takes) => {
+                let reading = reading_by(self.torn);
                 if self.prose != 0 {
-                    return prose_words(&self.names);
+                    return prose_words(reading, &self.names);
                 }
-                taken(takes, spelling_by(self.json), self.force != 0, &self.names)
+                let spelling = spelling_by(self.json);
+                taken(takes, spelling, self.force != 0, reading, &self.names)
             }
             _ => None,
         }

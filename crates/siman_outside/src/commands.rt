@@ -1,7 +1,7 @@
 //! The commands, and the tasks that words ask for.
 
 ghost use Rattle.std.specs.Prelude.{◌≡◌};
-ghost use Rattle.siman_outside.specs.Words.{makes_file, takes_json, takes_prose, takes_force};
+ghost use Rattle.siman_outside.specs.Options.{makes_file, takes_json, takes_prose, takes_force, shows_recording, tells_of_recording, takes_torn};
 
 use crate::import_words::ImportChoices;
 use siman_print::Spelling;
@@ -53,6 +53,15 @@ pub enum ViewWord {
     Log,
     /// How many entries each station sent, received and told, by kind.
     Count,
+}
+
+/// How a recording is read.
+#[derive(Clone, Copy)]
+pub enum Reading {
+    /// Whole: bytes that are no whole recording are refused.
+    Whole,
+    /// As `mend` keeps it: what stands whole of one that is torn.
+    Torn,
 }
 
 /// The form that words ask for, for a joined recording.
@@ -124,11 +133,11 @@ pub enum Task<'a, S> {
     Trial,
     /// A command alone.
     Bare(NoWord),
-    /// A command and its word.
-    One(OneWord, &'a str),
-    /// A command, its two words, and whether an existing file with the second name is replaced, for
-    /// a command that makes one.
-    Two(TwoWords, &'a str, &'a str, bool),
+    /// A command, its word, and how it is read where it is a recording.
+    One(OneWord, &'a str, Reading),
+    /// A command, its two words, whether an existing file with the second name is replaced, for a
+    /// command that makes one, and how the first is read where it is a recording.
+    Two(TwoWords, &'a str, &'a str, bool, Reading),
     /// Joins the pieces of an exercise: their files, the file to make, how they are joined, and
     /// whether an existing file is replaced.
     Join(&'a [S], &'a str, JoinChoices, bool),
@@ -137,21 +146,22 @@ pub enum Task<'a, S> {
     Import(ImportWords<'a>, bool),
     /// Runs a station of a script over the network, by the lines of standard input.
     Station(StationWords<'a, S>),
-    /// A view: the file of the recording, the words that choose among the rows, and their spelling.
-    View(ViewWord, &'a str, &'a [S], Spelling),
-    /// The sentences of a review: the file of the recording, and the words that choose among the
-    /// rows.
-    Prose(&'a str, &'a [S]),
+    /// A view: the file of the recording, the words that choose among the rows, their spelling, and
+    /// how the recording is read.
+    View(ViewWord, &'a str, &'a [S], Spelling, Reading),
+    /// The sentences of a review: the file of the recording, the words that choose among the rows,
+    /// and how the recording is read.
+    Prose(&'a str, &'a [S], Reading),
     /// What contradicts what: the file of the recording, that of a certificate, if the words name
-    /// one, and the spelling of the rows.
-    Why(&'a str, Option<&'a str>, Spelling),
+    /// one, the spelling of the rows, and how the recording is read.
+    Why(&'a str, Option<&'a str>, Spelling, Reading),
     /// Says what each line of a source does: its file, that of the plain script to make, if the words
     /// name one, the spelling of the rows, and whether an existing file is replaced.
     Plan(&'a str, Option<&'a str>, Spelling, bool),
     /// Draws the picture of an exercise: the file of the recording, that of its certificate, the
-    /// file to make, the words that choose the shown steps, and whether an existing file is
-    /// replaced.
-    Chart(&'a str, &'a str, &'a str, &'a [S], bool),
+    /// file to make, the words that choose the shown steps, whether an existing file is replaced,
+    /// and how the recording is read.
+    Chart(&'a str, &'a str, &'a str, &'a [S], bool, Reading),
 }
 
 /// The words that a command takes, and so the kind of the command.
@@ -179,7 +189,26 @@ pub enum Takes {
     Picture,
 }
 
+impl OneWord {
+    /// Whether the word of the command is a recording.
+    fn shows_recording(self) -> bool
+        ensures { result ≡ shows_recording self }
+    {
+        matches!(self, OneWord::Show)
+    }
+}
+
 impl TwoWords {
+    /// Whether the command says something of the recording in its first word.
+    fn tells_of_recording(self) -> bool
+        ensures { result ≡ tells_of_recording self }
+    {
+        match self {
+            TwoWords::Check | TwoWords::Audit | TwoWords::Export => true,
+            TwoWords::World | TwoWords::Live | TwoWords::Convert | TwoWords::Mend => false,
+        }
+    }
+
     /// Whether the command makes the file of its second word and can replace an existing one.
     fn makes_file(self) -> bool
         ensures { result ≡ makes_file self }
@@ -208,6 +237,18 @@ impl Takes {
         ensures { result ≡ takes_prose self }
     {
         matches!(self, Takes::View(ViewWord::Review))
+    }
+
+    /// Whether the command takes `--torn`.
+    pub(crate) fn torn(self) -> bool
+        ensures { result ≡ takes_torn self }
+    {
+        match self {
+            Takes::One(command) => command.shows_recording(),
+            Takes::Two(command) => command.tells_of_recording(),
+            Takes::View(_) | Takes::PerhapsTwo | Takes::Picture => true,
+            _ => false,
+        }
     }
 
     /// Whether the command takes `--force`.

@@ -1,6 +1,7 @@
 //! Writing the reason of a fault behind its first line, and warnings.
 
 ghost use Rattle.std.specs.Prelude.{◌≡◌, ◌++◌, Some, option_map};
+ghost use Rattle.byte_files.specs.Pieces.{pieces_text};
 ghost use Rattle.byte_files.specs.Writing.{Writes};
 ghost use Rattle.siman_print.specs.Records.{line_end};
 ghost use Rattle.siman_outside.specs.Reasons.{reason_words, second_line, mend_line, warning_line, Warns, Explains};
@@ -13,8 +14,20 @@ use crate::named::Named;
 use crate::notes::Warning;
 use crate::reason::{Reason, reason_of};
 use crate::warning::warning_reason;
-use byte_files::{WriteFailed, put, put_both, put_pieces};
+use byte_files::{TextPieces, WriteFailed, put, put_both, put_pieces};
 use std::io::Write;
+
+/// Writes two texts, one behind the other.
+fn put_two<W: Write>(
+    writer: &mut W,
+    first: TextPieces<'_>,
+    second: TextPieces<'_>,
+) -> Result<(), WriteFailed>
+    ensures { Writes result (W.contents writer.old) (W.contents writer.new) (pieces_text first.entry ++ pieces_text second.entry) }
+{
+    put_pieces(writer, first)?;
+    put_pieces(writer, second)
+}
 
 /// Writes a reason, without a line end.
 fn put_words<W: Write>(writer: &mut W, reason: Reason<'_>) -> Result<(), WriteFailed>
@@ -23,6 +36,7 @@ fn put_words<W: Write>(writer: &mut W, reason: Reason<'_>) -> Result<(), WriteFa
     match reason {
         Reason::Short(text) => put(writer, text.bytes()),
         Reason::Text(pieces) => put_pieces(writer, pieces),
+        Reason::Both(first, second) => put_two(writer, first, second),
     }
 }
 

@@ -40,37 +40,48 @@ fn left_of(option: &str, word: &str, left: usize) -> usize
 }
 
 /// Whether a word is refused: an option that is not allowed any more, or a name too many.
-fn is_refused(names: usize, json: usize, prose: usize, force: usize, word: &str) -> bool
-    ensures { result ≡ is_refused names json prose force word.now }
+fn is_refused(
+    names: usize,
+    json: usize,
+    prose: usize,
+    force: usize,
+    torn: usize,
+    word: &str,
+) -> bool
+    ensures { result ≡ is_refused names json prose force torn word.now }
 {
     match word {
         "--json" => json == 0,
         "--prose" => prose == 0,
         "--force" => force == 0,
+        "--torn" => torn == 0,
         _ => names == 0 || is_option(word),
     }
 }
 
 /// Whether words after a command ask for its help before any word that it refuses. The command
-/// takes at most `names` names, and its options `json`, `prose` and `force` times.
+/// takes at most `names` names, and its options `json`, `prose`, `force` and `torn` times.
 fn helps_behind<S: AsStr>(
     names: usize,
     json: usize,
     prose: usize,
     force: usize,
+    torn: usize,
     words: &[S],
 ) -> bool
-    ensures { result ≡ helps_behind names json prose force (map S.text words.now) }
+    ensures { result ≡ helps_behind names json prose force torn (map S.text words.now) }
 {
     let (mut names_left, mut json_left) = (names, json);
-    let (mut prose_left, mut force_left) = (prose, force);
+    let (mut prose_left, mut force_left, mut torn_left) = (prose, force, torn);
     let mut others = words;
     while let [word, rest @ ..] = others {
         let word = word.as_str();
         if is_help(word) {
             return true;
         }
-        if is_refused(names_left, json_left, prose_left, force_left, word) {
+        if is_refused(
+            names_left, json_left, prose_left, force_left, torn_left, word,
+        ) {
             return false;
         }
         if !is_choice(word) {
@@ -79,6 +90,7 @@ fn helps_behind<S: AsStr>(
         json_left = left_of("--json", word, json_left);
         prose_left = left_of("--prose", word, prose_left);
         force_left = left_of("--force", word, force_left);
+        torn_left = left_of("--torn", word, torn_left);
         others = rest;
     }
     false
@@ -104,7 +116,8 @@ fn helps<S: AsStr>(takes: Option<Takes>, words: &[S]) -> bool
         Some(takes) => {
             let names = most_names(takes, words.len());
             let (json, prose) = (most(takes.json()), most(takes.prose()));
-            helps_behind(names, json, prose, most(takes.force()), words)
+            let (force, torn) = (most(takes.force()), most(takes.torn()));
+            helps_behind(names, json, prose, force, torn, words)
         }
     }
 }

@@ -50,6 +50,7 @@ mod passing;
 mod place;
 mod product;
 mod reason;
+mod recording_bytes;
 mod recording_command;
 mod rows;
 mod saying;
@@ -62,8 +63,8 @@ mod warning;
 pub use answer_text::AnswerText;
 pub use command_line::{CommandLine, read_words};
 pub use commands::{
-    ImportWords, JoinChoices, JoinForm, Listening, NoWord, OneWord, StationWords, Task, TwoWords,
-    ViewWord,
+    ImportWords, JoinChoices, JoinForm, Listening, NoWord, OneWord, Reading, StationWords, Task,
+    TwoWords, ViewWord,
 };
 pub use ending::{Ending, conclude};
 pub use endpoint::{Endpoint, endpoint_of};
@@ -77,7 +78,7 @@ pub use import_words::{ImportChoices, ImportOpening};
 pub use input::{InputFault, Unread, read_text};
 pub use join_limit::JoinLimit;
 pub use known::{Known, SystemCall, SystemFault};
-pub use limits::{LARGEST_CERTIFICATE, LARGEST_RECORDING};
+pub use limits::{LARGEST_CERTIFICATE, LARGEST_RECORDING, LARGEST_TORN_RECORDING};
 pub use making::{Making, make_file, put_settled};
 pub use move_refusal::{MovePlace, MoveRefusal};
 pub use named::{Named, named_by, nothing_named};
@@ -86,6 +87,7 @@ pub use opening::{if_free, open_fault, open_input, open_inputs};
 pub use outside::Outside;
 pub use passing::{HELD, pass_on, status_of};
 pub use product::{OfFile, Product, make_of_file, put_of_file};
+pub use recording_bytes::read_bytes;
 pub use recording_command::{OfCertificate, OfRecording, say_of_certificate, say_of_recording};
 pub use saying::{say_of_file, say_of_files};
 pub use short_texts::{ShortText, short_of, short_text};

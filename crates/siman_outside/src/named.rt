@@ -1,6 +1,17 @@
 //! The names in a command line, which explain a fault.
 
-use crate::commands::{Task, TwoWords, ViewWord};
+use crate::commands::{OneWord, Reading, Task, TwoWords, ViewWord};
+
+/// What a command does with a recording that is torn.
+#[derive(Clone, Copy)]
+pub(crate) enum TornUse {
+    /// Keeps what stands whole of it.
+    Kept,
+    /// Refuses it, but takes `--torn`.
+    MayBeKept,
+    /// Refuses it.
+    Refused,
+}
 
 /// The names in a command line; a missing name is empty.
 #[derive(Clone, Copy)]
@@ -15,8 +26,8 @@ pub struct Named<'a> {
     pub(crate) other: &'a str,
     /// Whether the command takes `--force`.
     pub(crate) may_force: bool,
-    /// Whether the command is `mend`.
-    pub(crate) mends: bool,
+    /// What the command does with a recording that is torn.
+    pub(crate) torn: TornUse,
     /// The view, for a command that is one.
     pub(crate) view: Option<ViewWord>,
 }
@@ -29,13 +40,43 @@ pub fn nothing_named() -> Named<'static> {
         made: "",
         other: "",
         may_force: false,
-        mends: false,
+        torn: TornUse::Refused,
         view: None,
     }
 }
 
+/// What a command that takes `--torn` does with a recording that is torn.
+fn torn_use(reading: Reading) -> TornUse {
+    match reading {
+        Reading::Whole => TornUse::MayBeKept,
+        Reading::Torn => TornUse::Kept,
+    }
+}
+
+/// What a command with one word does with a recording that is torn.
+fn torn_use_of_one(command: OneWord, reading: Reading) -> TornUse {
+    match command {
+        OneWord::Pdu => TornUse::Refused,
+        OneWord::Show => torn_use(reading),
+    }
+}
+
+/// What a command with two words does with a recording that is torn.
+fn torn_use_of_two(command: TwoWords, reading: Reading) -> TornUse {
+    match command {
+        TwoWords::Check | TwoWords::Audit | TwoWords::Export => torn_use(reading),
+        TwoWords::Mend => TornUse::Kept,
+        TwoWords::World | TwoWords::Live | TwoWords::Convert => TornUse::Refused,
+    }
+}
+
 /// The names of a command with two words.
-fn two_named<'a>(command: TwoWords, first: &'a str, second: &'a str) -> Named<'a> {
+fn two_named<'a>(
+    command: TwoWords,
+    first: &'a str,
+    second: &'a str,
+    reading: Reading,
+) -> Named<'a> {
     let (mut read, mut made) = ("", second);
     if let TwoWords::Check = command {
         (read, made) = (second, "");
@@ -46,7 +87,7 @@ fn two_named<'a>(command: TwoWords, first: &'a str, second: &'a str) -> Named<'a
         made,
         other: "",
         may_force: !matches!(command, TwoWords::Check | TwoWords::Live),
-        mends: matches!(command, TwoWords::Mend),
+        torn: torn_use_of_two(command, reading),
         view: None,
     }
 }
@@ -60,8 +101,14 @@ pub fn named_by<'a>(task: &Task<'a, &'a str>) -> Named<'a> {
             ..nothing
         },
         Task::Bare(_) => nothing,
-        Task::One(_, first) => Named { first, ..nothing },
-        Task::Two(command, first, second, _) => two_named(*command, first, second),
+        Task::One(command, first, reading) => Named {
+            first,
+            torn: torn_use_of_one(*command, *reading),
+            ..nothing
+        },
+        Task::Two(command, first, second, _, reading) => {
+            two_named(*command, first, second, *reading)
+        }
         Task::Join(pieces, made, _, _) => Named {
             first: pieces.first().copied().unwrap_or(""),
             made,
@@ -83,19 +130,22 @@ pub fn named_by<'a>(task: &Task<'a, &'a str>) -> Named<'a> {
             other: words.bind,
             ..nothing
         },
-        Task::View(view, first, _, _) => Named {
+        Task::View(view, first, _, _, reading) => Named {
             first,
+            torn: torn_use(*reading),
             view: Some(*view),
             ..nothing
         },
-        Task::Prose(first, _) => Named {
+        Task::Prose(first, _, reading) => Named {
             first,
+            torn: torn_use(*reading),
             view: Some(ViewWord::Review),
             ..nothing
         },
-        Task::Why(first, second, _) => Named {
+        Task::Why(first, second, _, reading) => Named {
             first,
             second: second.unwrap_or(""),
+            torn: torn_use(*reading),
             ..nothing
         },
         Task::Plan(first, made, _, _) => Named {
@@ -104,11 +154,12 @@ pub fn named_by<'a>(task: &Task<'a, &'a str>) -> Named<'a> {
             may_force: true,
             ..nothing
         },
-        Task::Chart(first, second, made, _, _) => Named {
+        Task::Chart(first, second, made, _, _, reading) => Named {
             first,
             second,
             made,
             may_force: true,
+            torn: torn_use(*reading),
             ..nothing
         },
     }

@@ -6,6 +6,7 @@ ghost use Rattle.siman_outside.specs.Notes.{datagram_count, entry_count, meaning
 
 use crate::short_texts::ShortText;
 use exercise_model::{EntryView, ExerciseLog, meaning_view};
+use exercise_recording::FormatFault;
 
 /// A warning, which changes neither the answer nor the status.
 #[derive(Clone, Copy)]
@@ -22,6 +23,12 @@ pub enum Warning {
         line: usize,
         site: u16,
         application: u16,
+    },
+    /// A recording is torn: it has this fault, and is read as these entries, which stand whole before
+    /// it.
+    Torn {
+        fault: FormatFault,
+        entries: u32,
     },
     /// The log that was made of a capture may not be whole, for each of these that holds.
     NotWhole {

@@ -27,6 +27,8 @@ pub(crate) enum Reason<'a> {
     Short(ShortText),
     /// A text in pieces.
     Text(TextPieces<'a>),
+    /// Two texts in pieces, one behind the other.
+    Both(TextPieces<'a>, TextPieces<'a>),
 }
 
 /// The number of a script's line, and words behind it.

@@ -1,16 +1,20 @@
 //! Commands about a recording, or about a recording and a certificate of it: how both are read.
 
+ghost use Rattle.std.specs.Prelude.{◌≡◌, IfOk, IfSome};
 ghost use Rattle.siman_outside.specs.Outside.{stream};
+ghost use Rattle.siman_outside.specs.Notes.{warning_by};
 ghost use Rattle.siman_outside.specs.Recorded.{SaysOfRecording, SaysOfBytes, SaysOfBoth};
 ghost use Rattle.siman_outside.specs.declared.limits.TheConstants.{LARGEST_RECORDING};
 ghost use Rattle.exercise_recording.specs.Reading.{recording_at};
 
+use crate::commands::Reading;
 use crate::fault::Fault;
 use crate::limits::{LARGEST_CERTIFICATE, LARGEST_RECORDING};
 use crate::notes::Notes;
+use crate::recording_bytes::read_bytes;
 use exercise_check::{Certificate, fetch_certificate};
 use exercise_model::ExerciseLog;
-use exercise_recording::{RecordingView, fetch_recording};
+use exercise_recording::RecordingView;
 use std::alloc::Global;
 use std::io::{Read, Write};
 
@@ -63,17 +67,20 @@ pub trait OfCertificate<'a>: Sized {
         ensures { says self (L.recording log.now) certificate.steps.items result (stream (W.contents out.old) (W.contents out.new)) };
 }
 
-/// Reads a recording whole, and runs a command on it.
+/// Reads a recording, whole or what stands whole of it, and runs a command on it. Notes what is
+/// torn.
 pub fn say_of_recording<'a, C: OfRecording<'a> + Drop, R: Read + Drop, W: Write>(
     alloc: Global,
     command: C,
+    reading: Reading,
     recording: R,
     out: &mut W,
     notes: &mut Notes,
 ) -> Result<C::Answer, Fault<'a>>
-    ensures { SaysOfBytes (C.says command) (R.remaining recording) result (stream (W.contents out.old) (W.contents out.new)) }
+    ensures says { SaysOfBytes reading (C.says command) (R.remaining recording) result (stream (W.contents out.old) (W.contents out.new)) }
+    ensures warned { IfOk result (λ _. IfSome (R.remaining recording) (λ bytes. notes.new.further ≡ warning_by reading bytes)) }
 {
-    let bytes = fetch_recording(alloc, recording, LARGEST_RECORDING)?;
+    let bytes = read_bytes(alloc, reading, recording, notes)?;
     say_of_bytes(alloc, command, &bytes, out, notes)
 }
 
@@ -85,7 +92,8 @@ fn say_of_bytes<'a, C: OfRecording<'a> + Drop, W: Write>(
     out: &mut W,
     notes: &mut Notes,
 ) -> Result<C::Answer, Fault<'a>>
-    ensures { SaysOfRecording (C.says command) (recording_at LARGEST_RECORDING bytes.now) result (stream (W.contents out.old) (W.contents out.new)) }
+    ensures says { SaysOfRecording (C.says command) (recording_at LARGEST_RECORDING bytes.now) result (stream (W.contents out.old) (W.contents out.new)) }
+    ensures further { notes.new.further ≡ notes.old.further }
 {
     let log = RecordingView::over_limited(alloc, bytes, LARGEST_RECORDING)?;
     notes.note_recording(&log);
@@ -122,7 +130,8 @@ impl<'a, C: OfCertificate<'a> + Drop, S: Read + Drop> OfRecording<'a> for WithCe
     }
 }
 
-/// Reads a recording, then a certificate, both whole, and runs a command on them.
+/// Reads a recording, whole or what stands whole of it, then a certificate, whole, and runs a
+/// command on them. Notes what is torn.
 pub fn say_of_certificate<
     'a,
     C: OfCertificate<'a> + Drop,
@@ -132,16 +141,18 @@ pub fn say_of_certificate<
 >(
     alloc: Global,
     command: C,
+    reading: Reading,
     recording: R,
     certificate: S,
     out: &mut W,
     notes: &mut Notes,
 ) -> Result<C::Answer, Fault<'a>>
-    ensures { SaysOfBoth (C.says command) (R.remaining recording) (S.remaining certificate) result (stream (W.contents out.old) (W.contents out.new)) }
+    ensures says { SaysOfBoth reading (C.says command) (R.remaining recording) (S.remaining certificate) result (stream (W.contents out.old) (W.contents out.new)) }
+    ensures warned { IfOk result (λ _. IfSome (R.remaining recording) (λ bytes. notes.new.further ≡ warning_by reading bytes)) }
 {
     let command = WithCertificate {
         command,
         certificate,
     };
-    say_of_recording(alloc, command, recording, out, notes)
+    say_of_recording(alloc, command, reading, recording, out, notes)
 }

@@ -59,7 +59,7 @@ pub(crate) const ROWS: [CommandRow; 19] = [
     CommandRow {
         name: "show",
         takes: Takes::One(OneWord::Show),
-        usage: "siman show <REC>",
+        usage: "siman show <REC> [--torn]",
         about: "Shows a recording, a line for each entry",
         example: "Example:\n  siman show exercise.dsrc",
         words: &[REC],
@@ -67,7 +67,7 @@ pub(crate) const ROWS: [CommandRow; 19] = [
     CommandRow {
         name: "check",
         takes: Takes::Two(TwoWords::Check),
-        usage: "siman check <REC> <CERT>",
+        usage: "siman check <REC> <CERT> [--torn]",
         about: "Checks whether a certificate explains a recording, and reports what it says",
         example: "Example:\n  siman check exercise.dsrc exercise.dsct",
         words: &[REC, CERT],
@@ -75,7 +75,7 @@ pub(crate) const ROWS: [CommandRow; 19] = [
     CommandRow {
         name: "audit",
         takes: Takes::Two(TwoWords::Audit),
-        usage: "siman audit <REC> <CERT> [--force]",
+        usage: "siman audit <REC> <CERT> [--torn] [--force]",
         about: "Searches a recording for a sequence that explains it, and writes its certificate",
         example: "Example:\n  siman audit exercise.dsrc exercise.dsct",
         words: &[
@@ -258,7 +258,7 @@ pub(crate) const ROWS: [CommandRow; 19] = [
     CommandRow {
         name: "export",
         takes: Takes::Two(TwoWords::Export),
-        usage: "siman export <REC> <NEW> [--force]",
+        usage: "siman export <REC> <NEW> [--torn] [--force]",
         about: "Writes the datagrams of a recording as a capture, which Wireshark and tshark show as DIS",
         example: "Example:\n  siman export exercise.dsrc exercise.pcapng",
         words: &[
@@ -273,7 +273,7 @@ pub(crate) const ROWS: [CommandRow; 19] = [
     CommandRow {
         name: "review",
         takes: Takes::View(ViewWord::Review),
-        usage: "siman review <REC> [FILTER]... [--json|--prose]",
+        usage: "siman review <REC> [FILTER]... [--json|--prose] [--torn]",
         about: "Prints what became of each order of a recording, and how each entity lived",
         example: "Example:\n  siman review exercise.dsrc fate=lost",
         words: &[
@@ -288,7 +288,7 @@ pub(crate) const ROWS: [CommandRow; 19] = [
     CommandRow {
         name: "log",
         takes: Takes::View(ViewWord::Log),
-        usage: "siman log <REC> [FILTER]... [--json]",
+        usage: "siman log <REC> [FILTER]... [--json] [--torn]",
         about: "Prints each entry of a recording in names, with every datum and what goes with it",
         example: "Example:\n  siman log exercise.dsrc request=1:1/104 station=2:4",
         words: &[
@@ -303,7 +303,7 @@ pub(crate) const ROWS: [CommandRow; 19] = [
     CommandRow {
         name: "count",
         takes: Takes::View(ViewWord::Count),
-        usage: "siman count <REC> [FILTER]... [--json]",
+        usage: "siman count <REC> [FILTER]... [--json] [--torn]",
         about: "Prints how many entries each station of a recording sent, received and told, by kind",
         example: "Example:\n  siman count exercise.dsrc station=2:4",
         words: &[
@@ -318,7 +318,7 @@ pub(crate) const ROWS: [CommandRow; 19] = [
     CommandRow {
         name: "why",
         takes: Takes::PerhapsTwo,
-        usage: "siman why <REC> [CERT] [--json]",
+        usage: "siman why <REC> [CERT] [--json] [--torn]",
         about: "Prints what contradicts what: in a certificate that is not good, or in a recording that no sequence explains",
         example: "Example:\n  siman why exercise.dsrc",
         words: &[
@@ -333,7 +333,7 @@ pub(crate) const ROWS: [CommandRow; 19] = [
     CommandRow {
         name: "chart",
         takes: Takes::Picture,
-        usage: "siman chart <REC> <CERT> <SVG> [CHOICE]... [--force]",
+        usage: "siman chart <REC> <CERT> <SVG> [CHOICE]... [--torn] [--force]",
         about: "Draws an exercise in the sequence of its certificate, or up to where it is contradicted, and writes the picture",
         example: "Example:\n  siman chart exercise.dsrc exercise.dsct exercise.svg",
         words: &[

@@ -20,6 +20,10 @@ const JSON: &str = "Prints the rows in JSON, one object a line";
 /// What `--prose` does, for the help.
 const PROSE: &str = "Prints sentences in place of rows";
 
+/// What `--torn` does, for the help.
+const TORN: &str =
+    "Reads what stands whole of a recording that is torn, as one that is still written, and warns";
+
 const FORCE: &str = "Replaces a file that has the name of the one that is made";
 
 /// The exit statuses, for the end of the help, and the example of a call without words.
@@ -63,6 +67,9 @@ fn arguments<'a>(alloc: Global, row: &'static CommandRow) -> Result<Vec<Arg<'a>>
     }
     if row.takes.prose() {
         arguments.push(option(alloc, "prose", PROSE))?;
+    }
+    if row.takes.torn() {
+        arguments.push(option(alloc, "torn", TORN))?;
     }
     if row.takes.force() {
         arguments.push(option(alloc, "force", FORCE))?;

@@ -2,11 +2,12 @@
 
 ghost use Rattle.std.specs.Prelude.{◌≡◌};
 ghost use Rattle.byte_files.specs.Pieces.{pieces_text};
-ghost use Rattle.siman_outside.specs.Reasons.{meant_text, nobody_text, words_if, lacking_text, reason_words, warning_text};
+ghost use Rattle.siman_outside.specs.Reasons.{meant_text, nobody_text, words_if, lacking_text, torn_text, kept_text, reason_words, warning_text};
 
 use crate::notes::Warning;
 use crate::reason::Reason;
-use byte_files::{TextPiece, TextPieces, five_pieces};
+use byte_files::{TextPiece, TextPieces, five_pieces, three_pieces};
+use exercise_recording::FormatFault;
 
 /// The warning about a recording with datagrams none of which means anything in this exercise.
 fn meant_pieces(datagrams: u64, exercise: u8) -> TextPieces<'static>
@@ -57,6 +58,30 @@ fn lacking_pieces(dropped: bool, fragments: bool, bundled: bool) -> TextPieces<'
     )
 }
 
+/// The fault of a torn recording.
+fn torn_pieces(fault: FormatFault) -> TextPieces<'static>
+    ensures { pieces_text result ≡ torn_text fault }
+{
+    five_pieces(
+        TextPiece::Words("the recording is torn, "),
+        TextPiece::Words(fault.name()),
+        TextPiece::Words(" at "),
+        TextPiece::Number(fault.place()),
+        TextPiece::Words(": "),
+    )
+}
+
+/// The number of entries that are read of a torn recording.
+fn kept_pieces(entries: u32) -> TextPieces<'static>
+    ensures { pieces_text result ≡ kept_text entries }
+{
+    three_pieces(
+        TextPiece::Words("its entries that stand whole before that are read, "),
+        TextPiece::Number(u64::from(entries)),
+        TextPiece::Words(" in all"),
+    )
+}
+
 /// The text of a warning.
 pub(crate) fn warning_reason(warning: Warning) -> Reason<'static>
     ensures { reason_words result ≡ warning_text warning }
@@ -71,6 +96,9 @@ pub(crate) fn warning_reason(warning: Warning) -> Reason<'static>
             site,
             application,
         } => Reason::Text(nobody_pieces(line, site, application)),
+        Warning::Torn { fault, entries } => {
+            Reason::Both(torn_pieces(fault), kept_pieces(entries))
+        }
         Warning::NotWhole {
             dropped,
             fragments,

@@ -6,6 +6,8 @@ use crate::input::RandomInput;
 /// Words that may replace others.
 const WORDS: [&str; WORD_COUNT] = [
     "--prose",
+    "--torn",
+    "--torn",
     "pdu",
     "pdus",
     "show",
@@ -110,10 +112,10 @@ const WORDS: [&str; WORD_COUNT] = [
 const MOST: usize = 10;
 
 /// Number of words.
-const WORD_COUNT: usize = 99;
+const WORD_COUNT: usize = 101;
 
 /// Number of command lines.
-const LINE_COUNT: usize = 34;
+const LINE_COUNT: usize = 36;
 
 /// Correct command lines, of every command.
 const LINES: [&[&str]; LINE_COUNT] = [
@@ -126,6 +128,8 @@ const LINES: [&[&str]; LINE_COUNT] = [
     &["pdus"],
     &["show", "done"],
     &["show", "-"],
+    &["show", "torn", "--torn"],
+    &["review", "torn", "--torn", "fate=done"],
     &["check", "done", "order"],
     &["audit", "done", "new"],
     &["audit", "done", "order", "--force"],

@@ -1,7 +1,9 @@
 //! The calls that say why a recording or a certificate is refused.
 
 use crate::refusals::reviews::Streams;
-use siman_console::{Notes, Spelling, WhyCommand, end, say_of_certificate, say_of_recording};
+use siman_console::{
+    Notes, Reading, Spelling, WhyCommand, end, say_of_certificate, say_of_recording,
+};
 use siman_refusals::{LibraryCall, Said, refused, usual};
 use std::alloc::Global;
 
@@ -52,7 +54,14 @@ impl LibraryCall<Streams> for Asking {
     fn make(alloc: Global, lent: &mut Streams) -> Said {
         lent.errors.clear();
         let (out, errors) = (&mut lent.out, &mut lent.errors);
-        let answered = say_of_recording(alloc, WHY, WRONG.as_slice(), out, &mut Notes::nothing());
+        let answered = say_of_recording(
+            alloc,
+            WHY,
+            Reading::Whole,
+            WRONG.as_slice(),
+            out,
+            &mut Notes::nothing(),
+        );
         said(end(answered, errors).status, lent, BLOCKED)
     }
 }
@@ -66,7 +75,15 @@ impl LibraryCall<Streams> for AskingOfSteps {
         let (out, errors) = (&mut lent.out, &mut lent.errors);
         let (recording, certificate) = (WRONG.as_slice(), STEP.as_slice());
         let notes = &mut Notes::nothing();
-        let answered = say_of_certificate(alloc, WHY, recording, certificate, out, notes);
+        let answered = say_of_certificate(
+            alloc,
+            WHY,
+            Reading::Whole,
+            recording,
+            certificate,
+            out,
+            notes,
+        );
         said(end(answered, errors).status, lent, NO)
     }
 }

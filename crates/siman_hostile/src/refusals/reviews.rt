@@ -1,6 +1,6 @@
 //! The call that reviews files.
 
-use siman_console::{Notes, Spelling, View, ViewWord, end, say_of_recording};
+use siman_console::{Notes, Reading, Spelling, View, ViewWord, end, say_of_recording};
 use siman_refusals::{LibraryCall, RECORDING, Said, refused, room, usual};
 use std::alloc::Global;
 use std::io;
@@ -36,7 +36,7 @@ impl LibraryCall<Streams> for WritingReview {
         let (out, errors) = (&mut lent.out, &mut lent.errors);
         let notes = &mut Notes::nothing();
         let reviewed = match View::of(alloc, ViewWord::Review, &words, Spelling::Text) {
-            Ok(view) => say_of_recording(alloc, view, recording, out, notes),
+            Ok(view) => say_of_recording(alloc, view, Reading::Whole, recording, out, notes),
             Err(fault) => Err(fault),
         };
         match end(reviewed, errors).status {

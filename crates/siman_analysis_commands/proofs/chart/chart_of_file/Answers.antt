@@ -18,7 +18,7 @@ returns g c =
     let names = c.args.names in
     let made = names.1.now in
     let opens = OpensInput names.0.now made in
-    let Gives = ChartsFile (map (λ word. word.now) c.args.command.words.now) c.args.command.window in
+    let Gives = ChartsFile c.args.command.reading (map (λ word. word.now) c.args.command.words.now) c.args.command.window in
     makes_file d h _ _ _ _ (OpensSparing opens c.args.force made) reading Gives (λ p. MakesPicture p c.args.force made) _ c.in_ok-charted.charted _ (stream _ _)
     c.in_ok-charted.ensures.comes
     (opened_sparing d h _ _ _ g.O.Outside.bytes opens c.args.force made _ _ c.open_input-opened.ensures.did c.in_ok-opened.ensures)
@@ -32,7 +32,7 @@ returns-in_err-charted g c =
     let names = c.args.names in
     let made = names.1.now in
     let opens = OpensInput names.0.now made in
-    let Gives = ChartsFile (map (λ word. word.now) c.args.command.words.now) c.args.command.window in
+    let Gives = ChartsFile c.args.command.reading (map (λ word. word.now) c.args.command.words.now) c.args.command.window in
     let fault = c.in_err-charted.field-0.0 in
     let kept = g.W.Write.contents c.args.out.now in
     makes_none d h _ _ _ (OpensSparing opens c.args.force made) reading Gives (λ p. MakesPicture p c.args.force made) _ fault _ (stream kept kept)
@@ -48,7 +48,7 @@ returns-in_err-opened g c =
     let names = c.args.names in
     let made = names.1.now in
     let opens = OpensInput names.0.now made in
-    let Gives = ChartsFile (map (λ word. word.now) c.args.command.words.now) c.args.command.window in
+    let Gives = ChartsFile c.args.command.reading (map (λ word. word.now) c.args.command.words.now) c.args.command.window in
     let fault = c.in_err-opened.field-0.0 in
     let kept = g.W.Write.contents c.args.out.now in
     makes_unopened d h _ _ (OpensSparing opens c.args.force made) reading Gives (λ p. MakesPicture p c.args.force made) fault _ (stream kept kept) (at_fault (λ r. r ≡ Err fault) fault _ c.from_residual.ensures.1 refl) (Keeps-refl kept)

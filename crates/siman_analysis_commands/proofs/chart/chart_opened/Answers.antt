@@ -11,4 +11,4 @@ returns-clause-done g c =
     adds_then _ _ _ (one ∷ []) (two ∷ []) c.read-recording.ensures.done c.read-certificate.ensures.done
 
 pub returns-clause-comes : goal.returns-clause-comes
-returns-clause-comes g c = (stream (Some c.new-nothing.result.items) (Some c.say_of_certificate.new.out.items), rw (c.read-recording.ensures.same, c.read-certificate.ensures.same) at c.say_of_certificate.ensures)
+returns-clause-comes g c = (stream (Some c.new-nothing.result.items) (Some c.say_of_certificate.new.out.items), rw (c.read-recording.ensures.same, c.read-certificate.ensures.same) at c.say_of_certificate.ensures.says)

@@ -6,7 +6,7 @@ use Rattle.exercise_recording.specs.declared.mending.MendFault.{MendFault}
 use Rattle.exercise_recording.specs.declared.mending.MendFault.TheVariants as mends
 use Rattle.exercise_recording.specs.Mending.{Whole, MendingData, mended_at}
 use Rattle.exercise_recording.specs.Mending.{IsUnmended as IsUnread}
-use Rattle.siman_file_commands.specs.declared.mend.TheConstants.{LARGEST_TORN_RECORDING}
+use Rattle.siman_outside.specs.declared.limits.TheConstants.{LARGEST_TORN_RECORDING}
 use Rattle.siman_outside.specs.Ending.{of_mend}
 use Rattle.siman_file_commands.specs.Mend.{mended_text, IsUnmended, Mends}
 use Rattle.siman_outside.proofs.Offered.{at_fault}

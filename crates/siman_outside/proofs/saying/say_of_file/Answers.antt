@@ -9,5 +9,5 @@ returns-in-Ok g c = (
   _,
   adds_then _ _ _ _ _ c.in-Ok.ensures.done c.read-file.ensures.done,
   all_two (WasHeld (g.O.Outside.holds c.args.outside.now)) _ _ c.in-Ok.ensures.held tt,
-  (refl, refl, rw c.read-file.ensures.same at c.say_of_recording.ensures),
+  (refl, refl, rw c.read-file.ensures.same at c.say_of_recording.ensures.says),
 )

@@ -17,7 +17,7 @@ returns-in-Ok-open g c =
     let held = rw c.in-Ok.ensures.stays at c.in-Ok-open.ensures.held in
     let opened = adds_then _ _ _ (first ∷ []) (second ∷ []) c.in-Ok.ensures.done c.in-Ok-open.ensures.done in
     let read = adds_then _ _ _ (one ∷ []) (two ∷ []) c.read-first.ensures.done c.read-second.ensures.done in
-    let said = rw (c.read-first.ensures.same, c.read-second.ensures.same) at c.say_of_certificate.ensures in (
+    let said = rw (c.read-first.ensures.same, c.read-second.ensures.same) at c.say_of_certificate.ensures.says in (
       (first ∷ second ∷ []) ++ (one ∷ two ∷ []),
       adds_then _ _ _ (first ∷ second ∷ []) (one ∷ two ∷ []) opened read,
       All-append Held (first ∷ second ∷ []) (one ∷ two ∷ []) (all_two Held first second c.in-Ok.ensures.held held) (all_two Held one two tt tt),

@@ -5,4 +5,4 @@ use Rattle.siman_file_commands.proofs.Searches.{searched}
 use Rattle.siman_file_commands.proofs.audit.AuditCommandOfFile.read.Goals as goal
 
 pub returns : goal.returns
-returns g c = searched _ _ (stream (Some c.new-nothing.result.items) (Some c.say_of_recording.new.out.items)) c.say_of_recording.ensures
+returns g c = searched c.args.self.reading _ _ (stream (Some c.new-nothing.result.items) (Some c.say_of_recording.new.out.items)) c.say_of_recording.ensures.says

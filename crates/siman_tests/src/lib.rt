@@ -23,6 +23,8 @@ mod fragments;
 #[cfg(test)]
 mod frames;
 #[cfg(test)]
+mod growing;
+#[cfg(test)]
 mod imports;
 #[cfg(test)]
 mod joining;

@@ -10,11 +10,12 @@ The parts, all of them if none is named:
   a station. Each piece alone, read as open, and all joined, closed, are searched, checked and reviewed: a recording is
   explained unless a station recorded what its sender never sent, and what is printed is what tools/pages computes of it.
 - peers: a station among peers that are not siman, whose datagrams are damaged, foreign, of another version, too long or
-  in its own name. What it sends, records, prints and tells is what tools/pages computes, byte by byte.
+  in its own name. What it sends, records, prints and tells is what tools/pages computes, byte by byte; only where the notes
+  of strangers stand is left open.
 - calls: in order of its calls of the system, each datagram that it sends stands whole in its file before its first sendto.
 - waiting: what comes while nobody types, at a pipe and a terminal, is answered and printed within 50 ms; files and
   /dev/null; an idle station; 2,000 Entity States a second beside 50 orders; and more than the socket holds, which is
-  counted as the system counts it.
+  counted, and noted, as the system counts it.
 - flood: 100,000 datagrams as fast as a peer can send them: what came is recorded and answered, or was thrown away by the
   system; and what is only foreign takes no memory.
 

@@ -133,7 +133,7 @@ def commands_of(page):
 
 def is_line(told, came):
     """Whether a line of a page tells the line that came. How many bytes a system keeps for a socket is its own."""
-    if told.startswith("station records="):
+    if told.startswith(("# station ", "station records=")):
         told, came = (re.sub(r" buffer=\d+$", "", line) for line in (told, came))
     return came.startswith(told[:-2]) if told.endswith(" ..") else came == told
 

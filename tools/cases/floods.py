@@ -43,7 +43,7 @@ def flood(trials, name, datagram_of, count, *words):
     for _ in range(4):
         player.say(b"")
     player.say(b"tell 2:3 7")
-    player.wait_for(lambda: player.lines and b" told " in player.lines[-1])
+    player.wait_for(lambda: any(b" told " in line for line in player.lines[-3:]))
     memory = most_memory(player.process)
     outcome = player.close()
     peer.close()

@@ -4,7 +4,7 @@ import random
 import struct
 
 from cases import texts
-from cases.played import Player, bound, free_address
+from cases.played import Player, bound, free_address, strangers_first, word_of
 from cases.trials import Verdict
 from pages import (
     ACKNOWLEDGE, ACTION_REQUEST, ACTION_RESPONSE, CREATE, DATA, DATA_QUERY, LONGEST_DATAGRAM, REMOVE, SET_DATA, START, STOP, Post,
@@ -60,7 +60,7 @@ def some_lines(chances, number):
     return [
         line.encode() for line in chances.sample((
             f"at {number}", f"create {own} {other}:8", f"start {own} {other}:7", f"tick {own}", f"tick {own}", f"query {own} {other}:0 1 2",
-            "", "# staff", "bad", f"deliver 1 {own}", "tick 1:1", f"tell {own} 0", f"tell {own} 7", f"set {own} {other}:0 30 8", f"do {own} {other}:0 40",
+            "", "# staff", "bad", "status", "help", f"deliver 1 {own}", "tick 1:1", f"tell {own} 0", f"tell {own} 7", f"set {own} {other}:0 30 8", f"do {own} {other}:0 40",
         ), chances.randrange(4))
     ]  # fmt: skip
 
@@ -80,14 +80,14 @@ def try_seed(trials, seed):
             datagram, sender = some_datagram(chances), chances.choice((*peers, *peers, stranger))
             sender.sendto(datagram, own)
             if sender is stranger and not hears_all:
-                post.strangers += 1
+                post.pass_over(word_of(stranger.getsockname()))
             else:
                 post.hear(datagram, keeps_all)
         lines = [b"", *some_lines(chances, number), b"tell 2:3 7"]
         player.say(*lines)
         for line in lines:
             post.take(line)
-        heard = heard and player.wait_for_lines(len(post.entries))
+        heard = heard and player.wait_for_entries(len(post.entries))
     outcome = player.close()
     sent = [received(it) for it in peers]
     for it in (*peers, stranger):
@@ -95,7 +95,7 @@ def try_seed(trials, seed):
     left = player.recording.read_bytes() if player.recording.exists() else None
     return [
         Verdict(f"{name} is up, and goes on", (True,), is_up and heard),
-        Verdict(f"{name} ends", (post.outcome(),), outcome),
+        Verdict(f"{name} ends", (strangers_first(post.outcome()),), strangers_first(outcome)),
         Verdict(f"what {name} recorded", (post.text(),), left),
         Verdict(f"what {name} sent to each peer", ([post.sent] * 2,), sent),
     ]

@@ -2,6 +2,7 @@
 import contextlib
 import itertools
 import os
+import re
 import socket
 import subprocess
 import threading
@@ -39,6 +40,16 @@ def word_of(address):
     return "{}:{}".format(*address)
 
 
+STRANGER = re.compile(rb"(?m)^# stranger .*\n")
+
+
+def strangers_first(outcome):
+    """An outcome with the notes of strangers in front, in their order: behind which row each stands depends on when the
+    station was woken."""
+    notes = b"".join(STRANGER.findall(outcome.out))
+    return outcome._replace(out=notes + STRANGER.sub(b"", outcome.out))
+
+
 def bound(address=None):
     """A socket of the loopback, at an address or at one that nobody uses."""
     it = socket.socket(socket.AF_INET, socket.SOCK_DGRAM)
@@ -58,7 +69,7 @@ class Player:
         self.process = subprocess.Popen(
             list(map(str, words)), cwd=folder, stdin=subprocess.PIPE, stdout=subprocess.PIPE, stderr=subprocess.PIPE, **how
         )  # fmt: skip
-        self.own, self.lines, self.errors = own, [], b""
+        self.own, self.lines, self.entries, self.errors = own, [], 0, b""
         self.readers = [threading.Thread(target=reads, daemon=True) for reads in (self.read_lines, self.read_errors)]
         for reader in self.readers:
             reader.start()
@@ -66,6 +77,7 @@ class Player:
     def read_lines(self):
         for line in self.process.stdout:
             self.lines.append(line)
+            self.entries += line[:1].isdigit()
 
     def read_errors(self):
         self.errors = self.process.stderr.read()
@@ -86,11 +98,12 @@ class Player:
             time.sleep(0.0005)
         return holds()
 
-    def wait_for_lines(self, count):
-        return self.wait_for(lambda: len(self.lines) >= count)
+    def wait_for_entries(self, count):
+        """Waits until the rows of so many entries are printed."""
+        return self.wait_for(lambda: self.entries >= count)
 
     def is_up(self):
-        """Waits until its file is there: it is made once the socket is bound."""
+        """Waits until its file is there: it is made once the socket is bound, and the greeting printed."""
         return self.wait_for(lambda: self.recording.exists())
 
     def kill(self):

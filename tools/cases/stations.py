@@ -1,6 +1,7 @@
 """`station` from outside: its words and faults, its streams, its socket, what it hears, memory that is refused to it, and
 calls of the system that fail."""
 import os
+import re
 import socket
 import struct
 import subprocess
@@ -9,11 +10,12 @@ import sys
 import pages
 from cases import texts
 from cases.memory import LATER, refusing_library
-from cases.played import Player, bound, free_address, word_of
+from cases.played import Player, bound, free_address, strangers_first, word_of
 from cases.sockets import FAILING, NO_FILTER
-from cases.trials import Case, Some, Verdict, first_lines
+from cases.trials import PATIENCE, Case, Some, Verdict, first_lines, steady, without_reasons
 from pages import (
-    ACTION_REQUEST, CREATE, DATA_QUERY, MOST_ENTRIES, REMOVE, SENT, SET_DATA, START, STOP, TOLD, Outcome, Post, read_recording,
+    ACTION_REQUEST, CREATE, DATA_QUERY, MOST_ENTRIES, MOST_STRANGERS_NOTED, REMOVE, SENT, SET_DATA, START, STOP, TOLD, Outcome, Post,
+    greeting, read_recording,
 )  # fmt: skip
 
 SETUP = b"""exercise 4
@@ -25,12 +27,13 @@ action 2:3 40
 tick 1:1
 """
 OWN, MANAGER = (2, 3), (1, 1, 0)
+GREETING = greeting(OWN).encode()
 COUNTS = b"station records=0 dropped=0 strangers=0 other=0 lost=0 buffer=N\n"
 # Each move, and a line that is none.
 BAD, BAD_AT = b"moves", b"line 5: bad-line"
 LINES = (
     b"", b"create 2:3 1:1:4", b"at 20", b"tick 2:3", BAD, b"start 2:3 1:1:4", b"stop 2:3 1:1:4", b"do 2:3 1:1:0 40",
-    b"query 2:3 1:1:0 5 6", b"set 2:3 1:1:0 5 7", b"remove 2:3 1:1:4", b"tell 2:3 9", b"",
+    b"query 2:3 1:1:0 5 6", b"set 2:3 1:1:0 5 7", b"remove 2:3 1:1:4", b"tell 2:3 9", b"at 30", b"tick 2:3", b"help", b"status", b"",
 )  # fmt: skip
 
 
@@ -103,60 +106,91 @@ def try_words(trials):
         ([setup, "2:3", setup, busy, there], "output: exists"),
         ([setup, "2:3", "none/there.dsrc", busy, there], "live: line"),
         ([setup, "2:3", "none/there.dsrc", "192.0.2.1:3000", there], "live: line"),
-        ([setup, "2:3", "none/there.dsrc", here, there], "output: write"),
     ]:
         trials.expect(["station", *words], pages.fault(fault), given=b"tell 2:3 7\n")
+    greeted = pages.fault("output: write")._replace(out=GREETING)
+    trials.expect(["station", setup, "2:3", "none/there.dsrc", here, there], greeted, given=b"tell 2:3 7\n")
     for words in ([], [setup], [setup, "2:3", "new", here], [setup, "2:3", "new", here, "from=any"], [setup, "2:3", "new", here, there, "-x"]):
         trials.expect(["station", *words], Outcome(2, b"", Some()))
-    trials.expect(["station", setup, "2:3", "/dev/null", here, there], Outcome(0, COUNTS, b""))
-    trials.expect(["station", setup, "2:3", "/dev/full", there, here], Outcome(2, b"", b"output: write\n"))
+    trials.expect(["station", setup, "2:3", "/dev/null", here, there], Outcome(0, GREETING + COUNTS, b""))
+    trials.expect(["station", setup, "2:3", "/dev/full", there, here], greeted)
 
 
 def try_streams(trials):
-    """Where nothing can be printed it goes on recording; a closed standard input is one that cannot be read."""
+    """Where the greeting cannot be printed no file is made; a closed standard input is one that cannot be read."""
     setup, there = trials.file(SETUP), word_of(free_address())
     for number, (behind, given, status, out, errors, count) in enumerate([
-        (">/dev/full", b"tell 2:3 7\ntell 2:3 8\n", 2, b"", b"output: write\n", 2),
-        (">&-", b"tell 2:3 7\ntell 2:3 8\n", 2, b"", b"output: write\n", 2),
-        ("<&-", b"", 2, COUNTS, b"file: -\n", 0),
-        ("2>/dev/full", b"bad\ntell 2:3 7\n", 2, b"0 told 0 7 stopped\n" + COUNTS.replace(b"0", b"1", 1), b"", 1),
+        (">/dev/full", b"tell 2:3 7\ntell 2:3 8\n", 2, b"", b"output: write\n", None),
+        (">&-", b"tell 2:3 7\ntell 2:3 8\n", 2, b"", b"output: write\n", None),
+        ("<&-", b"", 2, GREETING + COUNTS, b"file: -\n", 0),
+        ("2>/dev/full", b"bad\ntell 2:3 7\n", 2, GREETING + told_row(0) + COUNTS.replace(b"0", b"1", 1), b"", 1),
     ]):  # fmt: skip
         name = f"streams.{number}.dsrc"
         words = ["station", setup, "2:3", name, word_of(free_address()), there]
         case = Case(words, (Outcome(status, out, errors),), given, behind=behind)
         trials.tasks.append(lambda case=case, name=name, count=count: [
-            trials.verdict(case), Verdict(f"the entries of {name}", (count,), len(entries_of(trials, name))),
+            trials.verdict(case), Verdict(f"how many entries {name} has", (count,), count_of(trials, name)),
         ])  # fmt: skip
+    trials.tasks.append(lambda: unheard(trials))
 
 
-def entries_of(trials, name):
-    return read_recording((trials.folder / name).read_bytes()).entries
+def told_row(number):
+    return b"%d told 0 7 stopped\n" % number
+
+
+def count_of(trials, name):
+    """How many entries a recording has, or None where there is no file."""
+    path = trials.folder / name
+    return len(read_recording(path.read_bytes()).entries) if path.exists() else None
+
+
+def unheard(trials):
+    """Whoever reads what it prints goes away behind the greeting: it goes on recording."""
+    words = ["station", trials.file(SETUP), "2:3", "unheard.dsrc", word_of(free_address()), word_of(free_address())]
+    process = subprocess.Popen(
+        [trials.program, *words], cwd=trials.folder, stdin=subprocess.PIPE, stdout=subprocess.PIPE, stderr=subprocess.PIPE
+    )
+    greeted = process.stdout.readline() + process.stdout.readline()
+    process.stdout.close()
+    process.stdin.write(b"tell 2:3 7\nstatus\ntell 2:3 8\n")
+    process.stdin.close()
+    errors = process.stderr.read()
+    return [
+        Verdict("what a station prints before nobody reads on", (GREETING,), steady(greeted)),
+        Verdict("a station that nobody reads on", ((2, b"output: write\n"),), (process.wait(PATIENCE), without_reasons(errors))),
+        Verdict("how many entries it has", (2,), count_of(trials, "unheard.dsrc")),
+    ]
 
 
 def try_heard(trials):
-    """What comes from an address that is no peer is dropped and counted, unless anyone is heard; and what is broadcast."""
+    """What comes from addresses that are no peers is dropped and counted, and the first of them are noted, unless anyone is
+    heard."""
 
     def tried():
         verdicts = []
         for more in ([], ["from=any"]):
             station = Station(trials, f"heard.{len(more)}", *more)
-            stranger, post = bound(), Post(SETUP, OWN)
+            strangers, post = [bound() for _ in range(MOST_STRANGERS_NOTED + 6)], Post(SETUP, OWN)
             for number in range(100):
+                stranger = strangers[number % len(strangers)]
                 stranger.sendto(order(number), station.own)
-                post.strangers += not more
                 if more:
                     post.hear(order(number))
+                else:
+                    post.pass_over(word_of(stranger.getsockname()))
             station.hears(order(1000))
             post.hear(order(1000))
             # A receive passes over 64 strangers, and then finds nothing: what came behind them is found by the next wait.
             station.player.say(b"")
-            station.player.wait_for(lambda post=post, player=station.player: len(player.lines) >= len(post.entries))
-            station.player.say(b"tell 2:3 7")
-            for line in (b"", b"tell 2:3 7"):
+            station.player.wait_for_entries(len(post.entries))
+            station.player.say(b"tell 2:3 7", b"status")
+            for line in (b"", b"tell 2:3 7", b"status"):
                 post.take(line)
             outcome, left = station.ends()
-            stranger.close()
-            verdicts.append(Verdict(f"a station among strangers, with {more}", (post.outcome(),), outcome))
+            for stranger in strangers:
+                stranger.close()
+            expected = strangers_first(post.outcome())
+            verdicts.append(Verdict(f"a station among strangers, with {more}", (expected,), strangers_first(outcome)))
             verdicts.append(Verdict(f"what it recorded, with {more}", (post.text(),), left))
             verdicts.append(Verdict(f"what it sent, with {more}", (post.sent,), station.sent()))
         return verdicts
@@ -244,7 +278,7 @@ def refused(trials, library, alone):
         os.close(reader)
         # Some refusals it gets over.
         # What is lost is not known where the system's list of sockets cannot be read, as here for want of memory.
-        known = outcome._replace(out=outcome.out.replace(b" lost=- ", b" lost=0 "))
+        known = outcome._replace(out=re.sub(rb" lost=-(?=[ \n])", b" lost=0", outcome.out))
         is_right = (known, left) == usual or is_refused and is_as_refused(outcome, left, station.sent())
         which = f"allocation {first}{'' if alone else ' and all later'} refused"
         verdicts.append(Verdict(f"station, {which}", (True,), is_right))
@@ -287,7 +321,7 @@ def try_full(trials):
         mended = f"mended records={MOST_ENTRIES} kept={size} truncated at {size}\n".encode()
         return [
             Verdict("a station whose recording is full", ((2, b"output: write\n"),), (done.returncode, first_lines(done.stderr))),
-            Verdict("what it printed", (True,), done.stdout == b"".join(b"%d told 0 7 stopped\n" % n for n in range(MOST_ENTRIES))),
+            Verdict("what it printed", (True,), steady(done.stdout) == GREETING + b"".join(map(told_row, range(MOST_ENTRIES)))),
             Verdict("what it recorded", (True,), left == head + MOST_ENTRIES * entry),
             trials.verdict(Case(["mend", "station.full.dsrc", "station.full.mended.dsrc"], (Outcome(0, mended, b""),))),
         ]

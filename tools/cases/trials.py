@@ -20,7 +20,8 @@ Verdict = namedtuple("Verdict", "told expected came")
 
 
 def steady(out):
-    """What a station printed, with `buffer=N` for what the system gives."""
+    """What a station printed, with `buffer=N` for what the system gives, in its first and in its last line."""
+    out = re.sub(rb"^(# station \d+:\d+) buffer=\d+\n", rb"\1 buffer=N\n", out)
     return re.sub(rb" buffer=\d+\n$", b" buffer=N\n", out)
 
 

@@ -35,13 +35,13 @@ class Machine:
         self.is_up = self.player.is_up()
 
     def answer_to(self, datagram):
-        """The seconds until an answer is here, and until two more lines are printed."""
-        lines, started = len(self.player.lines), time.monotonic()
+        """The seconds until an answer is here, and until the rows of two more entries are printed."""
+        entries, started = self.player.entries, time.monotonic()
         self.peer.sendto(datagram, self.own)
         self.peer.settimeout(PATIENCE)
         self.peer.recv(65536)
         answered = time.monotonic() - started
-        self.player.wait_for_lines(lines + 2)
+        self.player.wait_for_entries(entries + 2)
         return answered, time.monotonic() - started
 
     def entries(self):
@@ -91,7 +91,7 @@ def try_terminal(trials):
     while not (trials.folder / "terminal.dsrc").exists() and process.poll() is None:
         time.sleep(0.001)
     peer.sendto(order(1), own)
-    seen = [until(b"1 sent 0 ")]
+    seen = [until(b"help lists the lines"), until(b"1 sent 0 ")]
     os.write(master, b"tell 2:")
     peer.sendto(order(2), own)
     seen.append(until(b"3 sent 0 "))
@@ -104,7 +104,7 @@ def try_terminal(trials):
     status = process.wait(PATIENCE)
     os.close(master)
     peer.close()
-    return [Verdict("a station at a terminal", (([True] * 5, 0),), (seen, status))]
+    return [Verdict("a station at a terminal", (([True] * 6, 0),), (seen, status))]
 
 
 def try_inputs(trials):
@@ -151,7 +151,7 @@ def try_beside_traffic(trials):
         behind = started + number / 2000 - time.monotonic()
         if behind > 0:
             time.sleep(behind)
-    machine.player.wait_for_lines(2 * orders)
+    machine.player.wait_for_entries(2 * orders)
     outcome = machine.player.close()
     while select.select([machine.peer], [], [], 0)[0]:
         machine.peer.recv(65536)
@@ -173,16 +173,18 @@ def try_lost(trials):
         machine.peer.sendto(order(number), machine.own)
     lost = drops(machine.own)
     machine.player.process.send_signal(signal.SIGCONT)
-    machine.player.wait_for_lines(2 * (count - lost))
+    machine.player.wait_for_entries(2 * (count - lost))
     machine.player.say(b"quit")
     outcome = machine.player.ended()
     machine.peer.close()
     told = re.search(rb" lost=(\d+) buffer=N\n$", outcome.out)
+    notes = [int(count) for count in re.findall(rb"(?m)^# lost datagrams=(\d+)$", outcome.out)]
     received = kinds(machine.entries()).count(RECEIVED)
     print(f"lost: of {count} datagrams {received} recorded, {lost} lost")
     return [
         Verdict("a station to which too much comes", ((0, True),), (outcome.status, lost > 0)),
         Verdict("what it says is lost", (lost,), int(told[1]) if told else None),
+        Verdict("what it notes of that as it goes, rising, up to all", ((True, [lost]),), (notes == sorted(set(notes)), notes[-1:])),
         Verdict("what it recorded and what was lost", (count,), received + lost),
     ]
 

@@ -1,22 +1,35 @@
 """What `station` does with lines of text and with what comes, by NETWORK.md: what it sends, records, prints and tells."""
 import struct
 
-from .datagrams import LONGEST_DATAGRAM, Outcome
-from .files import ENTITIES, RECEIVED, TOLD, answer_to_show, meaning_of
+from .datagrams import BODIES, LONGEST_DATAGRAM, Outcome, identifier_text
+from .files import ENTITIES, RECEIVED, STATES, TOLD, answer_to_show, meaning_of
 from .scripts import Refused, read_line
 from .worlds import ORDERS, Stopped, World
 
-__all__ = ["LONGEST_LINE", "Post"]
+__all__ = ["HELP", "LONGEST_LINE", "MOST_STRANGERS_NOTED", "Post", "greeting"]
 
 LONGEST_LINE = 65_536
+MOST_STRANGERS_NOTED = 64
 EVERY = 65535  # every site, or every application of one
+HELP = """\
+# create OWN TO, remove OWN TO, start OWN TO, stop OWN TO: an order; OWN is this station, S:A, and TO an entity, S:A:E
+# do OWN TO ACTION, query OWN TO ID .., set OWN TO ID VALUE: orders an action, asks for data, sets a datum
+# at N: the clock shows N; tick OWN: sends an order that is due again; tell OWN E: tells the state of its entity E
+# status: the orders that are not answered, the entities and the counts; quit, or Ctrl-D: the end
+"""
+ENDS = "quit, or Ctrl-D, ends the recording whole; after Ctrl-C it has no end, and siman mend keeps its entries; help lists the lines"
+
+
+def greeting(address, buffer="N"):
+    """What is printed once the link is open."""
+    return f"# station {identifier_text(address)} buffer={buffer}\n# {ENDS}\n"
 
 
 class Post(World):
     """One station of a script, and what came of the lines and datagrams so far. It has what the script says of the
-    station, and none of its moves."""
+    station, and none of its moves. What the system says of its socket is `lost` and `buffer`."""
 
-    def __init__(self, script, address):
+    def __init__(self, script, address, lost="0", buffer="N"):
         super().__init__()
         self.known = set()
         for line in script.decode("ascii").split("\n"):
@@ -26,9 +39,16 @@ class Post(World):
                     self.known.add(words[0])
                 if name == "exercise" or part in (2, 3) and words[0] == address:
                     self.take_line(line)
-        self.address = address
-        self.told, self.number, self.status = [], 0, 0
+        self.address, self.lost, self.buffer = address, lost, buffer
+        self.told, self.number, self.status, self.is_over = [], 0, 0, False
         self.dropped = self.strangers = self.others = 0
+        self.met, self.news = [], []  # strangers that were met, and those of them that are to be noted
+        # What was printed behind the greeting, in its order: the number of an entry, or the text of notes.
+        self.printed = []
+
+    @property
+    def station(self):
+        return self.stations[self.address]
 
     def refuse(self, why):
         """Something is told of the line that was taken last."""
@@ -36,30 +56,58 @@ class Post(World):
         self.status = 2
 
     def take(self, line):
-        """A line of the text, without its line feed."""
+        """A line of the text, without its line feed, and what has arrived then."""
+        if line == b"quit":
+            self.is_over = True
+            return
         self.number += 1
         try:
             if len(line) > LONGEST_LINE or not line.isascii():
                 raise Refused("bad-line")
-            if line and not line.startswith(b"#"):
+            if line and not line.startswith(b"#") and line not in (b"help", b"status"):
                 self.obey(*read_line(line.decode()))
         except (Refused, Stopped) as why:
             self.refuse(why)
+        self.serve()
+        if line == b"help":
+            self.note(HELP)
+        if line == b"status":
+            self.note_status()
+        self.note_strangers()
+
+    def serve(self):
+        """What has arrived is taken; here whoever calls says what comes, by `hear` and `pass_over`, behind the line."""
 
     def obey(self, name, part, words):
         if part != 4 or name == "deliver":
             raise Refused("bad-line")
         if name == "at":
-            self.now = words[0][0]
+            self.set_clock(words[0][0])
         elif words[0] != self.address:
             raise Refused("unknown-station")
         elif name == "tell":
             self.tell_state(words[1][0])
         elif name == "tick":
-            self.tick(self.address)
+            self.note_tick(*self.tick(self.address))
         else:
             self.order(self.address, ORDERS[name], words[1], [word[0] for word in words[2:]])
             self.warn(*words[1][:2])
+
+    def set_clock(self, now):
+        """The clock shows a time; each order that is due by it, and was not before, is noted."""
+        before, self.now = self.due(), now
+        for order in self.due():
+            if order not in before:
+                self.note_order("due", order)
+
+    def due(self):
+        return [order for order in self.station.orders if order.is_due(self.now, self.station)]
+
+    def note_tick(self, given_up, again):
+        for order in given_up:
+            self.note_order("given-up", order)
+        if again is not None:
+            self.note_order("again", again)
 
     def warn(self, site, application):
         """An order for a station that the script has not is warned of; it was sent, and the status stays."""
@@ -70,8 +118,13 @@ class Post(World):
     def tell_state(self, entity):
         if entity not in ENTITIES:
             raise Stopped("no-such-entity")
-        state = self.stations[self.address].entities.get(entity, 0)
-        self.entries.append(struct.pack(">BHHB", TOLD, 0, entity, state))
+        state = self.station.entities.get(entity, 0)
+        self.enter(struct.pack(">BHHB", TOLD, 0, entity, state))
+
+    def enter(self, entry):
+        """An entry is recorded, and its row printed."""
+        self.printed.append(len(self.entries))
+        super().enter(entry)
 
     def hear(self, datagram, keeps=False):
         """A datagram comes from a peer, and is answered where an answer is due; of another protocol family it is passed over,
@@ -84,10 +137,49 @@ class Post(World):
             return
         self.record(RECEIVED, self.address, datagram)
         pdu = meaning_of(self.exercise, datagram)
-        answer = self.stations[self.address].take(pdu) if pdu else None
+        answer = self.station.take(pdu) if pdu else None
         if answer is not None:
             kind, entity, body, version = answer
             self.send(self.address, kind, entity, pdu.origin, body, version)
+
+    def pass_over(self, socket):
+        """A datagram comes from where no peer is, `IP:PORT`."""
+        self.strangers += 1
+        if socket not in self.met and len(self.met) < MOST_STRANGERS_NOTED:
+            self.met.append(socket)
+            self.news.append(socket)
+
+    # Notes.
+
+    def note(self, text):
+        self.printed.append(text)
+
+    def note_order(self, name, order):
+        pdu = order.pdu
+        asked = f"request={order.number} {BODIES[pdu.kind][0]} to={identifier_text(pdu.target)}"
+        self.note(f"# {name} {asked} sends={order.sends} tries={self.station.tries} last={order.last}\n")
+
+    def note_status(self):
+        made = self.station.orders
+        self.note(f"# status clock={self.now} records={len(self.entries)} orders={len(made)} {self.counts()}\n")
+        for order in made:
+            if not order.is_settled:
+                self.note_order(self.standing(order), order)
+        for number, state in sorted(self.station.entities.items()):
+            self.note(f"# entity {identifier_text([*self.address, number])} {STATES[state]}\n")
+
+    def standing(self, order):
+        if order.is_given_up:
+            return "given-up"
+        return "due" if order.is_due(self.now, self.station) else "waiting"
+
+    def note_strangers(self):
+        """The strangers of which what came last is the first are noted, each once."""
+        for socket in self.news:
+            self.note(f"# stranger {socket}\n")
+        self.news = []
+
+    # What there is at the end.
 
     def text(self):
         """The recording: of the second format, open, with this one station."""
@@ -97,11 +189,18 @@ class Post(World):
         return head + b"".join(self.entries) + b"\0" + struct.pack(">I", len(self.entries))
 
     def lines(self):
-        """The lines of its entries."""
-        shown = answer_to_show(self.text()).out.split(b"\n")
-        return b"".join(line + b"\n" for line in shown[-1 - len(self.entries) : -1])
+        """What is printed so far: the greeting, and the rows of its entries, as `show` has them, with the notes between."""
+        rows = answer_to_show(self.text()).out.decode().splitlines(keepends=True)
+        rows = rows[len(rows) - len(self.entries) :]
+        printed = (one if isinstance(one, str) else rows[one] for one in self.printed)
+        return "".join([greeting(self.address, self.buffer), *printed]).encode()
+
+    def counts(self):
+        return f"dropped={self.dropped} strangers={self.strangers} other={self.others} lost={self.lost}"
+
+    def last_line(self):
+        return f"station records={len(self.entries)} {self.counts()} buffer={self.buffer}\n".encode()
 
     def outcome(self):
-        counts = f"station records={len(self.entries)} dropped={self.dropped} strangers={self.strangers} other={self.others} lost=0 buffer=N\n"
-        return Outcome(self.status, self.lines() + counts.encode(), "".join(self.told).encode())
-
+        self.note_strangers()
+        return Outcome(self.status, self.lines() + self.last_line(), "".join(self.told).encode())

@@ -34,14 +34,15 @@ def identifiers(pdu):
 
 
 class Order:
-    """An order of a manager: how it is sent, its PDU, how often it was sent, and when last."""
+    """An order of a manager: how it is sent, its PDU, its identifier, how often it was sent, and when last."""
 
     def __init__(self, words, pdu, now):
-        self.words, self.pdu, self.last, self.sends, self.is_settled = words, pdu, now, 1, False
+        self.words, self.pdu, self.number, self.last, self.sends = words, pdu, request_of(pdu), now, 1
+        self.is_settled = self.is_given_up = False
 
     def is_due(self, now, station):
-        """Whether it is to be sent again; where the clock was set back it counts as just sent."""
-        return not self.is_settled and max(now - self.last, 0) >= station.wait and self.sends < station.tries
+        """Whether it waits, and was last sent so long ago; where the clock was set back it counts as just sent."""
+        return not self.is_settled and not self.is_given_up and max(now - self.last, 0) >= station.wait
 
 
 class Station:
@@ -121,9 +122,13 @@ class World:
         self.exercise, self.now, self.stations, self.sent, self.entries = 0, 0, {}, [], []
         self.opening = {}
 
+    def enter(self, entry):
+        """An entry is recorded."""
+        self.entries.append(entry)
+
     def record(self, kind, address, datagram):
         index = sorted(self.stations).index(address)
-        self.entries.append(struct.pack(">BHQH", kind, index, self.now, len(datagram)) + datagram)
+        self.enter(struct.pack(">BHQH", kind, index, self.now, len(datagram)) + datagram)
 
     def send(self, address, kind, entity, target, body, version=7):
         stamp = 2 * (self.now % (1 << 31))
@@ -142,12 +147,19 @@ class World:
         station.orders.append(Order(words, decoded(self.send(address, *words)), self.now))
 
     def tick(self, address):
-        """The oldest order that is due is sent again."""
-        station = self.stations[address]
-        order = next((order for order in station.orders if order.is_due(self.now, station)), None)
-        if order is not None:
-            self.send(address, *order.words)
-            order.sends, order.last = order.sends + 1, self.now
+        """The orders that are due, from the oldest on: each that was sent often enough is given up, and the first other
+        one is sent again. Answers those given up, and the one sent, if one was."""
+        station, given_up = self.stations[address], []
+        for order in station.orders:
+            if not order.is_due(self.now, station):
+                continue
+            if order.sends < station.tries:
+                self.send(address, *order.words)
+                order.sends, order.last = order.sends + 1, self.now
+                return given_up, order
+            order.is_given_up = True
+            given_up.append(order)
+        return given_up, None
 
     def deliver(self, address, place):
         if place >= len(self.sent):
@@ -164,7 +176,7 @@ class World:
             raise Stopped("no-such-entity")
         state = self.stations[address].entities.get(entity, 0)
         index = sorted(self.stations).index(address)
-        self.entries.append(struct.pack(">BHHB", TOLD, index, entity, state))
+        self.enter(struct.pack(">BHHB", TOLD, index, entity, state))
 
     def take_line(self, line):
         """A line of the script; answers whether it is a move."""

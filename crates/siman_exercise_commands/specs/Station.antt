@@ -15,13 +15,19 @@ use Rattle.siman_operator.specs.declared.scripted.SetUp.{SetUp}
 use Rattle.siman_operator.specs.declared.scripted.SetUpFault.{SetUpFault}
 use Rattle.siman_operator.specs.declared.scripted.SetUpFault.TheVariants as set_ups
 use Rattle.siman_operator.specs.declared.session_report.SessionReport.{SessionReport}
+use Rattle.siman_operator.specs.Closing.{PrintsCounts}
+use Rattle.siman_operator.specs.Notes.{greeting_rows}
 use Rattle.siman_operator.specs.Recorded.{open_setting, Records, IsLeft}
+use Rattle.siman_operator.specs.declared.printing.PrintFault.{PrintFault}
+use Rattle.siman_operator.specs.declared.printing.PrintFault.TheVariants as prints
+use Rattle.siman_print.specs.Spelled.{lines_spelled}
+use Rattle.siman_print.specs.declared.spelling.Spelling.TheVariants.{Text}
 use Rattle.siman_operator.specs.Scripted.{IsSetUp, SetsUp}
 use Rattle.siman_outside.specs.Words.{StationAsked}
 use Rattle.siman_outside.specs.declared.endpoint.Endpoint.{Endpoint}
 use Rattle.siman_outside.specs.declared.fault.Ended.{Ended}
 use Rattle.siman_outside.specs.declared.fault.Fault.{Fault}
-use Rattle.siman_outside.specs.declared.fault.Fault.TheVariants.{BadLine, UnknownStation, ScriptRead, WorldStations, LineFailed, NotInSetup, Exists, Memory}
+use Rattle.siman_outside.specs.declared.fault.Fault.TheVariants.{BadLine, UnknownStation, ScriptRead, WorldStations, LineFailed, NotInSetup, Exists, Output, Memory}
 use Rattle.siman_exercise_commands.specs.declared.station.Placed.{Placed}
 use Rattle.siman_outside.specs.Ending.{Ends, IsFaultOf, fault_text}
 use Rattle.siman_outside.specs.Endpoints.{endpoint_of}
@@ -134,13 +140,31 @@ CreatesPlayed passed ready name input (Creates made (Ok fresh) ∷ Leaves left �
     × IsLeft (open_setting ready.head) ready.station.node.application.outfit told.status fresh left)
 CreatesPlayed passed ready name input deeds played s = ⊥
 
+-- the fault of a session whose first notes could not be printed
+abbrev pub of_print : PrintFault → Fault
+of_print prints.Write = Output
+of_print prints.Memory = Memory
+
+-- the first notes of a station's session
+abbrev pub greeting_text : SiteApplication → (buffer : Option ℕ) → List ℕ
+greeting_text address buffer = lines_spelled Text (greeting_rows address buffer)
+
+-- THE SESSION IS GREETED: its first notes are printed, and then its file is created; if they could not be printed,
+-- none is
+abbrev pub GreetsAndCreates : {L : Type 0} → (passed : L → PassedOver) → ReadyStation L → (name : List ℕ) → (input : Option (List ℕ)) → List Deed → Played → Streams → Type 0
+GreetsAndCreates passed ready name input deeds played s =
+    (buffer : Option ℕ)
+    × (((fault : PrintFault) × PrintsCounts (greeting_text ready.address buffer) s.out.old s.out.new (Err fault) × (deeds ≡ []) × (played ≡ Err (of_print fault)) × Keeps s.errors.old s.errors.new)
+    ⊎ ((mid : Option (List ℕ)) × PrintsCounts (greeting_text ready.address buffer) s.out.old mid (Ok tt)
+    × CreatesPlayed passed ready name input deeds played (record { out = record { old = mid; new = s.out.new }; errors = s.errors })))
+
 -- THE STATION IS ATTACHED TO ITS LINK as it was set up, among the stations of its script; it is not if memory runs
 -- out
 abbrev pub IsAttached : {L : Type 0} → (passed : L → PassedOver) → SetUp → (address : SiteApplication) → (name : List ℕ) → (input : Option (List ℕ)) → List Deed → Played → Streams → Type 0
 IsAttached {L} passed set_up address name input deeds played s =
     PlaysNone Memory deeds played s
     ⊎ ((ready : ReadyStation L) × (ready.head ≡ set_up.head) × IsAtLink set_up.node ready.station × (ready.address ≡ address)
-    × (ready.stations ≡ set_up.stations) × CreatesPlayed passed ready name input deeds played s)
+    × (ready.stations ≡ set_up.stations) × GreetsAndCreates passed ready name input deeds played s)
 
 -- ITS LINK is requested, with the endpoints that the words name; if there is none, the fault is `live: line`, or
 -- that memory ran out

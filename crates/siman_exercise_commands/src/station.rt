@@ -8,7 +8,7 @@ ghost use Rattle.siman_operator.specs.declared.reading.TheConstants.{LONGEST_LIN
 ghost use Rattle.siman_operator.specs.Recorded.{IsReady};
 ghost use Rattle.siman_outside.specs.Words.{named_by};
 ghost use Rattle.siman_exercise_commands.specs.Explained.{TextRead, text_read, GivesReason};
-ghost use Rattle.siman_exercise_commands.specs.Station.{of_set_up, Streams, FindsAddress, FindsEndpoint, FindsEndpoints, Places, SetsUpText, SetsUpFile, IsOfScript, CreatesPlayed, IsAttached, HasLine, PlaysSetUp, PlaysFile, EndsPlayed, EndsStation};
+ghost use Rattle.siman_exercise_commands.specs.Station.{of_set_up, Streams, FindsAddress, FindsEndpoint, FindsEndpoints, Places, SetsUpText, SetsUpFile, IsOfScript, CreatesPlayed, of_print, GreetsAndCreates, IsAttached, HasLine, PlaysSetUp, PlaysFile, EndsPlayed, EndsStation};
 
 use crate::explained::refused;
 use crate::links::Links;
@@ -16,8 +16,8 @@ use crate::live::creation_fault;
 use dis_records::Address;
 use siman_lines::{Input, Line};
 use siman_operator::{
-    LONGEST_LINE, ReadyStation, SessionRecording, SessionReport, SetUp, SetUpFault, attach_station,
-    record_session, set_up,
+    LONGEST_LINE, PrintFault, ReadyStation, SessionRecording, SessionReport, SetUp, SetUpFault,
+    attach_station, greet, record_session, set_up,
 };
 use siman_outside::{
     Ended, Ending, Endpoint, Fault, Listening, StationWords, conclude, end, endpoint_of, of_error,
@@ -172,6 +172,41 @@ fn create_played<O: Links, R: Input<O::Line>, W: Write, E: Write>(
     }
 }
 
+/// Fault of a session that could not be greeted.
+fn of_print(fault: PrintFault) -> Fault<'static>
+    ensures { result ≡ of_print fault }
+{
+    match fault {
+        PrintFault::Write => Fault::Output,
+        PrintFault::Memory => Fault::Memory,
+    }
+}
+
+/// Prints the first notes of a session, and then creates its file and plays it.
+fn greet_and_create<O: Links, R: Input<O::Line>, W: Write, E: Write>(
+    alloc: Global,
+    ready: ReadyStation<O::Line>,
+    placed: Placed<'_>,
+    outside: &mut O,
+    input: &mut R,
+    out: &mut W,
+    errors: &mut E,
+) -> Result<SessionReport, Fault<'static>>
+    requires room { length placed.room.items ≡ LONGEST_LINE + 1 }
+    requires ready { IsReady ready }
+    ensures { let s : Streams = record { out = record { old = W.contents out.old; new = W.contents out.new }; errors = record { old = E.contents errors.old; new = E.contents errors.new } } in
+        DidMake O.deeds outside.old outside.new (λ deeds. GreetsAndCreates O.Line.passed ready placed.entry.name.now (R.remaining input.old) deeds result s) }
+{
+    match greet(alloc, &ready, out) {
+        Ok(()) => create_played(alloc, ready, placed, outside, input, out, errors),
+        Err(fault) => {
+            drop(ready);
+            drop(placed);
+            Err(of_print(fault))
+        }
+    }
+}
+
 /// Requests the link of a configured station, attaches the station, and plays it there.
 fn open_and_play<O: Links, R: Input<O::Line>, W: Write, E: Write>(
     alloc: Global,
@@ -196,7 +231,7 @@ fn open_and_play<O: Links, R: Input<O::Line>, W: Write, E: Write>(
         }
     };
     match attach_station(alloc, set_up, placed.address, line) {
-        Ok(ready) => create_played(alloc, ready, placed, outside, input, out, errors),
+        Ok(ready) => greet_and_create(alloc, ready, placed, outside, input, out, errors),
         Err(_) => {
             drop(placed);
             Err(Fault::Memory)

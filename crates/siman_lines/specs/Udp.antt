@@ -1,6 +1,6 @@
 -- A link over a socket: to whom it hands what, and what it passes over (profile).
-use Rattle.std.specs.Prelude.{◌≡◌, ℕ, Bool, true, false, not, ◌&&◌, ◌||◌, ◌==◌, nat_lt, ◌+◌, ◌-◌, ◌^◌, ◌≤◌, ◌<◌, min, List, [], ◌∷◌, length, take, map, slice_index, Option, Some, None, is_none, Result, Ok, Err, ◌⊎◌, if◌then◌else◌}
-use Rattle.std.specs.Option.{option_or}
+use Rattle.std.specs.Prelude.{◌≡◌, ℕ, Bool, true, false, not, ◌&&◌, ◌||◌, ◌==◌, nat_lt, ◌+◌, ◌-◌, ◌^◌, ◌≤◌, ◌<◌, min, List, [], ◌∷◌, ◌++◌, length, take, map, slice_index, Option, Some, None, is_none, Result, Ok, Err, ◌⊎◌, if◌then◌else◌}
+use Rattle.std.specs.Option.{option_or, option_map_or}
 use Rattle.std.specs.Cmp.Lexicographic.{pointwise}
 use Rattle.std.specs.List.{AllByRecursion, filter, list_any, flat_map, filter_map}
 use Rattle.std.specs.declared.io.ErrorKind.{ErrorKind}
@@ -125,7 +125,19 @@ abbrev pub all_passed_on : List SocketAddr → Hearing → List Addressed → Pa
 all_passed_on peers hearing [] before = before
 all_passed_on peers hearing (d ∷ ds) before = all_passed_on peers hearing ds (passed_on peers hearing d before)
 
--- DATAGRAMS CAME, AND WERE PASSED OVER AND COUNTED; nothing else changed
+-- an address is among those that are kept
+abbrev pub is_kept : SocketAddr → List (Option SocketAddr) → Bool
+is_kept from strangers = list_any (λ s. option_map_or (λ a. same_address a from) s false) strangers
+
+-- the strangers that came first, at most 64, with one that came
+abbrev pub strangers_with : SocketAddr → List (Option SocketAddr) → List (Option SocketAddr)
+strangers_with from strangers = if not (is_kept from strangers) && nat_lt (length strangers) 64 then strangers ++ Some from ∷ [] else strangers
+
+-- the same after a datagram from this address
+abbrev pub strangers_after : List SocketAddr → Hearing → SocketAddr → List (Option SocketAddr) → List (Option SocketAddr)
+strangers_after peers hearing from strangers = if is_stranger peers hearing from then strangers_with from strangers else strangers
+
+-- DATAGRAMS CAME, AND WERE PASSED OVER AND COUNTED; of the rest only the kept strangers may have changed
 pub record PassesOver {S : Type 0} (told : Telling S) (ds : List Addressed) (old new : UdpLine S) : Type 0 where
   pub each : AllByRecursion (λ d. is_passed_over old.peers.items old.hearing d ≡ true) ds
   pub came : told.came new.socket ≡ grown (told.came old.socket) ds

@@ -4,6 +4,7 @@ ghost use Rattle.std.specs.Prelude.{◌≡◌, not, ℕ, ◌<◌, List, Option, 
 ghost use Rattle.siman_lines.specs.LineDatagrams.{Grows, Hands, MayGrow, Same};
 
 use crate::trouble::LineTrouble;
+use std::net::SocketAddr;
 use thiserror::Error;
 
 /// A failed call of a link.
@@ -100,6 +101,17 @@ pub trait Line {
 
     /// The last failed call, if there was any and the link records it.
     fn trouble(&self) -> Option<LineTrouble> {
+        None
+    }
+
+    /// The address of the stranger that came first after `place` other ones, if the link keeps it. No
+    /// contract speaks of it.
+    fn stranger(&self, _place: usize) -> Option<SocketAddr> {
+        None
+    }
+
+    /// As [`lost`](Line::lost), as it was when the link looked last. No contract speaks of it.
+    fn lost_lately(&self) -> Option<u64> {
         None
     }
 

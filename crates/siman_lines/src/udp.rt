@@ -6,12 +6,16 @@ ghost use Rattle.siman_lines.specs.Udp.{v4_of, SendsToAll};
 use crate::line::{Line, LineFault, PassedOver};
 use crate::socket::{Hearing, Socket};
 use crate::trouble::{LineCall, LineTrouble};
+use arrayvec::ArrayVec;
 use http_server::Log;
 use std::io::ErrorKind;
 use std::net::{SocketAddr, SocketAddrV4};
 
 /// Most datagrams that one receive passes over.
 const MOST_PASSED_OVER: u32 = 64;
+
+/// Most strangers whose addresses are kept.
+const MOST_STRANGERS: usize = 64;
 
 /// The protocol family of Simulation Management.
 const FAMILY: u8 = 5;
@@ -24,14 +28,16 @@ pub struct UdpLine<S: Drop> {
     peers: Vec<SocketAddr>,
     hearing: Hearing,
     passed: PassedOver,
+    /// The strangers that came first, in the order in which they came.
+    strangers: ArrayVec<Option<SocketAddr>, MOST_STRANGERS>,
     failures: Log<(), ()>,
     trouble: Option<LineTrouble>,
 }
 
 impl<S: Drop> UdpLine<S> {
-    ghost use Rattle.std.specs.Prelude.{◌≡◌, ◌+◌, length};
+    ghost use Rattle.std.specs.Prelude.{◌≡◌, ◌+◌, [], length};
     ghost use Rattle.siman_lines.specs.Passed.{passed_nothing};
-    ghost use Rattle.siman_lines.specs.Udp.{is_stranger, is_other, is_passed_over, passed_on};
+    ghost use Rattle.siman_lines.specs.Udp.{is_stranger, is_other, is_passed_over, passed_on, strangers_with, strangers_after};
 
     /// Makes a link over a socket whose receives never wait. It sends to each of these peers, in
     /// their order, and returns datagrams from them alone, unless it hears anyone, and of
@@ -42,6 +48,7 @@ impl<S: Drop> UdpLine<S> {
         ensures peers { result.peers ≡ peers }
         ensures hearing { result.hearing ≡ hearing }
         ensures passed { result.passed ≡ passed_nothing }
+        ensures strangers { result.strangers.items ≡ [] }
         ensures trouble { result.trouble ≡ None }
         ensures failures { length result.failures.items ≡ 0 }
     {
@@ -50,6 +57,7 @@ impl<S: Drop> UdpLine<S> {
             peers,
             hearing,
             passed: PassedOver::nothing(),
+            strangers: ArrayVec::new(),
             failures: Log::new(),
             trouble: None,
         }
@@ -90,10 +98,28 @@ impl<S: Drop> UdpLine<S> {
         !self.hearing.all && datagram.len() > 3 && datagram[3] != FAMILY
     }
 
-    /// Whether a datagram is passed over. Counts it, if so.
+    /// Keeps the address of a stranger, if it is none of those that are kept, and there are fewer
+    /// than 64.
+    fn keep_stranger(&mut self, from: SocketAddr)
+        ensures strangers { self.new.strangers.items ≡ strangers_with from self.old.strangers.items }
+        ensures passed { self.new.passed ≡ self.old.passed }
+        ensures socket { self.new.socket ≡ self.old.socket }
+        ensures peers { self.new.peers ≡ self.old.peers }
+        ensures hearing { self.new.hearing ≡ self.old.hearing }
+        ensures failures { self.new.failures ≡ self.old.failures }
+        ensures trouble { self.new.trouble ≡ self.old.trouble }
+    {
+        let from = Some(from);
+        if !self.strangers.contains(&from) && self.strangers.len() < MOST_STRANGERS {
+            self.strangers.push(from);
+        }
+    }
+
+    /// Whether a datagram is passed over. Counts it, if so, and keeps the address of a stranger.
     fn passes_over(&mut self, datagram: &[u8], from: SocketAddr) -> bool
         ensures result { result ≡ is_passed_over self.old.peers.items self.old.hearing (record { address = from; bytes = datagram.now }) }
         ensures passed { self.new.passed ≡ passed_on self.old.peers.items self.old.hearing (record { address = from; bytes = datagram.now }) self.old.passed }
+        ensures strangers { self.new.strangers.items ≡ strangers_after self.old.peers.items self.old.hearing from self.old.strangers.items }
         ensures socket { self.new.socket ≡ self.old.socket }
         ensures peers { self.new.peers ≡ self.old.peers }
         ensures hearing { self.new.hearing ≡ self.old.hearing }
@@ -102,6 +128,7 @@ impl<S: Drop> UdpLine<S> {
     {
         if self.is_stranger(from) {
             self.passed.strangers = self.passed.strangers.saturating_add(1);
+            self.keep_stranger(from);
             return true;
         }
         if self.is_other(datagram) {
@@ -209,6 +236,13 @@ impl<S: Socket + Drop> Line for UdpLine<S> {
 
     fn passed(&self) -> PassedOver {
         self.passed
+    }
+
+    fn stranger(&self, place: usize) -> Option<SocketAddr> {
+        match self.strangers.as_slice().get(place) {
+            Some(stranger) => *stranger,
+            None => None,
+        }
     }
 
     fn trouble(&self) -> Option<LineTrouble> {

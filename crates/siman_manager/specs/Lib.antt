@@ -4,3 +4,4 @@ pub mod Blocks
 pub mod Answers
 pub mod Lending
 pub mod Calls
+pub mod Viewed

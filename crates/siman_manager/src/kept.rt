@@ -2,9 +2,11 @@
 
 ghost use Rattle.std.specs.Prelude.{◌≡◌, count_by};
 ghost use Rattle.indexmap.specs.IndexMap.{values};
-ghost use Rattle.siman_manager.specs.Book.{status_of, is_given_up};
+ghost use Rattle.siman_manager.specs.Book.{status_of, is_given_up, is_due};
+ghost use Rattle.siman_manager.specs.Viewed.{viewed, view_of};
 
-use crate::order::OrderStatus;
+use crate::order::{OrderStatus, OrderView};
+use crate::settings::Settings;
 use indexmap::IndexMap;
 use siman_pdus::Pdu;
 
@@ -36,6 +38,28 @@ impl MadeOrder {
             OrderStanding::Waiting => OrderStatus::Waiting(self.sends),
             OrderStanding::Answered => OrderStatus::Answered,
             OrderStanding::GivenUp => OrderStatus::GivenUp,
+        }
+    }
+
+    /// The order, as it stands.
+    pub(crate) fn view(&self) -> OrderView<'_>
+        ensures { viewed result ≡ view_of self.now }
+    {
+        OrderView {
+            pdu: &self.pdu,
+            sends: self.sends,
+            last: self.last,
+            status: self.status(),
+        }
+    }
+
+    /// Whether it waits, and was last sent at least `wait` ago.
+    pub(crate) fn is_due(&self, settings: &Settings, now: u64) -> bool
+        ensures { result ≡ is_due settings.now now self.now }
+    {
+        match self.standing {
+            OrderStanding::Waiting => now.saturating_sub(self.last) >= settings.wait,
+            OrderStanding::Answered | OrderStanding::GivenUp => false,
         }
     }
 

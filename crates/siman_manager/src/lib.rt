@@ -22,4 +22,4 @@ mod walk;
 pub use fault::OrderFault;
 pub use laws::orders_are_kept;
 pub use manager::Manager;
-pub use order::{Order, OrderStatus, Taken};
+pub use order::{Order, OrderStatus, OrderView, Taken};

@@ -1,17 +1,18 @@
 //! The manager of a station.
 
-ghost use Rattle.std.specs.Prelude.{◌≡◌, ◌≤◌, ◌<◌, [], length, IfOk, IfErr, IfSome, None, Some, Err, IsTrue, MatchOption, slice_get, count_by};
-ghost use Rattle.std.specs.Option.{option_map, option_copied};
+ghost use Rattle.std.specs.Prelude.{◌≡◌, ◌≤◌, ◌<◌, [], length, IfOk, IfErr, IfSome, None, Some, Err, false, IsTrue, MatchOption, slice_get, count_by};
+ghost use Rattle.std.specs.Option.{option_map, option_map_or, option_copied};
 ghost use Rattle.std.specs.Borrow.{sem};
 ghost use Rattle.siman_pdus.specs.Role.{is_request_body};
-ghost use Rattle.siman_manager.specs.Book.{Book, next_id, order_pdu, order_of, taken_as, repeated, status_of, is_given_up};
+ghost use Rattle.siman_manager.specs.Book.{Book, next_id, order_pdu, order_of, taken_as, repeated, status_of, is_given_up, is_due};
+ghost use Rattle.siman_manager.specs.Viewed.{viewed, view_of};
 ghost use Rattle.siman_manager.specs.Answers.{reported_by, refusal_of, book_after, ticked, taken};
 ghost use Rattle.siman_manager.specs.Lending.{EndsRequested, EndsTicked};
 
 use crate::fault::OrderFault;
 use crate::kept::{OrderTable, count_given_up};
 use crate::making::make;
-use crate::order::{Order, OrderStatus, Taken};
+use crate::order::{Order, OrderStatus, OrderView, Taken};
 use crate::settings::Settings;
 use crate::settling::{place_of, take};
 use crate::walk::walk;
@@ -172,5 +173,42 @@ impl Manager {
         ensures { result ≡ count_by is_given_up self.now.orders }
     {
         count_given_up(&self.orders)
+    }
+
+    /// Number of orders that were made.
+    pub fn order_count(&self) -> usize
+        ensures { result ≡ length self.now.orders }
+    {
+        self.orders.len()
+    }
+
+    /// The order that was made after `place` others, or `None` if none was.
+    pub fn order(&self, place: usize) -> Option<OrderView<'_>>
+        ensures { option_map viewed result ≡ option_map view_of (slice_get self.now.orders place) }
+    {
+        if place < self.orders.len() {
+            Some(self.orders[place].view())
+        } else {
+            None
+        }
+    }
+
+    /// Whether the order that was made after `place` others waits, and was last sent at least `wait`
+    /// ago.
+    pub fn is_due(&self, place: usize, now: u64) -> bool
+        ensures { result ≡ option_map_or (is_due self.now.settings now) (slice_get self.now.orders place) false }
+    {
+        if place < self.orders.len() {
+            self.orders[place].is_due(&self.settings, now)
+        } else {
+            false
+        }
+    }
+
+    /// Most sendings of an order.
+    pub fn tries(&self) -> u32
+        ensures { result ≡ self.now.settings.tries }
+    {
+        self.settings.tries
     }
 }

@@ -1,7 +1,7 @@
 //! Orders, their states, and the meanings of PDUs to them.
 
 use dis_records::EntityId;
-use siman_pdus::Body;
+use siman_pdus::{Body, Pdu};
 
 /// An order to be made, and its receiver.
 #[derive(Drop, PartialEq, Eq)]
@@ -35,4 +35,17 @@ pub enum Taken {
     Answered(u32),
     /// It answers the order and does not settle it: the order is unchanged.
     Pending(u32),
+}
+
+/// An order that was made, as it stands.
+#[derive(Clone, Copy)]
+pub struct OrderView<'a> {
+    /// Its PDU, as it was last sent.
+    pub pdu: &'a Pdu,
+    /// How often it was sent.
+    pub sends: u32,
+    /// Time of its last sending.
+    pub last: u64,
+    /// Its state.
+    pub status: OrderStatus,
 }

@@ -1,29 +1,21 @@
 -- What a post leaves, from the start of its recording on.
 use Rattle.std.proofs.Common.{◌≡◌, ℕ, List, [], ◌∷◌, refl, ap, sym, ◌∙◌, subst}
-use Rattle.std.specs.Prelude.{Option, Some, None, MatchOption}
-use Rattle.std.specs.Io.KnownBytes.{Appends, Keeps}
-use Rattle.std.proofs.KnownBytes.{Appends-kept, Appends-nil}
-use Rattle.byte_files.specs.Writing.{WritesPart}
+use Rattle.std.specs.Prelude.{Option, Some}
 use Rattle.exercise_model.specs.Entry.{Entry}
 use Rattle.exercise_model.specs.Setting.{SettingData}
 use Rattle.siman_lines.specs.Calls.{IsFresh}
 use Rattle.siman_lines.specs.KeptAtLine.{IsWritten, IsKept}
 use Rattle.siman_lines.proofs.Offered.{started, fresh}
-use Rattle.siman_operator.specs.declared.printing.PrintFault.{PrintFault}
 use Rattle.siman_operator.specs.Noting.{datagrams_sent}
 use Rattle.siman_operator.specs.Printing.{IsPrinted}
 use Rattle.siman_operator.specs.Deeds.{PostState, GoesOn}
 use Rattle.siman_operator.specs.Explained.{GoOn, IsStarted, Leaves}
 use Rattle.siman_operator.proofs.Going.{goes_then}
+use Rattle.siman_operator.proofs.Lines.{none_printed}
 
 pub go_on : {L : Type 0} (a : PostState L) (bs : List (PostState L)) (c : PostState L) → GoOn a bs c → GoesOn a c
 go_on a [] c goes = goes
 go_on a (b ∷ bs) c goes = goes_then a b c goes.0 (go_on b bs c goes.1)
-
-none_printed : (start out : Option (List ℕ)) (fault : Option PrintFault) → fault ≡ None → Keeps start out
-    → MatchOption fault (Appends start out []) (λ f. WritesPart start out [])
-none_printed start out None e kept = Appends-kept start start out [] (Appends-nil start) kept
-none_printed start out (Some f) e kept = absurd cc
 
 pub leaves : {L : Type 0} (before start : Option (List ℕ)) (w : SettingData) (old new : PostState L) → IsStarted before start w old → GoesOn old new
     → Leaves before start w new
@@ -34,7 +26,7 @@ leaves before start w old new is goes =
     fresh old.station.index old.station.node old.recorder handed
     (subst (λ (v : SettingData). IsFresh old.station.index old.station.node v handed) (sym is.starts.setting) is.fresh) in
     let kept = goes.keeps before [] written begun in
-    let printed = goes.prints before start [] written (none_printed start old.printing.out old.printing.fault is.fault is.out) in (
+    let printed = goes.prints before start [] written (none_printed start old.exercise old.printing is.fault is.out) in (
       (
         kept.0,
         record {

@@ -1,8 +1,14 @@
 pub mod NotedLemmas
+pub mod NoteRows
+pub mod ReadyPlaces
 pub mod Lines
+pub mod Flushed
 pub mod Prints
 pub mod OneTurn
 pub mod Going
+pub mod NotesPrinted
+pub mod TakenOn
+pub mod OrderNotes
 pub mod Taking
 pub mod Leaving
 pub mod Single

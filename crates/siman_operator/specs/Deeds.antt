@@ -18,7 +18,13 @@ use Rattle.siman_operator.specs.declared.printing.PrintFault.{PrintFault}
 use Rattle.siman_operator.specs.declared.tracing_line.TracingLine.{TracingLine}
 use Rattle.siman_operator.specs.Noted.{last_of}
 use Rattle.siman_operator.specs.Noting.{datagrams_sent, datagrams_received}
-use Rattle.siman_operator.specs.Printing.{Printing, line_of, IsPrinted, PrintsLine, PrintsNothing, StopsPrinting}
+use Rattle.siman_manager.specs.Book.{Book}
+use Rattle.siman_lines.specs.declared.fault.AtLineFault.{AtLineFault}
+use Rattle.siman_operator.specs.Notes.{tick_rows, help_rows, status_rows}
+use Rattle.siman_operator.specs.declared.reading.Question.{Question}
+use Rattle.siman_operator.specs.declared.reading.Question.TheVariants as questions
+use Rattle.siman_lines.specs.declared.line.PassedOver.{PassedOver}
+use Rattle.siman_operator.specs.Printing.{Printing, line_of, IsPrinted, PrintsLine, PrintsNothing, StopsPrinting, MayNote}
 
 -- Printing.
 
@@ -38,6 +44,11 @@ PrintsTurn p x recorded now entries received sent old new =
     ((mid : Printing) × PrintsLine (line_of x entries (Received p.index now (last_of (datagrams_received p.line)))) old mid
     × PrintsSent p x recorded now (entries + 1) sent mid new)
     (StopsPrinting old new))
+
+-- what a tick did is noted, if it was done
+abbrev pub NotesTick : Book → (now : ℕ) → Result (Unit {0}) AtLineFault → (mid new : Printing) → Type 0
+NotesTick b now (Ok done) mid new = MayNote (tick_rows b now) mid new
+NotesTick b now (Err fault) mid new = new ≡ mid
 
 -- The invariant.
 
@@ -67,6 +78,13 @@ pub record PostData (L : Type 0) : Type 0 where
 -- what contracts see of a post
 abbrev pub data_of : {L W : Type 0} → Post L W → PostData L
 data_of p = record { station = p.station; recorder = p.recorder; exercise = p.printer.exercise; fault = p.printer.fault; address = p.address; clock = p.clock }
+
+-- what a line asks of a session is answered; nothing is printed, if it asks nothing
+abbrev pub AnswersQuestion : {L : Type 0} → (passed : L → PassedOver) → Question → PostData L → (old new : Printing) → Type 0
+AnswersQuestion passed questions.Nothing p old new = PrintsNothing old new
+AnswersQuestion passed questions.Help p old new = MayNote help_rows old new
+AnswersQuestion passed questions.Status p old new =
+    (lost : Option ℕ) × MayNote (status_rows p.address p.station.node p.clock p.recorder.entries p.station.dropped (passed p.station.line.line) lost) old new
 
 -- neither the address nor the clock of a post changes
 abbrev pub IsAtSameTime : {L : Type 0} → (old new : PostData L) → Type 0

@@ -1,5 +1,6 @@
 pub mod Noted
 pub mod Noting
+pub mod Notes
 pub mod Printing
 pub mod Deeds
 pub mod Obeying

@@ -87,7 +87,14 @@ pub(crate) fn print_counts<O: Write>(
     let Ok(line) = session_line(alloc, records, dropped, passed, counts) else {
         return Err(PrintFault::Memory);
     };
-    match put(out, line.as_bytes()) {
+    print_text(out, &line)
+}
+
+/// Prints a text, and flushes the output.
+pub(crate) fn print_text<O: Write>(out: &mut O, text: &str) -> Result<(), PrintFault>
+    ensures { PrintsCounts text.now (O.contents out.old) (O.contents out.new) result }
+{
+    match put(out, text.as_bytes()) {
         Ok(()) => flush(out),
         Err(_) => Err(PrintFault::Write),
     }

@@ -144,7 +144,7 @@ impl<'s, L: Line + Drop, W: Write> Post<'s, L, W> {
         match command {
             Command::Nothing => Ok(()),
             Command::At(now) => {
-                self.clock = now;
+                self.set_clock(alloc, out, now);
                 Ok(())
             }
             Command::Asks { address, task } => self.do_asked(alloc, out, address, task),

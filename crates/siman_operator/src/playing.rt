@@ -12,9 +12,10 @@ ghost use Rattle.siman_operator.specs.Sessions.{print_stop_at, quit_line, PlaysL
 
 use crate::came::Came;
 use crate::coming::next_coming;
-use crate::reading::{LONGEST_LINE, line_or_placeholder};
+use crate::reading::{LONGEST_LINE, line_or_placeholder, question_of};
 use crate::reason::reason_of;
 use crate::receiver::warned_receiver;
+use crate::session_notes::LinkNoted;
 use crate::session_report::SessionReport;
 use crate::{Post, PrintFault};
 use dis_records::Address;
@@ -49,13 +50,15 @@ fn print_stop_at(before: Option<PrintFault>, after: Option<PrintFault>) -> Optio
     if before.is_some() { None } else { after }
 }
 
-/// Takes a line in a session of a script with these stations. `held` is the line, or its beginning
-/// if it is longer than the buffer.
+/// Takes a line in a session of a script with these stations, answers what it asks of the session,
+/// and notes what is new at the link. `held` is the line, or its beginning if it is longer than the
+/// buffer.
 fn take_buffered_line<L: Line + Drop, W: Write, O: Write>(
     alloc: Global,
     stations: &[Address],
     post: &mut Post<'_, L, W>,
     out: &mut O,
+    noted: &mut LinkNoted,
     held: &[u8],
 ) -> Came
     ensures takes { TakesLine (telling L.passed) (said_by held.now) (data_of post.old) (data_of post.new) result.line }
@@ -69,6 +72,8 @@ fn take_buffered_line<L: Line + Drop, W: Write, O: Write>(
     let before = post.print_fault();
     let own = post.address();
     let line = post.take_line(alloc, out, line_or_placeholder(held));
+    post.answer(alloc, out, question_of(held));
+    *noted = post.note_link(alloc, out, *noted);
     Came {
         line,
         print_stop: print_stop_at(before, post.print_fault()),
@@ -108,6 +113,7 @@ pub(crate) fn play_lines<L: Line + Drop, R: Input<L>, W: Write, O: Write, E: Wri
     let mut told = SessionReport::nothing();
     let mut number: u64 = 0;
     let mut held = 0;
+    let mut noted = LinkNoted::nothing();
     for _ in 0..u64::MAX {
         let coming = match next_coming(input, post.link(), buffer, &mut held) {
             Ok(coming) => coming,
@@ -131,7 +137,7 @@ pub(crate) fn play_lines<L: Line + Drop, R: Input<L>, W: Write, O: Write, E: Wri
                 stop: Stop::Quit,
             };
         }
-        let came = take_buffered_line(alloc, stations, post, out, said);
+        let came = take_buffered_line(alloc, stations, post, out, &mut noted, said);
         number = coming.number(number);
         told = told.and_line(errors, number, came);
         if came.line.is_over() {

@@ -27,10 +27,10 @@ use std::io::Write;
 /// of its entries, its address in the exercise, and its clock.
 #[derive(Drop)]
 pub struct Post<'s, L: Line + Drop, W: Write> {
-    station: StationAtLine<TracingLine<L>>,
-    recorder: RecordingWriter<'s, W>,
-    printer: EntryPrinter,
-    address: Address,
+    pub(crate) station: StationAtLine<TracingLine<L>>,
+    pub(crate) recorder: RecordingWriter<'s, W>,
+    pub(crate) printer: EntryPrinter,
+    pub(crate) address: Address,
     pub(crate) clock: u64,
 }
 
@@ -109,7 +109,11 @@ impl<'s, L: Line + Drop, W: Write> Post<'s, L, W> {
 
     /// Records and sends the repeat that is due, if any, as [`repeat_at`] does, and prints the row
     /// of its entry.
-    pub(crate) fn repeat<O: Write>(&mut self, alloc: Global, out: &mut O) -> Result<(), AtLineFault>
+    pub(crate) fn send_repeat<O: Write>(
+        &mut self,
+        alloc: Global,
+        out: &mut O,
+    ) -> Result<(), AtLineFault>
         ensures ends { RepeatsAt (telling L.passed) self.old.clock self.old.station self.old.recorder self.new.station self.new.recorder result }
         ensures time { IsAtSameTime (data_of self.old) (data_of self.new) }
         ensures goes { GoesOn (printed (data_of self.old) (O.contents out.old)) (printed (data_of self.new) (O.contents out.new)) }

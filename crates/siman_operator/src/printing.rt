@@ -96,6 +96,20 @@ impl EntryPrinter {
         };
     }
 
+    /// Prints the text of notes, and flushes the output. Prints nothing if an earlier row was not
+    /// printed whole.
+    pub(crate) fn print_notes<O: Write>(&mut self, out: &mut O, text: &str)
+        ensures exercise { self.new.exercise ≡ self.old.exercise }
+        ensures printed { let old : Printing = record { out = O.contents out.old; fault = self.old.fault } in
+            let new : Printing = record { out = O.contents out.new; fault = self.new.fault } in
+            PrintsLine text.now old new }
+    {
+        if self.fault.is_some() {
+            return;
+        }
+        self.fault = print_line(out, text.as_bytes());
+    }
+
     /// Stops the printing, since an entry is unknown.
     pub(crate) fn stop_printing(&mut self)
         ensures exercise { self.new.exercise ≡ self.old.exercise }

@@ -9,15 +9,15 @@ use Rattle.siman_outside.proofs.Offered.{adds_then, all_one}
 use Rattle.siman_exercise_commands.proofs.Stood.{stood_ready}
 use Rattle.siman_exercise_commands.proofs.station.open_and_play.Goals as goal
 
-pub create_played-requires-clause-ready : goal.create_played-requires-clause-ready
-create_played-requires-clause-ready g c =
+pub greet_and_create-requires-clause-ready : goal.greet_and_create-requires-clause-ready
+greet_and_create-requires-clause-ready g c =
     let had = c.in-Ok-attach_station in stood_ready c.args.set_up had.ready c.requires.set_up had.ensures.head had.ensures.station
 
 pub returns-in-Ok-attach_station : goal.returns-in-Ok-attach_station
 returns-in-Ok-attach_station g c =
     let bound = Binds c.args.placed.bind c.args.placed.peers.items c.args.placed.listening (Ok tt) in
     let had = c.in-Ok-attach_station in
-    let rest = c.create_played.ensures in (
+    let rest = c.greet_and_create.ensures in (
       bound ∷ rest.0,
       adds_then _ _ _ (bound ∷ []) rest.0 (rw c.deref.ensures.value at c.in-Ok.ensures.done) rest.1,
       (λ holds. All-cons (WasHeld holds) bound rest.0 tt (rest.2 holds)),

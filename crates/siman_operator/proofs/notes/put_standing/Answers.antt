@@ -1,0 +1,10 @@
+-- The rows of one more stand behind those before.
+use Rattle.siman_operator.specs.Notes.{at_place, standing_row}
+use Rattle.siman_operator.proofs.NoteRows.{begins, goes_on}
+use Rattle.siman_operator.proofs.notes.put_standing.Goals as goal
+
+pub loop-place-init : goal.loop-place-init
+loop-place-init c = begins (at_place (standing_row c.args.manager.now c.args.now) c.args.manager.now) _
+
+pub loop-place-preserved : goal.loop-place-preserved
+loop-place-preserved c = goes_on (at_place (standing_row c.args.manager.now c.args.now) c.args.manager.now) _ _ _ _ c.loop-place.invariant c.in_ok-put_standing_at.ensures

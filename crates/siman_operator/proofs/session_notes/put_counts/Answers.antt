@@ -1,0 +1,5 @@
+-- What was put is the row with these fields.
+use Rattle.siman_operator.proofs.session_notes.put_counts.Goals as goal
+
+pub returns : goal.returns
+returns c = rw (c.from.ensures, c.count_value.ensures) at c.put_named.ensures

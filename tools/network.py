@@ -17,7 +17,7 @@ The parts, all of them if none is named:
   /dev/null; an idle station; 2,000 Entity States a second beside 50 orders; and more than the socket holds, which is
   counted, and noted, as the system counts it.
 - flood: 100,000 datagrams as fast as a peer can send them: what came is recorded and answered, or was thrown away by the
-  system; and what is only foreign takes no memory.
+  system; what is passed over takes no memory, and what is recorded its bytes and some more.
 
 PROGRAM is crates/siman/out/siman if not given. Each wrong case is told in one line; the last line is `N tried, M wrong`,
 and the status is 1 if any is wrong. It is no part of the gate.

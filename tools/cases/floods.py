@@ -75,16 +75,21 @@ def try_orders(trials):
 
 
 def try_foreign(trials):
-    """What is only foreign takes no memory: of 100,000 datagrams no more than of 1,000. It is recorded where all is kept."""
+    """What is passed over takes no memory: 100,000 datagrams no more than 1,000. Where all is kept it is recorded, and takes
+    its bytes and at most 300 more an entry."""
     foreign = bytes(1000)
-    _, outcome, few, _, least = flood(trials, "foreign.few", lambda _: foreign, 1000, "keep=all")
-    _, other, many, _, most = flood(trials, "foreign.many", lambda _: foreign, FLOOD, "keep=all")
-    _, passing, none, _, _ = flood(trials, "foreign.passed", lambda _: foreign, 1000)
+    _, passing, none, _, least = flood(trials, "foreign.few", lambda _: foreign, 1000)
+    _, many_passing, none_of_many, _, most = flood(trials, "foreign.many", lambda _: foreign, FLOOD)
+    _, outcome, few, _, before = flood(trials, "kept.few", lambda _: foreign, 1000, "keep=all")
+    _, other, many, _, after = flood(trials, "kept.many", lambda _: foreign, FLOOD, "keep=all")
+    each = 1024 * (after - before) / max(many - few, 1)
     return [
-        Verdict("a station that passes foreign datagrams over ends well, and records none", ((0, 0),), (passing.status, none)),
-        Verdict("stations among foreign datagrams end well", ((0, 0),), (outcome.status, other.status)),
-        Verdict("foreign datagrams are recorded", (True,), few > 0 and many > few),
-        Verdict("memory that 99,000 foreign datagrams take, less than 1024 KiB", (True,), most - least < 1024),
+        Verdict("stations that pass foreign datagrams over end well", ((0, 0),), (passing.status, many_passing.status)),
+        Verdict("foreign datagrams that are passed over and recorded", ((0, 0),), (none, none_of_many)),
+        Verdict("memory of 99,000 foreign datagrams, less than 1024 KiB", (True,), most - least < 1024),
+        Verdict("stations that keep all end well", ((0, 0),), (outcome.status, other.status)),
+        Verdict("foreign datagrams that are recorded", (True,), few > 0 and many > few),
+        Verdict("memory of a kept datagram of 1,000 bytes, less than 1,300", (True,), each < 1300),
     ]
 
 

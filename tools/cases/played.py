@@ -77,7 +77,7 @@ class Player:
     def read_lines(self):
         for line in self.process.stdout:
             self.lines.append(line)
-            self.entries += line[:1].isdigit()
+            self.entries += line.startswith(b"entry ")
 
     def read_errors(self):
         self.errors = self.process.stderr.read()
@@ -99,7 +99,7 @@ class Player:
         return holds()
 
     def wait_for_entries(self, count):
-        """Waits until the rows of so many entries are printed."""
+        """Waits until the row `entry` of so many entries is printed."""
         return self.wait_for(lambda: self.entries >= count)
 
     def is_up(self):

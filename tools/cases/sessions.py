@@ -71,13 +71,11 @@ class Session(Post):
             self.hear(datagram[: LONGEST_DATAGRAM + 1], keeps=True)
         self.told_of_line()
 
-    def printed_whole(self):
-        """What is printed so far, as far as it can be; that it cannot is told once."""
-        out = self.lines()
-        if self.most_out is not None and len(out) > self.most_out and not self.is_mute:
+    def try_to_print(self):
+        """That what is printed so far cannot be printed whole is told once."""
+        if self.most_out is not None and not self.is_mute and len(self.lines()) > self.most_out:
             self.tell_unwritten()
             self.is_mute = True
-        return out if self.most_out is None else out[: self.most_out]
 
     def tell_unwritten(self):
         self.told.append("output: write\n")
@@ -113,11 +111,12 @@ class Session(Post):
                     continue
                 self.take(held)
                 held = b""
-            self.printed_whole()
+            self.try_to_print()
 
     def all_printed(self):
         """What is printed at the end, with the last line, if all was printed before and the recording has its end."""
-        out = self.printed_whole()
+        self.try_to_print()
+        out = self.lines()[: self.most_out]
         if self.is_spent or self.is_mute:
             return out
         if self.most_left is not None and self.most_left < len(self.text()):

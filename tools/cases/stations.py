@@ -135,7 +135,7 @@ def try_streams(trials):
 
 
 def told_row(number):
-    return b"%d told 0 7 stopped\n" % number
+    return b"entry %d 2:3 told entity=2:3:7 state=stopped\n" % number
 
 
 def count_of(trials, name):

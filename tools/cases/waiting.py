@@ -91,14 +91,14 @@ def try_terminal(trials):
     while not (trials.folder / "terminal.dsrc").exists() and process.poll() is None:
         time.sleep(0.001)
     peer.sendto(order(1), own)
-    seen = [until(b"help lists the lines"), until(b"1 sent 0 ")]
+    seen = [until(b"help lists the lines"), until(b"entry 1 2:3 sent ")]
     os.write(master, b"tell 2:")
     peer.sendto(order(2), own)
-    seen.append(until(b"3 sent 0 "))
+    seen.append(until(b"entry 3 2:3 sent "))
     os.write(master, b"3 7\n")
-    seen.append(until(b"4 told 0 7 stopped"))
+    seen.append(until(b"entry 4 2:3 told entity=2:3:7 state=stopped"))
     peer.sendto(order(3), own)
-    seen.append(until(b"6 sent 0 "))
+    seen.append(until(b"entry 6 2:3 sent "))
     os.write(master, b"\x04")
     seen.append(until(b"station records=7 "))
     status = process.wait(PATIENCE)

@@ -79,6 +79,21 @@ class Story(Logs):
         entry, pdu = self.entries[index], self.meanings[index]
         return next(sent for sent, other in self.meant(entry.station, SENT) if same_order(other, pdu))
 
+    def receipts(self, index):
+        """The fields of how often what an entry sent was received."""
+        return [(True, "receipts", self.sources.count(index))]
+
+
+class GrowingStory(Story):
+    """The logs of a recording that grows, of each entry as it is the last one: what comes later says nothing of it."""
+
+    def source(self, index):
+        source = super().source(index)
+        return source if source is not None and source < index else None
+
+    def receipts(self, index):
+        return []
+
 
 def entry_line(story, index):
     entry, pdu = story.entries[index], story.meanings[index]
@@ -97,7 +112,7 @@ def entry_line(story, index):
     fields += pdu_fields(pdu)
     if entry.kind == RECEIVED:
         return Line("entry", [*fields, (True, "source", story.sources[index])])
-    fields.append((True, "receipts", story.sources.count(index)))
+    fields += story.receipts(index)
     if pdu.kind in REQUESTS:
         fields.append((True, "order", story.head(index)))
     if is_answer(pdu):

@@ -2,7 +2,8 @@
 import struct
 
 from .datagrams import BODIES, LONGEST_DATAGRAM, Outcome, identifier_text
-from .files import ENTITIES, RECEIVED, STATES, TOLD, answer_to_show, meaning_of
+from .files import ENTITIES, RECEIVED, STATES, TOLD, meaning_of, read_recording
+from .logs import GrowingStory, lines_of, log_text
 from .scripts import Refused, read_line
 from .worlds import ORDERS, Stopped, World
 
@@ -23,6 +24,10 @@ ENDS = "quit, or Ctrl-D, ends the recording whole; after Ctrl-C it has no end, a
 def greeting(address, buffer="N"):
     """What is printed once the link is open."""
     return f"# station {identifier_text(address)} buffer={buffer}\n# {ENDS}\n"
+
+
+def rows_of(story, index):
+    return "".join(log_text(line) + "\n" for line in lines_of(story, index))
 
 
 class Post(World):
@@ -122,7 +127,7 @@ class Post(World):
         self.enter(struct.pack(">BHHB", TOLD, 0, entity, state))
 
     def enter(self, entry):
-        """An entry is recorded, and its row printed."""
+        """An entry is recorded, and its rows printed."""
         self.printed.append(len(self.entries))
         super().enter(entry)
 
@@ -189,10 +194,10 @@ class Post(World):
         return head + b"".join(self.entries) + b"\0" + struct.pack(">I", len(self.entries))
 
     def lines(self):
-        """What is printed so far: the greeting, and the rows of its entries, as `show` has them, with the notes between."""
-        rows = answer_to_show(self.text()).out.decode().splitlines(keepends=True)
-        rows = rows[len(rows) - len(self.entries) :]
-        printed = (one if isinstance(one, str) else rows[one] for one in self.printed)
+        """What is printed so far: the greeting, and the rows that `log` has of each entry as the last one, with the notes
+        between."""
+        story = GrowingStory(read_recording(self.text()))
+        printed = (one if isinstance(one, str) else rows_of(story, one) for one in self.printed)
         return "".join([greeting(self.address, self.buffer), *printed]).encode()
 
     def counts(self):

@@ -29,22 +29,22 @@ pub(crate) struct ChartCommand<'a> {
 }
 
 /// Opens the files of a recording and of its certificate, the first two names, and makes the
-/// picture under the third of what `words` choose; `-` for the second name stands for no
-/// certificate. The recording is read as `reading` says. Returns the status. `Filter` for a word that
-/// chooses nothing, before any file is opened, or one that names a station that the recording does
-/// not have; `Step` for one that names a step past the last.
+/// picture under the third of what the words `asked.0` choose; `-` for the second name stands for
+/// no certificate. The recording is read as `asked.1` says. Returns the status. `Filter` for a word
+/// that chooses nothing, before any file is opened, or one that names a station that the recording
+/// does not have; `Step` for one that names a step past the last.
 pub fn chart_named<'a, O: Outside, W: Write>(
     alloc: Global,
     names: (&'a str, &'a str, &'a str),
     force: bool,
-    reading: Reading,
-    words: &'a [&'a str],
+    asked: (&'a [&'a str], Reading),
     outside: &mut O,
     out: &mut W,
     notes: &mut Notes,
 ) -> Result<u8, Fault<'a>>
-    ensures { Did O.deeds O.holds outside.old outside.new (λ deeds. ChartsNamed reading names.entry.0.now names.entry.1.now names.entry.2.now (map (λ word. word.now) words.now) force deeds result (stream (W.contents out.old) (W.contents out.new))) }
+    ensures { Did O.deeds O.holds outside.old outside.new (λ deeds. ChartsNamed asked.entry.1 names.entry.0.now names.entry.1.now names.entry.2.now (map (λ word. word.now) asked.entry.0.now) force deeds result (stream (W.contents out.old) (W.contents out.new))) }
 {
+    let (words, reading) = asked;
     match window_of(words) {
         Ok(window) => {
             let command = ChartCommand {

@@ -53,21 +53,20 @@ fn do_one<'a, O: Outside, W: Write>(
 }
 
 /// Runs a command with two words, and ends it; the flag says whether an existing file with the
-/// second name is replaced.
+/// second name is replaced, and the last of `words` how the first is read.
 fn end_two<'a, O: Links, W: Write, E: Write>(
     alloc: Global,
     command: TwoWords,
-    words: (&'a str, &'a str, bool),
-    reading: Reading,
+    words: (&'a str, &'a str, bool, Reading),
     outside: &mut O,
     out: &mut W,
     errors: &mut E,
     notes: &mut Notes,
 ) -> Ending<'a>
     ensures { let told : Telling O.Line = record { received = O.Line.received; sent = O.Line.sent; failures = O.Line.failures; passed = O.Line.passed } in
-        Did O.deeds O.holds outside.old outside.new (λ deeds. EndsTwo told command words.entry.0.now words.entry.1.now words.entry.2 reading deeds (outcome_of result (stream (W.contents out.old) (W.contents out.new)) (stream (E.contents errors.old) (E.contents errors.new)))) }
+        Did O.deeds O.holds outside.old outside.new (λ deeds. EndsTwo told command words.entry.0.now words.entry.1.now words.entry.2 words.entry.3 deeds (outcome_of result (stream (W.contents out.old) (W.contents out.new)) (stream (E.contents errors.old) (E.contents errors.new)))) }
 {
-    let (first, second, force) = words;
+    let (first, second, force, reading) = words;
     let names = (first, second);
     match command {
         TwoWords::Check => conclude(
@@ -114,21 +113,21 @@ fn end_two<'a, O: Links, W: Write, E: Write>(
     }
 }
 
-/// Runs a view of a recording, `words.0` being its file and `words.1` its filters, and returns the
-/// status.
+/// Runs a view of a recording in a spelling, `words.0` being its file and `words.1` its filters, and
+/// returns the status.
 fn do_view<'a, O: Outside, W: Write>(
     alloc: Global,
-    view: ViewWord,
+    view: (ViewWord, Spelling),
     words: (&'a str, &'a [&'a str]),
-    spelling: Spelling,
     reading: Reading,
     outside: &mut O,
     out: &mut W,
     notes: &mut Notes,
 ) -> Result<u8, Fault<'a>>
-    ensures { Did O.deeds O.holds outside.old outside.new (λ deeds. ViewsNamed view spelling reading words.entry.0.now (map (λ word. word.now) words.entry.1.now) deeds result (stream (W.contents out.old) (W.contents out.new))) }
+    ensures { Did O.deeds O.holds outside.old outside.new (λ deeds. ViewsNamed view.0 view.1 reading words.entry.0.now (map (λ word. word.now) words.entry.1.now) deeds result (stream (W.contents out.old) (W.contents out.new))) }
 {
     let (recording, words) = words;
+    let (view, spelling) = view;
     match View::of(alloc, view, words, spelling) {
         Ok(asked) => say_of_file(alloc, asked, reading, recording, outside, out, notes),
         Err(fault) => Err(fault),
@@ -175,8 +174,8 @@ fn end_task<'a, O: Links, R: Input<O::Line> + Drop, W: Write, E: Write>(
             conclude(done, errors)
         }
         Task::Two(command, first, second, force, reading) => {
-            let words = (first, second, force);
-            end_two(alloc, command, words, reading, outside, out, errors, notes)
+            let words = (first, second, force, reading);
+            end_two(alloc, command, words, outside, out, errors, notes)
         }
         Task::Join(pieces, new, choices, force) => {
             let joined = join_pieces(alloc, pieces, new, force, choices, outside, out);
@@ -189,7 +188,7 @@ fn end_task<'a, O: Links, R: Input<O::Line> + Drop, W: Write, E: Write>(
         Task::Station(words) => end_station(alloc, words, outside, input, out, errors),
         Task::View(view, recording, words, spelling, reading) => {
             let words = (recording, words);
-            let done = do_view(alloc, view, words, spelling, reading, outside, out, notes);
+            let done = do_view(alloc, (view, spelling), words, reading, outside, out, notes);
             conclude(done, errors)
         }
         Task::Prose(recording, words, reading) => {
@@ -208,7 +207,7 @@ fn end_task<'a, O: Links, R: Input<O::Line> + Drop, W: Write, E: Write>(
         }
         Task::Chart(recording, certificate, picture, steps, force, reading) => {
             let names = (recording, certificate, picture);
-            let charted = chart_named(alloc, names, force, reading, steps, outside, out, notes);
+            let charted = chart_named(alloc, names, force, (steps, reading), outside, out, notes);
             conclude(charted, errors)
         }
     }

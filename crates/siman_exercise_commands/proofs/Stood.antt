@@ -2,7 +2,7 @@
 use Rattle.std.proofs.Common.{◌≡◌, ℕ, length, List, Option, Some, None, refl, ap, sym, ◌∙◌, subst, arith}
 use Rattle.std.specs.Prelude.{Ok, Err}
 use Rattle.dis_records.specs.declared.address.SiteApplication.{SiteApplication}
-use Rattle.exercise_model.specs.Recording.{PlainRecording}
+use Rattle.exercise_model.specs.Recording.{PlainRecording, opened}
 use Rattle.siman_scripts.specs.Script.{ScriptData}
 use Rattle.siman_scripts.specs.Stations.{WorldStationData}
 use Rattle.siman_stations.specs.declared.turn.Node.{Node}
@@ -19,13 +19,15 @@ use Rattle.siman_exercise_commands.specs.Explained.{TextRead, GivesWhy}
 use Rattle.siman_exercise_commands.specs.Station.{of_set_up, SetsUpNone, SetsUpFile, IsOfScript}
 
 -- it is as it was begun
-pub stood_ready : {L : Type 0} (set_up : SetUp) (ready : ReadyStation L) → IsOfScript set_up → ready.head ≡ set_up.head → IsAtLink set_up.node ready.station
+pub stood_ready : {L : Type 0} (set_up : SetUp) (ready : ReadyStation L) → IsOfScript set_up → ready.head ≡ set_up.head
+    → ready.log ≡ opened (open_setting set_up.head) → IsAtLink set_up.node ready.station
     → IsReady ready
-stood_ready set_up ready (x, addresses, s, is) head begun =
+stood_ready set_up ready (x, addresses, s, is) head log begun =
     let same = head ∙ is.head in
     let new = is.node in
     record {
       one = ap (λ (r : PlainRecording). length r.setting.stations) same;
+      log = log ∙ ap (λ (r : PlainRecording). opened (open_setting r)) (sym head);
       index = begun.index;
       fresh =
           subst (λ (n : Node). IsFresh 0 n (open_setting ready.head) (Some (datagrams_sent ready.station.line))) (sym begun.node_is)

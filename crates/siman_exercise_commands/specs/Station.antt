@@ -8,6 +8,7 @@ use Rattle.siman_scripts.specs.declared.script_fault.ScriptFault.TheVariants as 
 use Rattle.siman_scripts.specs.Script.{ScriptData}
 use Rattle.siman_scripts.specs.Statement.{address_of}
 use Rattle.siman_scripts.specs.Stations.{WorldStationData}
+use Rattle.exercise_model.specs.Recording.{opened}
 use Rattle.siman_operator.specs.Posts.{IsAtLink}
 use Rattle.siman_operator.specs.declared.reading.TheConstants.{LONGEST_LINE}
 use Rattle.siman_operator.specs.declared.recorded.ReadyStation.{ReadyStation}
@@ -163,7 +164,7 @@ GreetsAndCreates passed ready name input deeds played s =
 abbrev pub IsAttached : {L : Type 0} → (passed : L → PassedOver) → SetUp → (address : SiteApplication) → (name : List ℕ) → (input : Option (List ℕ)) → List Deed → Played → Streams → Type 0
 IsAttached {L} passed set_up address name input deeds played s =
     PlaysNone Memory deeds played s
-    ⊎ ((ready : ReadyStation L) × (ready.head ≡ set_up.head) × IsAtLink set_up.node ready.station × (ready.address ≡ address)
+    ⊎ ((ready : ReadyStation L) × (ready.head ≡ set_up.head) × (ready.log ≡ opened (open_setting set_up.head)) × IsAtLink set_up.node ready.station × (ready.address ≡ address)
     × (ready.stations ≡ set_up.stations) × GreetsAndCreates passed ready name input deeds played s)
 
 -- ITS LINK is requested, with the endpoints that the words name; if there is none, the fault is `live: line`, or

@@ -1,7 +1,7 @@
 -- A line that has begun.
-use Rattle.std.proofs.Common.{◌≡◌, ◌≢◌, ◌<◌, ◌≤◌, ℕ, ◌+◌, List, [], ◌∷◌, length, take, set, Option, Some, None, refl, sym, arith}
+use Rattle.std.proofs.Common.{ℕ, List, [], length, Option, Some, None, refl, sym, arith}
 use Rattle.std.proofs.Math.Seq.{take-nil}
-use Rattle.std.specs.Io.KnownBytes.{Consumes, IsAtEnd}
+use Rattle.std.specs.Io.KnownBytes.{Consumes}
 use Rattle.byte_files.proofs.LineReadings.{SoFar}
 use Rattle.siman_operator.specs.Coming.{HasBegun}
 

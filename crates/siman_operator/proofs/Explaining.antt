@@ -1,14 +1,12 @@
 -- What one station records is explained.
-use Rattle.std.proofs.Common.{◌≡◌, ℕ, ◌<◌, List, [], ◌∷◌, ◌++◌, length, refl, ap, sym, ◌∙◌, subst, arith}
-use Rattle.std.specs.Prelude.{Bool, true, false, ◌&&◌, ◌||◌, not, Option, Some, None}
+use Rattle.std.proofs.Common.{◌≡◌, ℕ, ◌<◌, List, [], ◌∷◌, ◌++◌, length, refl, ap, subst, arith}
+use Rattle.std.specs.Prelude.{Bool, true, false, ◌&&◌, ◌||◌, not, Option, None}
 use Rattle.std.specs.List.{AllByRecursion}
 use Rattle.siman_pdus.specs.declared.pdu.Pdu.{Pdu}
-use Rattle.exercise_model.specs.declared.cause.Cause.{Cause}
 use Rattle.exercise_model.specs.declared.cause.Cause.TheVariants.{Stranger, NeverSent}
 use Rattle.exercise_model.specs.Cause.{first_cause, get_cause, was_sent}
 use Rattle.exercise_model.specs.Entry.{Entry}
 use Rattle.exercise_model.specs.History.{Event, Send, Get, Tell, History, station_of, past, log_at, log_of}
-use Rattle.exercise_model.specs.Meaning.{meaning}
 use Rattle.exercise_model.specs.Run.{Explains}
 use Rattle.exercise_model.specs.Setting.{SettingData, is_open, may_be_heard, must_have_sent, is_recorded}
 use Rattle.exercise_model.proofs.Offered.{past-append}

@@ -1,6 +1,6 @@
 -- Posts that go on.
-use Rattle.std.proofs.Common.{◌≡◌, ℕ, List, [], ◌∷◌, ◌++◌, refl, ap, sym, ◌∙◌, subst, append_assoc, append-nil}
-use Rattle.std.specs.Prelude.{Option, Some}
+use Rattle.std.proofs.Common.{ℕ, List, [], ◌++◌, refl, sym, ◌∙◌, subst, append_assoc, append-nil}
+use Rattle.std.specs.Prelude.{Some}
 use Rattle.exercise_model.specs.Entry.{Entry}
 use Rattle.exercise_recording.specs.Writer.{WriterState}
 use Rattle.siman_stations.specs.declared.turn.Node.{Node}
@@ -20,7 +20,7 @@ keeps_all s n w ds m v es keeps = λ before entries written is.
 pub goes_none : {L : Type 0} (a : PostState L) → GoesOn a a
 goes_none a = record {
   index = refl;
-  exercise = refl;
+  setting = refl;
   keeps = λ before es written is. (
     [],
     refl,
@@ -30,7 +30,7 @@ goes_none a = record {
   prints = λ before start es written is. (
     [],
     subst (λ (l : List Entry). IsWritten before a.recorder l) (sym (append-nil es)) written,
-    subst (λ (l : List Entry). IsPrinted start a.exercise l a.printing) (sym (append-nil es)) is,
+    subst (λ (l : List Entry). IsPrinted start l a.printing) (sym (append-nil es)) is,
   );
 }
 
@@ -38,7 +38,7 @@ goes_none a = record {
 pub goes_then : {L : Type 0} (a b c : PostState L) → GoesOn a b → GoesOn b c → GoesOn a c
 goes_then a b c first second = record {
   index = second.index ∙ first.index;
-  exercise = second.exercise ∙ first.exercise;
+  setting = second.setting ∙ first.setting;
   keeps = λ before es written is.
       let one = first.keeps before es written is in
       let two = second.keeps before (es ++ one.0) one.2
@@ -51,11 +51,9 @@ goes_then a b c first second = record {
       );
   prints = λ before start es written is.
       let one = first.prints before start es written is in
-      let two = second.prints before start (es ++ one.0) one.1
-      (subst (λ (x : ℕ). IsPrinted start x (es ++ one.0) b.printing) (sym first.exercise) one.2) in (
+      let two = second.prints before start (es ++ one.0) one.1 one.2 in (
         one.0 ++ two.0,
         subst (λ (l : List Entry). IsWritten before c.recorder l) (append_assoc es one.0 two.0) two.1,
-        subst (λ (x : ℕ). IsPrinted start x (es ++ (one.0 ++ two.0)) c.printing) first.exercise
-            (subst (λ (l : List Entry). IsPrinted start b.exercise l c.printing) (append_assoc es one.0 two.0) two.2),
+        subst (λ (l : List Entry). IsPrinted start l c.printing) (append_assoc es one.0 two.0) two.2,
       );
 }

@@ -1,13 +1,12 @@
 -- What a post leaves, from the start of its recording on.
-use Rattle.std.proofs.Common.{◌≡◌, ℕ, List, [], ◌∷◌, refl, ap, sym, ◌∙◌, subst}
+use Rattle.std.proofs.Common.{ℕ, List, [], ◌∷◌, ap, sym, ◌∙◌, subst}
 use Rattle.std.specs.Prelude.{Option, Some}
-use Rattle.exercise_model.specs.Entry.{Entry}
+use Rattle.exercise_model.specs.Recording.{PlainRecording}
 use Rattle.exercise_model.specs.Setting.{SettingData}
 use Rattle.siman_lines.specs.Calls.{IsFresh}
 use Rattle.siman_lines.specs.KeptAtLine.{IsWritten, IsKept}
 use Rattle.siman_lines.proofs.Offered.{started, fresh}
 use Rattle.siman_operator.specs.Noting.{datagrams_sent}
-use Rattle.siman_operator.specs.Printing.{IsPrinted}
 use Rattle.siman_operator.specs.Deeds.{PostState, GoesOn}
 use Rattle.siman_operator.specs.Explained.{GoOn, IsStarted, Leaves}
 use Rattle.siman_operator.proofs.Going.{goes_then}
@@ -26,7 +25,7 @@ leaves before start w old new is goes =
     fresh old.station.index old.station.node old.recorder handed
     (subst (λ (v : SettingData). IsFresh old.station.index old.station.node v handed) (sym is.starts.setting) is.fresh) in
     let kept = goes.keeps before [] written begun in
-    let printed = goes.prints before start [] written (none_printed start old.exercise old.printing is.fault is.out) in (
+    let printed = goes.prints before start [] written (none_printed start old.printing (ap (λ (r : PlainRecording). r.entries) is.log) is.fault is.out) in (
       (
         kept.0,
         record {
@@ -37,9 +36,6 @@ leaves before start w old new is goes =
       ),
       (
         printed.0,
-        record {
-          written = printed.1;
-          printed = subst (λ (x : ℕ). IsPrinted start x printed.0 new.printing) (sym goes.exercise) printed.2;
-        },
+        record { setting = goes.setting ∙ ap (λ (r : PlainRecording). r.setting) is.log; written = printed.1; printed = printed.2 },
       ),
     )

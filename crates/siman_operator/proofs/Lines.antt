@@ -1,30 +1,42 @@
--- The lines of entries, one more of which is printed, or not.
-use Rattle.std.proofs.Common.{◌≡◌, ℕ, ◌+◌, List, [], ◌∷◌, ◌++◌, length, take, refl, ap, sym, ◌∙◌, subst, arith, append_assoc, append-nil}
+-- The rows of entries, of which those of one more are printed, or not.
+use Rattle.std.proofs.Common.{◌≡◌, ℕ, List, [], ◌∷◌, ◌++◌, take, refl, ap, sym, ◌∙◌, subst, append_assoc, append-nil}
 use Rattle.std.specs.Prelude.{Option, Some, None, MatchOption, Ok, map}
 use Rattle.std.specs.List.{AllByRecursion}
-use Rattle.std.proofs.lemmas.List.{length-map, map-append}
+use Rattle.std.proofs.lemmas.List.{map-append}
 use Rattle.std.proofs.lemmas.List.Concat.{flat_map-append}
 use Rattle.std.specs.Io.KnownBytes.{Appends, Keeps}
-use Rattle.std.proofs.KnownBytes.{Appends-trans, Appends-kept, Appends-nil, Keeps-refl}
+use Rattle.std.proofs.KnownBytes.{Appends-trans, Appends-kept, Appends-nil}
 use Rattle.byte_files.specs.Writing.{WritesPart}
 use Rattle.byte_files.proofs.Offered.{writes_part, writes_later, written_part}
 use Rattle.exercise_model.specs.Entry.{Entry}
+use Rattle.exercise_model.specs.Recording.{PlainRecording, opened, with_entry}
+use Rattle.exercise_model.specs.Setting.{SettingData}
 use Rattle.siman_operator.specs.declared.printing.PrintFault.{PrintFault}
 use Rattle.siman_operator.specs.declared.printing.PrintFault.TheVariants as faults
 use Rattle.siman_print.specs.declared.spelling.Spelling.TheVariants.{Text}
 use Rattle.siman_print.specs.Line.{Line}
 use Rattle.siman_print.specs.Spelled.{line_spelled, lines_spelled}
 use Rattle.siman_operator.specs.Notes.{AreNotes}
-use Rattle.siman_operator.specs.Printing.{Printing, Noted, line_of, rows_from, printed_text, IsPrinted, PrintsLine, PrintsNotes, PrintsNothing, StopsPrinting}
+use Rattle.siman_operator.specs.Printing.{Printing, Noted, rows_of, rows_from, printed_text, IsPrinted, PrintsEntry, PrintsNotes, PrintsNothing, StopsPrinting}
+
+-- a recording with the entries of these rows behind its own
+abbrev behind : PlainRecording → List Noted → PlainRecording
+behind r [] = r
+behind r (n ∷ ns) = behind (with_entry r n.entry) ns
 
 -- the rows of more entries follow
-pub rows_more : (x n : ℕ) (rs more : List Noted) → rows_from x n (rs ++ more) ≡ rows_from x n rs ++ rows_from x (n + length rs) more
-rows_more x n [] more = ap (λ (k : ℕ). rows_from x k more) (omega arith)
-rows_more x n (r ∷ rs) more =
-    ap (λ (t : List ℕ). lines_spelled Text r.notes ++ (line_of x n r.entry ++ t)) (rows_more x (n + 1) rs more)
-    ∙ (ap (λ (t : List ℕ). lines_spelled Text r.notes ++ t) (sym (append_assoc (line_of x n r.entry) (rows_from x (n + 1) rs) (rows_from x (n + 1 + length rs) more)))
-    ∙ (sym (append_assoc (lines_spelled Text r.notes) (line_of x n r.entry ++ rows_from x (n + 1) rs) (rows_from x (n + 1 + length rs) more))
-    ∙ ap (λ (k : ℕ). rows_from x n (r ∷ rs) ++ rows_from x k more) (omega arith)))
+pub rows_more : (r : PlainRecording) (ns more : List Noted) → rows_from r (ns ++ more) ≡ rows_from r ns ++ rows_from (behind r ns) more
+rows_more r [] more = refl
+rows_more r (n ∷ ns) more =
+    ap (λ (t : List ℕ). lines_spelled Text n.notes ++ (rows_of r n.entry ++ t)) (rows_more (with_entry r n.entry) ns more)
+    ∙ (ap (λ (t : List ℕ). lines_spelled Text n.notes ++ t) (sym (append_assoc (rows_of r n.entry) (rows_from (with_entry r n.entry) ns) (rows_from (behind (with_entry r n.entry) ns) more)))
+    ∙ sym (append_assoc (lines_spelled Text n.notes) (rows_of r n.entry ++ rows_from (with_entry r n.entry) ns) (rows_from (behind (with_entry r n.entry) ns) more)))
+
+behind_is : (r : PlainRecording) (ns : List Noted) → behind r ns ≡ record { setting = r.setting; entries = r.entries ++ map (λ (n : Noted). n.entry) ns }
+behind_is r [] = ap (λ (es : List Entry). record { setting = r.setting; entries = es }) (sym (append-nil r.entries))
+behind_is r (n ∷ ns) =
+    behind_is (with_entry r n.entry) ns
+    ∙ ap (λ (es : List Entry). record { setting = r.setting; entries = es }) (append_assoc r.entries (n.entry ∷ []) (map (λ (m : Noted). m.entry) ns))
 
 -- entries, the first of which has these notes
 abbrev behind_notes : List Line → List Entry → List Noted
@@ -37,9 +49,9 @@ notes_left notes [] = notes
 notes_left notes (e ∷ es) = []
 
 -- what is printed of them
-abbrev text_behind : (x n : ℕ) → List Entry → List ℕ
-text_behind x n [] = []
-text_behind x n (e ∷ es) = line_of x n e ++ rows_from x (n + 1) (behind_notes [] es)
+abbrev text_behind : PlainRecording → List Entry → List ℕ
+text_behind r [] = []
+text_behind r (e ∷ es) = rows_of r e ++ rows_from (with_entry r e) (behind_notes [] es)
 
 entries_behind : (notes : List Line) (es : List Entry) → map (λ (r : Noted). r.entry) (behind_notes notes es) ≡ es
 entries_behind notes [] = refl
@@ -62,19 +74,15 @@ pub notes_then : (first second : List Line) → AreNotes first → AreNotes seco
 notes_then [] second one two = two
 notes_then (l ∷ ls) second one two = (one.0, notes_then ls second one.1 two)
 
-count_rows : (rs : List Noted) (es : List Entry) → map (λ (r : Noted). r.entry) rs ≡ es → length rs ≡ length es
-count_rows rs es same = sym (length-map rs (λ (r : Noted). r.entry)) ∙ ap length same
-
 -- the text with more entries is that before, and what is printed of them
-text_more : (x : ℕ) (rs : List Noted) (last : List Line) (es : List Entry)
-    → printed_text x (rs ++ behind_notes last es) (notes_left last es) ≡ printed_text x rs last ++ text_behind x (length rs) es
-text_more x rs last [] =
-    ap (λ (l : List Noted). printed_text x l last) (append-nil rs) ∙ sym (append-nil (printed_text x rs last))
-text_more x rs last (e ∷ es) =
-    append-nil (rows_from x 0 (rs ++ behind_notes last (e ∷ es)))
-    ∙ (rows_more x 0 rs (behind_notes last (e ∷ es))
-    ∙ (ap (λ (k : ℕ). rows_from x 0 rs ++ rows_from x k (behind_notes last (e ∷ es))) (omega arith)
-    ∙ sym (append_assoc (rows_from x 0 rs) (lines_spelled Text last) (text_behind x (length rs) (e ∷ es)))))
+text_more : (w : SettingData) (rs : List Noted) (last : List Line) (es : List Entry)
+    → printed_text w (rs ++ behind_notes last es) (notes_left last es) ≡ printed_text w rs last ++ text_behind (behind (opened w) rs) es
+text_more w rs last [] =
+    ap (λ (l : List Noted). printed_text w l last) (append-nil rs) ∙ sym (append-nil (printed_text w rs last))
+text_more w rs last (e ∷ es) =
+    append-nil (rows_from (opened w) (rs ++ behind_notes last (e ∷ es)))
+    ∙ (rows_more (opened w) rs (behind_notes last (e ∷ es))
+    ∙ sym (append_assoc (rows_from (opened w) rs) (lines_spelled Text last) (text_behind (behind (opened w) rs) (e ∷ es))))
 
 -- of a text of which a prefix is out nothing more goes out
 pub part_kept : (a b c : Option (List ℕ)) (s : List ℕ) → WritesPart a b s → Keeps b c → WritesPart a c s
@@ -96,37 +104,72 @@ line_at start o n None (Some h) s t p q = writes_later start o n s t p q
 line_at start o n (Some h) None s t p q = absurd cc
 line_at start o n (Some h) (Some k) s t p q = writes_part start n s t (part_kept start o n s p q.1)
 
--- ONE LINE MORE is printed, or a prefix of it, or none
-pub prints_line : (start : Option (List ℕ)) (x k : ℕ) (es : List Entry) (e : Entry) (old new : Printing) → k ≡ length es → IsPrinted start x es old
-    → PrintsLine (line_of x k e) old new → IsPrinted start x (es ++ e ∷ []) new
-prints_line start x k es e old new same is line =
-    let count : length is.rows ≡ k = count_rows is.rows es is.entries ∙ sym same in
-    let one : text_behind x (length is.rows) (e ∷ []) ≡ line_of x k e = append-nil (line_of x (length is.rows) e) ∙ ap (λ (n : ℕ). line_of x n e) count in
+-- where printing goes on, it went on before
+went_on : (o n : Option (List ℕ)) (f g : Option PrintFault) (t : List ℕ) → g ≡ None
+    → MatchOption f (MatchOption g (Appends o n t) (λ h. WritesPart o n t)) (λ h. (g ≡ Some h) × Keeps o n) → f ≡ None
+went_on o n None g t none q = refl
+went_on o n (Some h) None t none q = absurd cc
+went_on o n (Some h) (Some k) t none q = absurd cc
+
+-- the text of one more entry, where printing had stopped before
+line_stopped : (start o n : Option (List ℕ)) (f g : Option PrintFault) (s t u : List ℕ) → (f ≡ None → t ≡ u)
+    → MatchOption f (Appends start o s) (λ h. WritesPart start o s)
+    → MatchOption f (MatchOption g (Appends o n t) (λ h. WritesPart o n t)) (λ h. (g ≡ Some h) × Keeps o n)
+    → MatchOption g (Appends start n (s ++ u)) (λ h. WritesPart start n (s ++ u))
+line_stopped start o n None g s t u same p q =
+    subst (λ (v : List ℕ). MatchOption g (Appends start n (s ++ v)) (λ h. WritesPart start n (s ++ v))) (same refl) (line_at start o n None g s t p q)
+line_stopped start o n (Some h) None s t u same p q = absurd cc
+line_stopped start o n (Some h) (Some k) s t u same p q = writes_part start n s u (part_kept start o n s p q.1)
+
+-- the recording of these rows, while printing goes on
+log_is : (r : PlainRecording) (w : SettingData) (rs : List Noted) (es : List Entry) → map (λ (n : Noted). n.entry) rs ≡ es → r.setting ≡ w → r.entries ≡ es
+    → r ≡ behind (opened w) rs
+log_is r w rs es rows setting entries =
+    ap (λ (v : SettingData). record { setting = v; entries = r.entries }) setting
+    ∙ (ap (λ (l : List Entry). record { setting = w; entries = l }) (entries ∙ sym rows)
+    ∙ sym (behind_is (opened w) rs))
+
+-- ONE ENTRY MORE is printed, or a prefix of its rows, or none
+pub prints_entry : (start : Option (List ℕ)) (es : List Entry) (e : Entry) (old new : Printing) → IsPrinted start es old → PrintsEntry e old new
+    → IsPrinted start (es ++ e ∷ []) new
+prints_entry start es e old new is prints =
+    let w : SettingData = old.log.setting in
+    let one : old.fault ≡ None → rows_of old.log e ≡ text_behind (behind (opened w) is.rows) (e ∷ []) =
+    λ none. ap (λ (r : PlainRecording). rows_of r e) (log_is old.log w is.rows es is.entries refl (is.log none))
+    ∙ sym (append-nil (rows_of (behind (opened w) is.rows) e)) in
     record {
       rows = is.rows ++ behind_notes is.last (e ∷ []);
       last = [];
       entries = map-append (λ (r : Noted). r.entry) is.rows (behind_notes is.last (e ∷ [])) ∙ ap (λ (l : List Entry). l ++ e ∷ []) is.entries;
       notes = (all_good is.rows (behind_notes is.last (e ∷ [])) is.notes.0 (good_behind is.last (e ∷ []) is.notes.1), tt);
+      log = λ none.
+          ap (λ (r : PlainRecording). r.entries) (prints.log none)
+          ∙ ap (λ (l : List Entry). l ++ e ∷ []) (is.log (went_on old.out new.out old.fault new.fault (rows_of old.log e) none prints.text));
       out =
-          subst (λ (t : List ℕ). MatchOption new.fault (Appends start new.out t) (λ h. WritesPart start new.out t))
-          (ap (λ (t : List ℕ). printed_text x is.rows is.last ++ t) (sym one) ∙ sym (text_more x is.rows is.last (e ∷ [])))
-          (line_at start old.out new.out old.fault new.fault (printed_text x is.rows is.last) (line_of x k e) is.out line);
+          subst (λ (v : SettingData). MatchOption new.fault (Appends start new.out (printed_text v (is.rows ++ behind_notes is.last (e ∷ [])) [])) (λ h. WritesPart start new.out (printed_text v (is.rows ++ behind_notes is.last (e ∷ [])) []))) (sym prints.setting)
+          (subst (λ (t : List ℕ). MatchOption new.fault (Appends start new.out t) (λ h. WritesPart start new.out t)) (sym (text_more w is.rows is.last (e ∷ [])))
+          (line_stopped start old.out new.out old.fault new.fault (printed_text w is.rows is.last) (rows_of old.log e) (text_behind (behind (opened w) is.rows) (e ∷ [])) one is.out prints.text));
     }
 
 -- NOTES are printed, or a prefix of them, or none
-pub prints_notes : (start : Option (List ℕ)) (x : ℕ) (es : List Entry) (notes : List Line) (old new : Printing) → AreNotes notes → IsPrinted start x es old
-    → PrintsNotes notes old new → IsPrinted start x es new
-prints_notes start x es notes old new good is line = record {
-  rows = is.rows;
-  last = is.last ++ notes;
-  entries = is.entries;
-  notes = (is.notes.0, notes_then is.last notes is.notes.1 good);
-  out =
-      subst (λ (t : List ℕ). MatchOption new.fault (Appends start new.out t) (λ h. WritesPart start new.out t))
-      (append_assoc (rows_from x 0 is.rows) (lines_spelled Text is.last) (lines_spelled Text notes)
-      ∙ ap (λ (t : List ℕ). rows_from x 0 is.rows ++ t) (sym (flat_map-append (line_spelled Text) is.last notes)))
-      (line_at start old.out new.out old.fault new.fault (printed_text x is.rows is.last) (lines_spelled Text notes) is.out line);
-}
+pub prints_notes : (start : Option (List ℕ)) (es : List Entry) (notes : List Line) (old new : Printing) → AreNotes notes → IsPrinted start es old
+    → PrintsNotes notes old new → IsPrinted start es new
+prints_notes start es notes old new good is prints =
+    let w : SettingData = old.log.setting in
+    record {
+      rows = is.rows;
+      last = is.last ++ notes;
+      entries = is.entries;
+      notes = (is.notes.0, notes_then is.last notes is.notes.1 good);
+      log = λ none.
+          ap (λ (r : PlainRecording). r.entries) prints.0 ∙ is.log (went_on old.out new.out old.fault new.fault (lines_spelled Text notes) none prints.1);
+      out =
+          subst (λ (r : PlainRecording). MatchOption new.fault (Appends start new.out (printed_text r.setting is.rows (is.last ++ notes))) (λ h. WritesPart start new.out (printed_text r.setting is.rows (is.last ++ notes)))) (sym prints.0)
+          (subst (λ (t : List ℕ). MatchOption new.fault (Appends start new.out t) (λ h. WritesPart start new.out t))
+          (append_assoc (rows_from (opened w) is.rows) (lines_spelled Text is.last) (lines_spelled Text notes)
+          ∙ ap (λ (t : List ℕ). rows_from (opened w) is.rows ++ t) (sym (flat_map-append (line_spelled Text) is.last notes)))
+          (line_at start old.out new.out old.fault new.fault (printed_text w is.rows is.last) (lines_spelled Text notes) is.out prints.1));
+    }
 
 silent_at : (start o n : Option (List ℕ)) (f g : Option PrintFault) (s t : List ℕ) → MatchOption f (Appends start o s) (λ h. WritesPart start o s)
     → MatchOption f (g ≡ Some faults.Memory) (λ h. g ≡ Some h) → Keeps o n → MatchOption g (Appends start n (s ++ t)) (λ h. WritesPart start n (s ++ t))
@@ -135,18 +178,25 @@ silent_at start o n None (Some h) s t p q kept = writes_part start n s t (part_k
 silent_at start o n (Some h) None s t p q kept = absurd cc
 silent_at start o n (Some h) (Some k) s t p q kept = writes_part start n s t (part_kept start o n s p kept)
 
--- no line more is printed, whatever is recorded
-pub falls_silent : (start : Option (List ℕ)) (x : ℕ) (es more : List Entry) (old new : Printing) → IsPrinted start x es old → StopsPrinting old new
-    → IsPrinted start x (es ++ more) new
-falls_silent start x es more old new is silent = record {
+-- printing that has stopped does not go on
+stopped : {X : Type 0} (f g : Option PrintFault) → MatchOption f (g ≡ Some faults.Memory) (λ h. g ≡ Some h) → g ≡ None → X
+stopped None g p none = absurd cc
+stopped (Some h) g p none = absurd cc
+
+-- no row more is printed, whatever is recorded
+pub falls_silent : (start : Option (List ℕ)) (es more : List Entry) (old new : Printing) → IsPrinted start es old → StopsPrinting old new
+    → IsPrinted start (es ++ more) new
+falls_silent start es more old new is silent = record {
   rows = is.rows ++ behind_notes is.last more;
   last = notes_left is.last more;
   entries = map-append (λ (r : Noted). r.entry) is.rows (behind_notes is.last more)
       ∙ (ap (λ (l : List Entry). map (λ (r : Noted). r.entry) is.rows ++ l) (entries_behind is.last more) ∙ ap (λ (l : List Entry). l ++ more) is.entries);
   notes = (all_good is.rows (behind_notes is.last more) is.notes.0 (good_behind is.last more is.notes.1), good_left is.last more is.notes.1);
+  log = λ none. stopped old.fault new.fault silent.1 none;
   out =
-      subst (λ (t : List ℕ). MatchOption new.fault (Appends start new.out t) (λ h. WritesPart start new.out t)) (sym (text_more x is.rows is.last more))
-      (silent_at start old.out new.out old.fault new.fault (printed_text x is.rows is.last) (text_behind x (length is.rows) more) is.out silent.0 silent.1);
+      subst (λ (r : PlainRecording). MatchOption new.fault (Appends start new.out (printed_text r.setting (is.rows ++ behind_notes is.last more) (notes_left is.last more))) (λ h. WritesPart start new.out (printed_text r.setting (is.rows ++ behind_notes is.last more) (notes_left is.last more)))) (sym silent.0)
+      (subst (λ (t : List ℕ). MatchOption new.fault (Appends start new.out t) (λ h. WritesPart start new.out t)) (sym (text_more old.log.setting is.rows is.last more))
+      (silent_at start old.out new.out old.fault new.fault (printed_text old.log.setting is.rows is.last) (text_behind (behind (opened old.log.setting) is.rows) more) is.out silent.1 silent.2));
 }
 
 kept_at : (start o n : Option (List ℕ)) (g : Option PrintFault) (s : List ℕ) → MatchOption g (Appends start o s) (λ h. WritesPart start o s) → Keeps o n
@@ -155,25 +205,29 @@ kept_at start o n None s p kept = Appends-kept start o n s p kept
 kept_at start o n (Some h) s p kept = part_kept start o n s p kept
 
 -- nothing is printed, and nothing recorded
-pub prints_nothing : (start : Option (List ℕ)) (x : ℕ) (es : List Entry) (old new : Printing) → IsPrinted start x es old → PrintsNothing old new
-    → IsPrinted start x (es ++ []) new
-prints_nothing start x es old new is nothing = record {
+pub prints_nothing : (start : Option (List ℕ)) (es : List Entry) (old new : Printing) → IsPrinted start es old → PrintsNothing old new
+    → IsPrinted start (es ++ []) new
+prints_nothing start es old new is nothing = record {
   rows = is.rows;
   last = is.last;
   entries = is.entries ∙ sym (append-nil es);
   notes = is.notes;
-  out = kept_at start old.out new.out new.fault (printed_text x is.rows is.last)
-      (subst (λ (f : Option PrintFault). MatchOption f (Appends start old.out (printed_text x is.rows is.last)) (λ h. WritesPart start old.out (printed_text x is.rows is.last)))
-      (sym nothing.0) is.out) nothing.1;
+  log = λ none. ap (λ (r : PlainRecording). r.entries) nothing.0 ∙ (is.log (sym nothing.1 ∙ none) ∙ sym (append-nil es));
+  out =
+      subst (λ (r : PlainRecording). MatchOption new.fault (Appends start new.out (printed_text r.setting is.rows is.last)) (λ h. WritesPart start new.out (printed_text r.setting is.rows is.last))) (sym nothing.0)
+      (kept_at start old.out new.out new.fault (printed_text old.log.setting is.rows is.last)
+      (subst (λ (f : Option PrintFault). MatchOption f (Appends start old.out (printed_text old.log.setting is.rows is.last)) (λ h. WritesPart start old.out (printed_text old.log.setting is.rows is.last)))
+      (sym nothing.1) is.out) nothing.2);
 }
 
 -- nothing is printed before the first
-pub none_printed : (start : Option (List ℕ)) (x : ℕ) (p : Printing) → p.fault ≡ None → Keeps start p.out → IsPrinted start x [] p
-none_printed start x p fault kept = record {
+pub none_printed : (start : Option (List ℕ)) (p : Printing) → p.log.entries ≡ [] → p.fault ≡ None → Keeps start p.out → IsPrinted start [] p
+none_printed start p none fault kept = record {
   rows = [];
   last = [];
   entries = refl;
   notes = (tt, tt);
+  log = λ on. none;
   out = subst (λ (f : Option PrintFault). MatchOption f (Appends start p.out []) (λ h. WritesPart start p.out [])) (sym fault) kept_none;
 } where
   kept_none : Appends start p.out []

@@ -1,6 +1,6 @@
 -- What is printed of a turn.
-use Rattle.std.proofs.Common.{◌≡◌, ℕ, ◌+◌, ◌-◌, ◌<◌, ◌^◌, zero, suc, List, [], ◌∷◌, ◌++◌, length, refl, ap, sym, ◌∙◌, subst, inl, inr, arith, append_assoc, append-nil, ◌⊎◌, length-append}
-use Rattle.std.specs.Prelude.{Bool, true, false, ◌==◌, ◌&&◌, nat_lt, Option, Some, None, Result, Ok, Err, reverse}
+use Rattle.std.proofs.Common.{◌≡◌, ℕ, ◌+◌, ◌-◌, ◌<◌, ◌^◌, List, [], ◌∷◌, ◌++◌, length, refl, ap, sym, ◌∙◌, subst, inl, inr, arith, append_assoc, append-nil, ◌⊎◌, length-append}
+use Rattle.std.specs.Prelude.{Bool, true, false, ◌==◌, ◌&&◌, Option, Some, None, Result, Ok, Err, reverse}
 use Rattle.std.specs.Bool.{MatchBool}
 use Rattle.std.specs.List.{list_all}
 use Rattle.std.proofs.lemmas.Bool.Decides.{nat_tests}
@@ -8,6 +8,7 @@ use Rattle.std.proofs.lemmas.List.{length-reverse}
 use Rattle.std.proofs.lemmas.List.Folds.{list_all-append}
 use Rattle.siman_pdus.specs.declared.pdu.Pdu.{Pdu}
 use Rattle.siman_pdus.specs.Spelling.{pdu_text}
+use Rattle.exercise_model.specs.Recording.{PlainRecording}
 use Rattle.exercise_model.specs.Entry.{Entry, Sent, Received, is_stamped}
 use Rattle.exercise_recording.specs.declared.fault.WriterFault.{WriterFault}
 use Rattle.exercise_recording.specs.Writer.{WriterState}
@@ -26,15 +27,15 @@ use Rattle.siman_lines.specs.AtLines.{state_at}
 use Rattle.siman_lines.specs.KeptAtLine.{IsWritten}
 use Rattle.siman_lines.specs.LineDatagrams.{Datagrams, GrowsAll, MayGrow}
 use Rattle.siman_lines.specs.Serving.{State, HasServed, LosesSend, BreaksTurn, ServeEnds, reply_at, entries_after, text_of, texts_after, short_of, is_short}
-use Rattle.siman_lines.proofs.Offered.{written_one, written_none, written_all, entries_stamped}
+use Rattle.siman_lines.proofs.Offered.{written_none, written_all, entries_stamped}
 use Rattle.siman_operator.specs.declared.tracing_line.TracingLine.{TracingLine}
 use Rattle.siman_operator.specs.Noted.{last_of}
 use Rattle.siman_operator.specs.Noting.{datagrams_sent, datagrams_received, telling}
-use Rattle.siman_operator.specs.Printing.{Printing, line_of, IsPrinted, PrintsLine, PrintsNothing, StopsPrinting}
+use Rattle.siman_operator.specs.Printing.{Printing, IsPrinted, PrintsEntry, PrintsNothing, StopsPrinting}
 use Rattle.siman_operator.specs.Deeds.{PrintsSent, PrintsTurn, PrintsAll}
-use Rattle.siman_operator.proofs.Lines.{prints_line, falls_silent}
+use Rattle.siman_operator.proofs.Lines.{falls_silent}
 use Rattle.siman_operator.proofs.NotedLemmas.{last_more}
-use Rattle.siman_operator.proofs.Prints.{is_same, stamped, by_true, by_false, entries_none, quiet, shows_one, sent_prints, unsent_prints}
+use Rattle.siman_operator.proofs.Prints.{stamped, by_true, by_false, entries_none, quiet, shows_one, sent_prints, unsent_prints, sent_setting}
 
 -- Entries that are recorded one after the other.
 
@@ -320,39 +321,39 @@ shape_by passed now p q w v (Err faults.Memory) h ends more = broken_shape passe
 
 -- What is printed of it.
 
-then_prints : (x : ℕ) (w m v : WriterState) (old mid new : Printing) → PrintsAll x w m old mid → PrintsAll x m v mid new → PrintsAll x w v old new
-then_prints x w m v old mid new first second = λ before start es written printed.
+then_prints : (w m v : WriterState) (old mid new : Printing) → PrintsAll w m old mid → PrintsAll m v mid new → PrintsAll w v old new
+then_prints w m v old mid new first second = λ before start es written printed.
     let one = first before start es written printed in
     let two = second before start (es ++ one.0) one.1 one.2 in (
       one.0 ++ two.0,
       subst (λ (l : List Entry). IsWritten before v l) (append_assoc es one.0 two.0) two.1,
-      subst (λ (l : List Entry). IsPrinted start x l new) (append_assoc es one.0 two.0) two.2,
+      subst (λ (l : List Entry). IsPrinted start l new) (append_assoc es one.0 two.0) two.2,
     )
 
-heard_line : (x k s i now : ℕ) (os rs : Datagrams) (b : List ℕ) (old new : Printing) → i ≡ s → rs ≡ os ++ b ∷ []
-    → PrintsLine (line_of x k (Received i now (last_of rs))) old new → PrintsLine (line_of x k (Received s now b)) old new
-heard_line x k s i now os rs b old new index came line =
-    subst (λ (c : List ℕ). PrintsLine (line_of x k (Received s now c)) old new) (ap last_of came ∙ last_more os b)
-    (subst (λ (j : ℕ). PrintsLine (line_of x k (Received j now (last_of rs))) old new) index line)
+heard_rows : (s i now : ℕ) (os rs : Datagrams) (b : List ℕ) (old new : Printing) → i ≡ s → rs ≡ os ++ b ∷ []
+    → PrintsEntry (Received i now (last_of rs)) old new → PrintsEntry (Received s now b) old new
+heard_rows s i now os rs b old new index came rows =
+    subst (λ (c : List ℕ). PrintsEntry (Received s now c) old new) (ap last_of came ∙ last_more os b)
+    (subst (λ (j : ℕ). PrintsEntry (Received j now (last_of rs)) old new) index rows)
 
-shape_prints : {L : Type 0} (x now : ℕ) (p q : StationAtLine (TracingLine L)) (w v : WriterState) (old mid new : Printing) → now < 2 ^ 64 → q.index ≡ p.index
-    → ShapeOf now p q w v → (v.entries ≡ w.entries → ⊥) → PrintsLine (line_of x w.entries (Received q.index now (last_of (datagrams_received q.line)))) old mid
-    → PrintsSent q x v.entries now (w.entries + 1) (length (datagrams_sent p.line)) mid new → PrintsAll x w v old new
-shape_prints x now p q w v old mid new h index (inl tail) other line sent = absurd (other (tail_count w v tail))
-shape_prints x now p q w v old mid new h index (inr (inl is)) other line sent =
+shape_prints : {L : Type 0} (now : ℕ) (p q : StationAtLine (TracingLine L)) (w v : WriterState) (old mid new : Printing) → now < 2 ^ 64 → q.index ≡ p.index
+    → ShapeOf now p q w v → (v.entries ≡ w.entries → ⊥) → PrintsEntry (Received q.index now (last_of (datagrams_received q.line))) old mid
+    → PrintsSent q v.entries now (w.entries + 1) (length (datagrams_sent p.line)) mid new → PrintsAll w v old new
+shape_prints now p q w v old mid new h index (inl tail) other line sent = absurd (other (tail_count w v tail))
+shape_prints now p q w v old mid new h index (inr (inl is)) other line sent =
     let count = is.one.adds.entries in
-    then_prints x w is.mid v old mid new
-    (shows_one x w is.mid (Received p.index now is.datagram) old mid (stamped now h) is.one
-    (heard_line x w.entries p.index q.index now (datagrams_received p.line) (datagrams_received q.line) is.datagram old mid index is.came line))
-    (unsent_prints x now (length (datagrams_sent p.line)) q is.mid v mid new (tail_count is.mid v is.tail) (λ before es written. tail_written before is.mid v es is.tail written)
-    (subst (λ (k : ℕ). PrintsSent q x v.entries now k (length (datagrams_sent p.line)) mid new) (sym count) sent))
-shape_prints x now p q w v old mid new h index (inr (inr is)) other line sent =
+    then_prints w is.mid v old mid new
+    (shows_one w is.mid (Received p.index now is.datagram) old mid (stamped now h) is.one
+    (heard_rows p.index q.index now (datagrams_received p.line) (datagrams_received q.line) is.datagram old mid index is.came line))
+    (unsent_prints now (length (datagrams_sent p.line)) q is.mid v mid new (tail_count is.mid v is.tail) (λ before es written. tail_written before is.mid v es is.tail written)
+    (subst (λ (k : ℕ). PrintsSent q v.entries now k (length (datagrams_sent p.line)) mid new) (sym count) sent))
+shape_prints now p q w v old mid new h index (inr (inr is)) other line sent =
     let count = is.one.adds.entries in
-    then_prints x w is.mid v old mid new
-    (shows_one x w is.mid (Received p.index now is.datagram) old mid (stamped now h) is.one
-    (heard_line x w.entries p.index q.index now (datagrams_received p.line) (datagrams_received q.line) is.datagram old mid index is.came line))
-    (sent_prints x now p q is.mid v is.text mid new h index is.two is.goes
-    (subst (λ (k : ℕ). PrintsSent q x v.entries now k (length (datagrams_sent p.line)) mid new) (sym count) sent))
+    then_prints w is.mid v old mid new
+    (shows_one w is.mid (Received p.index now is.datagram) old mid (stamped now h) is.one
+    (heard_rows p.index q.index now (datagrams_received p.line) (datagrams_received q.line) is.datagram old mid index is.came line))
+    (sent_prints now p q is.mid v is.text mid new h index is.two is.goes
+    (subst (λ (k : ℕ). PrintsSent q v.entries now k (length (datagrams_sent p.line)) mid new) (sym count) sent))
 
 one_more_is : (a b : ℕ) → (a - b == 1) ≡ true → a ≡ b + 1
 one_more_is a b e = grind (arith, nat_tests)
@@ -364,49 +365,65 @@ other_is : (a b : ℕ) → (a == b) ≡ false → a ≡ b → ⊥
 other_is a b e h = grind (arith, nat_tests)
 
 -- what is printed of a datagram that came, and of the answer
-abbrev HeardPrints : {L : Type 0} → (x now : ℕ) → (p q : StationAtLine (TracingLine L)) → (w v : WriterState) → (old new : Printing) → Type 0
-HeardPrints x now p q w v old new =
-    (mid : Printing) × PrintsLine (line_of x w.entries (Received q.index now (last_of (datagrams_received q.line)))) old mid
-    × PrintsSent q x v.entries now (w.entries + 1) (length (datagrams_sent p.line)) mid new
+abbrev HeardPrints : {L : Type 0} → (now : ℕ) → (p q : StationAtLine (TracingLine L)) → (w v : WriterState) → (old new : Printing) → Type 0
+HeardPrints now p q w v old new =
+    (mid : Printing) × PrintsEntry (Received q.index now (last_of (datagrams_received q.line))) old mid
+    × PrintsSent q v.entries now (w.entries + 1) (length (datagrams_sent p.line)) mid new
 
-pub turn_prints : {L : Type 0} (passed : L → PassedOver) (x now : ℕ) (p q : StationAtLine (TracingLine L)) (w v : WriterState) (result : Result Served ServeFault)
+pub turn_prints : {L : Type 0} (passed : L → PassedOver) (now : ℕ) (p q : StationAtLine (TracingLine L)) (w v : WriterState) (result : Result Served ServeFault)
     (old new : Printing) → now < 2 ^ 64 → q.index ≡ p.index
     → ServeEnds p.index now 1 (state_at (telling passed) p w) (state_at (telling passed) q v) result
-    → PrintsTurn q x v.entries now w.entries (length (datagrams_received p.line)) (length (datagrams_sent p.line)) old new → PrintsAll x w v old new
-turn_prints passed x now p q w v result old new h index ends is = by (v.entries == w.entries) refl where
+    → PrintsTurn q v.entries now w.entries (length (datagrams_received p.line)) (length (datagrams_sent p.line)) old new → PrintsAll w v old new
+turn_prints passed now p q w v result old new h index ends is = by (v.entries == w.entries) refl where
   wrote : Wrote w v
   wrote = wrote_by p.index now 1 (state_at (telling passed) p w) (state_at (telling passed) q v) result h ends
 
-  rest : (v.entries == w.entries) ≡ false → MatchBool (length (datagrams_received q.line) - length (datagrams_received p.line) == 1) (HeardPrints x now p q w v old new) (StopsPrinting old new)
+  rest : (v.entries == w.entries) ≡ false → MatchBool (length (datagrams_received q.line) - length (datagrams_received p.line) == 1) (HeardPrints now p q w v old new) (StopsPrinting old new)
   rest differs =
       by_false (PrintsNothing old new)
-      (MatchBool (length (datagrams_received q.line) - length (datagrams_received p.line) == 1) (HeardPrints x now p q w v old new) (StopsPrinting old new))
+      (MatchBool (length (datagrams_received q.line) - length (datagrams_received p.line) == 1) (HeardPrints now p q w v old new) (StopsPrinting old new))
       (v.entries == w.entries) differs is
 
-  other : (t : Bool) → (length (datagrams_received q.line) - length (datagrams_received p.line) == 1) ≡ t → (v.entries == w.entries) ≡ false → PrintsAll x w v old new
+  other : (t : Bool) → (length (datagrams_received q.line) - length (datagrams_received p.line) == 1) ≡ t → (v.entries == w.entries) ≡ false → PrintsAll w v old new
   other true one differs =
-      let prints = by_true (HeardPrints x now p q w v old new) (StopsPrinting old new) (length (datagrams_received q.line) - length (datagrams_received p.line) == 1) one (rest differs) in
-      shape_prints x now p q w v old prints.0 new h index
+      let prints = by_true (HeardPrints now p q w v old new) (StopsPrinting old new) (length (datagrams_received q.line) - length (datagrams_received p.line) == 1) one (rest differs) in
+      shape_prints now p q w v old prints.0 new h index
       (shape_by passed now p q w v result h ends (one_more_is (length (datagrams_received q.line)) (length (datagrams_received p.line)) one))
       (other_is v.entries w.entries differs) prints.1 prints.2
   other false none differs = λ before start es written printed. (
     wrote.entries,
     wrote_written before w v es wrote written,
-    falls_silent start x es wrote.entries old new printed
-        (by_false (HeardPrints x now p q w v old new) (StopsPrinting old new) (length (datagrams_received q.line) - length (datagrams_received p.line) == 1) none (rest differs)),
+    falls_silent start es wrote.entries old new printed
+        (by_false (HeardPrints now p q w v old new) (StopsPrinting old new) (length (datagrams_received q.line) - length (datagrams_received p.line) == 1) none (rest differs)),
   )
 
-  by : (t : Bool) → (v.entries == w.entries) ≡ t → PrintsAll x w v old new
+  by : (t : Bool) → (v.entries == w.entries) ≡ t → PrintsAll w v old new
   by true same =
-      quiet x w v old new (λ before es written. wrote_none before w v es wrote (same_is v.entries w.entries same) written)
+      quiet w v old new (λ before es written. wrote_none before w v es wrote (same_is v.entries w.entries same) written)
       (by_true (PrintsNothing old new)
-      (MatchBool (length (datagrams_received q.line) - length (datagrams_received p.line) == 1) (HeardPrints x now p q w v old new) (StopsPrinting old new))
+      (MatchBool (length (datagrams_received q.line) - length (datagrams_received p.line) == 1) (HeardPrints now p q w v old new) (StopsPrinting old new))
       (v.entries == w.entries) same is)
   by false differs = other (length (datagrams_received q.line) - length (datagrams_received p.line) == 1) refl differs
 
+-- the rows stay of one setting
+pub turn_setting : {L : Type 0} (q : StationAtLine (TracingLine L)) (r now k j m : ℕ) (old new : Printing) → PrintsTurn q r now k j m old new
+    → new.log.setting ≡ old.log.setting
+turn_setting q r now k j m old new is = by (r == k) is where
+  Heard : Type 0
+  Heard = (mid : Printing) × PrintsEntry (Received q.index now (last_of (datagrams_received q.line))) old mid × PrintsSent q r now (k + 1) m mid new
+
+  one : (t : Bool) → MatchBool t Heard (StopsPrinting old new) → new.log.setting ≡ old.log.setting
+  one true heard = sent_setting q r now (k + 1) m heard.0 new heard.2 ∙ heard.1.setting
+  one false stops = ap (λ (l : PlainRecording). l.setting) stops.0
+
+  by : (t : Bool) → MatchBool t (PrintsNothing old new) (MatchBool (length (datagrams_received q.line) - j == 1) Heard (StopsPrinting old new))
+      → new.log.setting ≡ old.log.setting
+  by true nothing = ap (λ (l : PlainRecording). l.setting) nothing.0
+  by false heard = one (length (datagrams_received q.line) - j == 1) heard
+
 -- by counts that are these
-pub at_turn_counts : {L : Type 0} (q : StationAtLine (TracingLine L)) (x r now k j m i l n : ℕ) (old new : Printing) → k ≡ i → j ≡ l → m ≡ n
-    → PrintsTurn q x r now k j m old new → PrintsTurn q x r now i l n old new
-at_turn_counts q x r now k j m i l n old new e f g is =
-    subst (λ (t : ℕ). PrintsTurn q x r now t l n old new) e
-    (subst (λ (t : ℕ). PrintsTurn q x r now k t n old new) f (subst (λ (t : ℕ). PrintsTurn q x r now k j t old new) g is))
+pub at_turn_counts : {L : Type 0} (q : StationAtLine (TracingLine L)) (r now k j m i l n : ℕ) (old new : Printing) → k ≡ i → j ≡ l → m ≡ n
+    → PrintsTurn q r now k j m old new → PrintsTurn q r now i l n old new
+at_turn_counts q r now k j m i l n old new e f g is =
+    subst (λ (t : ℕ). PrintsTurn q r now t l n old new) e
+    (subst (λ (t : ℕ). PrintsTurn q r now k t n old new) f (subst (λ (t : ℕ). PrintsTurn q r now k j t old new) g is))

@@ -1,8 +1,8 @@
 -- The lines of a text that a post took so far.
-use Rattle.std.proofs.Common.{◌≡◌, ℕ, ◌+◌, ◌<◌, ◌≤◌, max, List, [], ◌∷◌, ◌++◌, length, take, refl, sym, ap, ◌∙◌, subst, arith, append_assoc, append-nil, length-append, take_all}
+use Rattle.std.proofs.Common.{◌≡◌, ℕ, ◌+◌, ◌<◌, ◌≤◌, max, List, [], ◌∷◌, ◌++◌, length, take, refl, sym, ap, ◌∙◌, subst, arith, append_assoc, append-nil, take_all}
 use Rattle.std.proofs.lemmas.List.{length-take}
-use Rattle.std.specs.Prelude.{Option, Some, None, Ok, Err, Bool, true, false}
-use Rattle.std.specs.Io.KnownBytes.{Keeps, IsAtEnd}
+use Rattle.std.specs.Prelude.{Option, Some, None, Ok, Err, true, false}
+use Rattle.std.specs.Io.KnownBytes.{Keeps}
 use Rattle.std.proofs.KnownBytes.{Appends-nil, Appends-kept}
 use Rattle.dis_records.specs.declared.address.SiteApplication.{SiteApplication}
 use Rattle.byte_files.specs.Writing.{Writes, WritesPart}
@@ -22,10 +22,8 @@ use Rattle.siman_operator.specs.declared.coming.Coming.{Coming}
 use Rattle.siman_operator.specs.declared.coming.Coming.TheVariants as comings
 use Rattle.siman_operator.specs.Coming.{HasBegun, Comes, GoesOnBy, size_of, number_by}
 use Rattle.siman_operator.proofs.Begun.{nothing_begun}
-use Rattle.siman_operator.specs.Reading.{said_by}
-use Rattle.siman_operator.specs.Reason.{Reasons}
 use Rattle.siman_operator.specs.Receiver.{WarnsOf}
-use Rattle.siman_operator.specs.Sessions.{print_stop_at, Taken, TakesOne, TakesAll, line_of, lines_in, number_after, told_from, worst_of, MayGoOn, quit_line, PlaysLines}
+use Rattle.siman_operator.specs.Sessions.{Taken, TakesOne, TakesAll, line_of, lines_in, number_after, told_from, worst_of, MayGoOn, quit_line, PlaysLines}
 use Rattle.siman_operator.specs.Told.{Wrote, WritesMore}
 use Rattle.siman_operator.proofs.Reasons.{reasons_held}
 use Rattle.siman_operator.proofs.SessionLines.{reads-none, reads-more, all_lines, first_lines, said_by-held}

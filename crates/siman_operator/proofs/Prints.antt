@@ -1,11 +1,12 @@
 -- What is printed of what a station recorded.
-use Rattle.std.proofs.Common.{◌≡◌, ℕ, ◌+◌, ◌<◌, ◌^◌, List, [], ◌∷◌, ◌++◌, length, refl, ap, sym, ◌∙◌, subst, inl, inr, arith, append-nil, ◌⊎◌, length-append}
-use Rattle.std.specs.Prelude.{Bool, true, false, ◌==◌, nat_lt, Option, Some, None, Result, Ok, Err, IfErr}
+use Rattle.std.proofs.Common.{◌≡◌, ℕ, ◌+◌, ◌<◌, ◌^◌, List, [], ◌∷◌, ◌++◌, length, refl, ap, sym, ◌∙◌, subst, inl, inr, arith, append-nil, length-append}
+use Rattle.std.specs.Prelude.{Bool, true, false, ◌==◌, nat_lt, Option, Some, Result, Ok, Err, IfErr}
 use Rattle.std.specs.Bool.{MatchBool}
 use Rattle.std.proofs.lemmas.Bool.Decides.{nat_tests}
 use Rattle.std.proofs.KnownBytes.{Keeps-refl}
 use Rattle.dis_records.specs.declared.entity_state.EntityState.{EntityState}
 use Rattle.exercise_model.specs.Entry.{Entry, Sent, Told, is_stamped}
+use Rattle.exercise_model.specs.Recording.{PlainRecording}
 use Rattle.exercise_recording.specs.declared.fault.WriterFault.{WriterFault}
 use Rattle.exercise_recording.specs.declared.fault.WriterFault.TheVariants as writer_faults
 use Rattle.exercise_recording.specs.Writer.{WriterState}
@@ -24,9 +25,9 @@ use Rattle.siman_lines.proofs.Offered.{written_one, written_none}
 use Rattle.siman_operator.specs.declared.tracing_line.TracingLine.{TracingLine}
 use Rattle.siman_operator.specs.Noted.{last_of}
 use Rattle.siman_operator.specs.Noting.{datagrams_sent, telling}
-use Rattle.siman_operator.specs.Printing.{Printing, line_of, IsPrinted, PrintsLine, PrintsNothing, StopsPrinting}
+use Rattle.siman_operator.specs.Printing.{Printing, PrintsEntry, PrintsNothing, StopsPrinting}
 use Rattle.siman_operator.specs.Deeds.{PrintsSent, PrintsAll}
-use Rattle.siman_operator.proofs.Lines.{prints_line, falls_silent, prints_nothing}
+use Rattle.siman_operator.proofs.Lines.{prints_entry, falls_silent, prints_nothing}
 use Rattle.siman_operator.proofs.NotedLemmas.{last_more}
 
 -- Tests.
@@ -65,133 +66,147 @@ entries_none w v e writer_faults.Argument one = ap (λ (u : WriterState). u.entr
 entries_none w v e writer_faults.Write one = (one.torn refl).entries
 
 -- nothing is recorded and nothing printed
-pub quiet : (x : ℕ) (w v : WriterState) (old new : Printing) → ((before : Option (List ℕ)) (es : List Entry) → IsWritten before w es → IsWritten before v es)
-    → PrintsNothing old new → PrintsAll x w v old new
-quiet x w v old new on nothing = λ before start es written printed. (
+pub quiet : (w v : WriterState) (old new : Printing) → ((before : Option (List ℕ)) (es : List Entry) → IsWritten before w es → IsWritten before v es)
+    → PrintsNothing old new → PrintsAll w v old new
+quiet w v old new on nothing = λ before start es written printed. (
   [],
   subst (λ (l : List Entry). IsWritten before v l) (sym (append-nil es)) (on before es written),
-  prints_nothing start x es old new printed nothing,
+  prints_nothing start es old new printed nothing,
 )
 
 pub nothing_new : (p : Printing) → PrintsNothing p p
-nothing_new p = (refl, Keeps-refl p.out)
+nothing_new p = (refl, refl, Keeps-refl p.out)
 
 pub still : (w v : WriterState) → v ≡ w → (before : Option (List ℕ)) (es : List Entry) → IsWritten before w es → IsWritten before v es
 still w v e before es written = subst (λ (u : WriterState). IsWritten before u es) (sym e) written
 
--- an entry is recorded, and its line printed
-pub shows_one : (x : ℕ) (w v : WriterState) (e : Entry) (old new : Printing) → is_stamped e ≡ true → WritesOne w e v
-    → PrintsLine (line_of x w.entries e) old new → PrintsAll x w v old new
-shows_one x w v e old new stamped one line = λ before start es written printed.
-    (e ∷ [], written_one before w v es e stamped written one, prints_line start x w.entries es e old new written.count printed line)
+-- an entry is recorded, and its rows printed
+pub shows_one : (w v : WriterState) (e : Entry) (old new : Printing) → is_stamped e ≡ true → WritesOne w e v
+    → PrintsEntry e old new → PrintsAll w v old new
+shows_one w v e old new stamped one rows = λ before start es written printed.
+    (e ∷ [], written_one before w v es e stamped written one, prints_entry start es e old new printed rows)
 
 -- an entry is recorded, and no more is printed
-pub hides_one : (x : ℕ) (w v : WriterState) (e : Entry) (old new : Printing) → is_stamped e ≡ true → WritesOne w e v → StopsPrinting old new
-    → PrintsAll x w v old new
-hides_one x w v e old new stamped one silent = λ before start es written printed.
-    (e ∷ [], written_one before w v es e stamped written one, falls_silent start x es (e ∷ []) old new printed silent)
+pub hides_one : (w v : WriterState) (e : Entry) (old new : Printing) → is_stamped e ≡ true → WritesOne w e v → StopsPrinting old new
+    → PrintsAll w v old new
+hides_one w v e old new stamped one silent = λ before start es written printed.
+    (e ∷ [], written_one before w v es e stamped written one, falls_silent start es (e ∷ []) old new printed silent)
 
 -- Of what is sent.
 
-abbrev pub sent_line_of : {L : Type 0} → StationAtLine (TracingLine L) → (x now entries : ℕ) → List ℕ
-sent_line_of q x now entries = line_of x entries (Sent q.index now (last_of (datagrams_sent q.line)))
+-- the entry of what was sent last
+abbrev pub last_sent : {L : Type 0} → StationAtLine (TracingLine L) → (now : ℕ) → Entry
+last_sent q now = Sent q.index now (last_of (datagrams_sent q.line))
 
-abbrev pub sent_case : {L : Type 0} → StationAtLine (TracingLine L) → (x now entries sent : ℕ) → (old new : Printing) → Type 0
-sent_case q x now entries sent old new =
-    MatchBool (length (datagrams_sent q.line) == sent) (StopsPrinting old new)
-    (PrintsLine (line_of x entries (Sent q.index now (last_of (datagrams_sent q.line)))) old new)
+abbrev pub sent_case : {L : Type 0} → StationAtLine (TracingLine L) → (now sent : ℕ) → (old new : Printing) → Type 0
+sent_case q now sent old new =
+    MatchBool (length (datagrams_sent q.line) == sent) (StopsPrinting old new) (PrintsEntry (last_sent q now) old new)
 
-pub sent_line : {L : Type 0} (x now k : ℕ) (xs : Datagrams) (q : StationAtLine (TracingLine L)) (s : ℕ) (text : List ℕ) (old new : Printing) → q.index ≡ s
-    → datagrams_sent q.line ≡ xs ++ text ∷ [] → sent_case q x now k (length xs) old new → PrintsLine (line_of x k (Sent s now text)) old new
-sent_line x now k xs q s text old new index grown is =
+pub sent_rows : {L : Type 0} (now : ℕ) (xs : Datagrams) (q : StationAtLine (TracingLine L)) (s : ℕ) (text : List ℕ) (old new : Printing) → q.index ≡ s
+    → datagrams_sent q.line ≡ xs ++ text ∷ [] → sent_case q now (length xs) old new → PrintsEntry (Sent s now text) old new
+sent_rows now xs q s text old new index grown is =
     let longer : length (datagrams_sent q.line) ≡ length xs + 1 = ap length grown ∙ length-append xs (text ∷ []) in
-    let line = by_false (StopsPrinting old new) (PrintsLine (sent_line_of q x now k) old new) (length (datagrams_sent q.line) == length xs) (is_other (length (datagrams_sent q.line)) (length xs) longer) is in
-    subst (λ (b : List ℕ). PrintsLine (line_of x k (Sent s now b)) old new) (ap last_of grown ∙ last_more xs text)
-    (subst (λ (i : ℕ). PrintsLine (line_of x k (Sent i now (last_of (datagrams_sent q.line)))) old new) index line)
+    let rows = by_false (StopsPrinting old new) (PrintsEntry (last_sent q now) old new) (length (datagrams_sent q.line) == length xs) (is_other (length (datagrams_sent q.line)) (length xs) longer) is in
+    subst (λ (b : List ℕ). PrintsEntry (Sent s now b) old new) (ap last_of grown ∙ last_more xs text)
+    (subst (λ (i : ℕ). PrintsEntry (Sent i now (last_of (datagrams_sent q.line))) old new) index rows)
 
-pub sent_prints : {L : Type 0} (x now : ℕ) (p q : StationAtLine (TracingLine L)) (w v : WriterState) (text : List ℕ) (old new : Printing) → now < 2 ^ 64
+pub sent_prints : {L : Type 0} (now : ℕ) (p q : StationAtLine (TracingLine L)) (w v : WriterState) (text : List ℕ) (old new : Printing) → now < 2 ^ 64
     → q.index ≡ p.index → WritesOne w (Sent p.index now text) v → MayGrow (Some (datagrams_sent p.line)) (Some (datagrams_sent q.line)) text
-    → PrintsSent q x v.entries now w.entries (length (datagrams_sent p.line)) old new → PrintsAll x w v old new
-sent_prints x now p q w v text old new h index one (inl grown) is =
-    shows_one x w v (Sent p.index now text) old new (stamped now h) one
-    (sent_line x now w.entries (datagrams_sent p.line) q p.index text old new index grown
-    (by_false (PrintsNothing old new) (sent_case q x now w.entries (length (datagrams_sent p.line)) old new) (v.entries == w.entries)
+    → PrintsSent q v.entries now w.entries (length (datagrams_sent p.line)) old new → PrintsAll w v old new
+sent_prints now p q w v text old new h index one (inl grown) is =
+    shows_one w v (Sent p.index now text) old new (stamped now h) one
+    (sent_rows now (datagrams_sent p.line) q p.index text old new index grown
+    (by_false (PrintsNothing old new) (sent_case q now (length (datagrams_sent p.line)) old new) (v.entries == w.entries)
     (is_other v.entries w.entries one.adds.entries) is))
-sent_prints x now p q w v text old new h index one (inr same) is =
-    hides_one x w v (Sent p.index now text) old new (stamped now h) one
-    (by_true (StopsPrinting old new) (PrintsLine (sent_line_of q x now w.entries) old new) (length (datagrams_sent q.line) == length (datagrams_sent p.line))
+sent_prints now p q w v text old new h index one (inr same) is =
+    hides_one w v (Sent p.index now text) old new (stamped now h) one
+    (by_true (StopsPrinting old new) (PrintsEntry (last_sent q now) old new) (length (datagrams_sent q.line) == length (datagrams_sent p.line))
     (is_same (length (datagrams_sent q.line)) (length (datagrams_sent p.line)) (ap length same))
-    (by_false (PrintsNothing old new) (sent_case q x now w.entries (length (datagrams_sent p.line)) old new) (v.entries == w.entries)
+    (by_false (PrintsNothing old new) (sent_case q now (length (datagrams_sent p.line)) old new) (v.entries == w.entries)
     (is_other v.entries w.entries one.adds.entries) is))
 
 -- nothing was recorded
-pub unsent_prints : {L : Type 0} (x now k : ℕ) (q : StationAtLine (TracingLine L)) (w v : WriterState) (old new : Printing)
+pub unsent_prints : {L : Type 0} (now k : ℕ) (q : StationAtLine (TracingLine L)) (w v : WriterState) (old new : Printing)
     → v.entries ≡ w.entries → ((before : Option (List ℕ)) (es : List Entry) → IsWritten before w es → IsWritten before v es)
-    → PrintsSent q x v.entries now w.entries k old new → PrintsAll x w v old new
-unsent_prints x now k q w v old new same on is =
-    quiet x w v old new on
-    (by_true (PrintsNothing old new) (sent_case q x now w.entries k old new) (v.entries == w.entries) (is_same v.entries w.entries same) is)
+    → PrintsSent q v.entries now w.entries k old new → PrintsAll w v old new
+unsent_prints now k q w v old new same on is =
+    quiet w v old new on
+    (by_true (PrintsNothing old new) (sent_case q now k old new) (v.entries == w.entries) (is_same v.entries w.entries same) is)
 
-unwritten : {L : Type 0} (x now k : ℕ) (q : StationAtLine (TracingLine L)) (w v : WriterState) (e : Entry) (fault : WriterFault) (old new : Printing)
-    → is_stamped e ≡ true → WritesNone w e fault v → PrintsSent q x v.entries now w.entries k old new → PrintsAll x w v old new
-unwritten x now k q w v e fault old new good none is =
-    unsent_prints x now k q w v old new (entries_none w v e fault none) (λ before es written. written_none before w v es e fault good written none) is
+unwritten : {L : Type 0} (now k : ℕ) (q : StationAtLine (TracingLine L)) (w v : WriterState) (e : Entry) (fault : WriterFault) (old new : Printing)
+    → is_stamped e ≡ true → WritesNone w e fault v → PrintsSent q v.entries now w.entries k old new → PrintsAll w v old new
+unwritten now k q w v e fault old new good none is =
+    unsent_prints now k q w v old new (entries_none w v e fault none) (λ before es written. written_none before w v es e fault good written none) is
 
-resting : {L : Type 0} (x now k : ℕ) (q : StationAtLine (TracingLine L)) (w v : WriterState) (old new : Printing)
-    → v ≡ w → PrintsSent q x v.entries now w.entries k old new → PrintsAll x w v old new
-resting x now k q w v old new e is = unsent_prints x now k q w v old new (ap (λ (u : WriterState). u.entries) e) (still w v e) is
+resting : {L : Type 0} (now k : ℕ) (q : StationAtLine (TracingLine L)) (w v : WriterState) (old new : Printing)
+    → v ≡ w → PrintsSent q v.entries now w.entries k old new → PrintsAll w v old new
+resting now k q w v old new e is = unsent_prints now k q w v old new (ap (λ (u : WriterState). u.entries) e) (still w v e) is
 
-pub order_prints : {L : Type 0} (passed : L → PassedOver) (x now : ℕ) (order : Order) (p q : StationAtLine (TracingLine L)) (w v : WriterState)
+pub order_prints : {L : Type 0} (passed : L → PassedOver) (now : ℕ) (order : Order) (p q : StationAtLine (TracingLine L)) (w v : WriterState)
     (done : Result (Unit {0}) AtLineFault) (old new : Printing) → now < 2 ^ 64 → q.index ≡ p.index
     → OrdersAt (telling passed) now order p w q v done → IfErr done (LeavesRefused (telling passed) p w q v)
-    → PrintsSent q x v.entries now w.entries (length (datagrams_sent p.line)) old new → PrintsAll x w v old new
-order_prints passed x now order p q w v (Ok u) old new h index ends refused is =
-    sent_prints x now p q w v _ old new h index ends.1.goes.entry (inl ends.1.goes.sent_are) is
-order_prints passed x now order p q w v (Err (faults.Station fault)) old new h index ends refused is =
-    resting x now _ q w v old new refused.1.recorder is
-order_prints passed x now order p q w v (Err faults.Line) old new h index ends refused is =
-    sent_prints x now p q w v _ old new h index ends.left.entry ends.left.may_be_sent is
-order_prints passed x now order p q w v (Err (faults.Record fault)) old new h index ends refused is =
-    unwritten x now _ q w v _ fault old new (stamped now h) ends.left.refused is
-order_prints passed x now order p q w v (Err faults.Memory) old new h index (inl ends) refused is =
-    resting x now _ q w v old new ends.1.recorder is
-order_prints passed x now order p q w v (Err faults.Memory) old new h index (inr ends) refused is =
-    resting x now _ q w v old new ends.2.recorder is
+    → PrintsSent q v.entries now w.entries (length (datagrams_sent p.line)) old new → PrintsAll w v old new
+order_prints passed now order p q w v (Ok u) old new h index ends refused is =
+    sent_prints now p q w v _ old new h index ends.1.goes.entry (inl ends.1.goes.sent_are) is
+order_prints passed now order p q w v (Err (faults.Station fault)) old new h index ends refused is =
+    resting now _ q w v old new refused.1.recorder is
+order_prints passed now order p q w v (Err faults.Line) old new h index ends refused is =
+    sent_prints now p q w v _ old new h index ends.left.entry ends.left.may_be_sent is
+order_prints passed now order p q w v (Err (faults.Record fault)) old new h index ends refused is =
+    unwritten now _ q w v _ fault old new (stamped now h) ends.left.refused is
+order_prints passed now order p q w v (Err faults.Memory) old new h index (inl ends) refused is =
+    resting now _ q w v old new ends.1.recorder is
+order_prints passed now order p q w v (Err faults.Memory) old new h index (inr ends) refused is =
+    resting now _ q w v old new ends.2.recorder is
 
-pub repeat_prints : {L : Type 0} (passed : L → PassedOver) (x now : ℕ) (p q : StationAtLine (TracingLine L)) (w v : WriterState)
+pub repeat_prints : {L : Type 0} (passed : L → PassedOver) (now : ℕ) (p q : StationAtLine (TracingLine L)) (w v : WriterState)
     (done : Result (Unit {0}) AtLineFault) (old new : Printing) → now < 2 ^ 64 → q.index ≡ p.index
     → RepeatsAt (telling passed) now p w q v done
-    → PrintsSent q x v.entries now w.entries (length (datagrams_sent p.line)) old new → PrintsAll x w v old new
-repeat_prints passed x now p q w v (Ok u) old new h index (true, ends) is =
-    sent_prints x now p q w v _ old new h index ends.1.goes.entry (inl ends.1.goes.sent_are) is
-repeat_prints passed x now p q w v (Ok u) old new h index (false, ends) is = resting x now _ q w v old new ends.2.recorder is
-repeat_prints passed x now p q w v (Err (faults.Station fault)) old new h index ends is = absurd ends
-repeat_prints passed x now p q w v (Err faults.Line) old new h index ends is =
-    sent_prints x now p q w v _ old new h index ends.1.left.entry ends.1.left.may_be_sent is
-repeat_prints passed x now p q w v (Err (faults.Record fault)) old new h index ends is =
-    unwritten x now _ q w v _ fault old new (stamped now h) ends.1.left.refused is
-repeat_prints passed x now p q w v (Err faults.Memory) old new h index ends is = resting x now _ q w v old new ends.2.recorder is
+    → PrintsSent q v.entries now w.entries (length (datagrams_sent p.line)) old new → PrintsAll w v old new
+repeat_prints passed now p q w v (Ok u) old new h index (true, ends) is =
+    sent_prints now p q w v _ old new h index ends.1.goes.entry (inl ends.1.goes.sent_are) is
+repeat_prints passed now p q w v (Ok u) old new h index (false, ends) is = resting now _ q w v old new ends.2.recorder is
+repeat_prints passed now p q w v (Err (faults.Station fault)) old new h index ends is = absurd ends
+repeat_prints passed now p q w v (Err faults.Line) old new h index ends is =
+    sent_prints now p q w v _ old new h index ends.1.left.entry ends.1.left.may_be_sent is
+repeat_prints passed now p q w v (Err (faults.Record fault)) old new h index ends is =
+    unwritten now _ q w v _ fault old new (stamped now h) ends.1.left.refused is
+repeat_prints passed now p q w v (Err faults.Memory) old new h index ends is = resting now _ q w v old new ends.2.recorder is
+
+-- the rows stay of one setting
+setting_of : (a b : PlainRecording) → a ≡ b → a.setting ≡ b.setting
+setting_of a b e = ap (λ (r : PlainRecording). r.setting) e
+
+pub sent_setting : {L : Type 0} (q : StationAtLine (TracingLine L)) (r now k j : ℕ) (old new : Printing) → PrintsSent q r now k j old new
+    → new.log.setting ≡ old.log.setting
+sent_setting q r now k j old new is = by (r == k) is where
+  one : (t : Bool) → MatchBool t (StopsPrinting old new) (PrintsEntry (last_sent q now) old new) → new.log.setting ≡ old.log.setting
+  one true stops = setting_of new.log old.log stops.0
+  one false prints = prints.setting
+
+  by : (t : Bool) → MatchBool t (PrintsNothing old new) (sent_case q now j old new) → new.log.setting ≡ old.log.setting
+  by true nothing = setting_of new.log old.log nothing.0
+  by false sent = one (length (datagrams_sent q.line) == j) sent
 
 -- by counts that are these
-pub at_counts : {L : Type 0} (q : StationAtLine (TracingLine L)) (x r now k j i l : ℕ) (old new : Printing) → k ≡ i → j ≡ l
-    → PrintsSent q x r now k j old new → PrintsSent q x r now i l old new
-at_counts q x r now k j i l old new e f is =
-    subst (λ (n : ℕ). PrintsSent q x r now n l old new) e (subst (λ (n : ℕ). PrintsSent q x r now k n old new) f is)
+pub at_counts : {L : Type 0} (q : StationAtLine (TracingLine L)) (r now k j i l : ℕ) (old new : Printing) → k ≡ i → j ≡ l
+    → PrintsSent q r now k j old new → PrintsSent q r now i l old new
+at_counts q r now k j i l old new e f is =
+    subst (λ (n : ℕ). PrintsSent q r now n l old new) e (subst (λ (n : ℕ). PrintsSent q r now k n old new) f is)
 
 -- Of what is told.
 
-pub tell_prints : {L : Type 0} (x k e : ℕ) (y : EntityState) (p : StationAtLine (TracingLine L)) (w v : WriterState) (old new : Printing)
-    → WritesOne w (Told p.index e (state_over p.node.application.outfit (came p.node.application) e)) v → k ≡ w.entries
-    → y ≡ state_over p.node.application.outfit (came p.node.application) e → PrintsLine (line_of x k (Told p.index e y)) old new → PrintsAll x w v old new
-tell_prints x k e y p w v old new one count state line =
-    shows_one x w v (Told p.index e (state_over p.node.application.outfit (came p.node.application) e)) old new refl one
-    (subst (λ (z : EntityState). PrintsLine (line_of x w.entries (Told p.index e z)) old new) state
-    (subst (λ (n : ℕ). PrintsLine (line_of x n (Told p.index e y)) old new) count line))
+pub tell_prints : {L : Type 0} (e : ℕ) (y : EntityState) (p : StationAtLine (TracingLine L)) (w v : WriterState) (old new : Printing)
+    → WritesOne w (Told p.index e (state_over p.node.application.outfit (came p.node.application) e)) v
+    → y ≡ state_over p.node.application.outfit (came p.node.application) e → PrintsEntry (Told p.index e y) old new → PrintsAll w v old new
+tell_prints e y p w v old new one state rows =
+    shows_one w v (Told p.index e (state_over p.node.application.outfit (came p.node.application) e)) old new refl one
+    (subst (λ (z : EntityState). PrintsEntry (Told p.index e z) old new) state rows)
 
-pub untold_prints : {L : Type 0} (passed : L → PassedOver) (x e : ℕ) (p : StationAtLine (TracingLine L)) (w v : WriterState) (fault : AtLineFault) (old : Printing)
-    → TellsAt e p w v (Err fault) → LeavesRefused (telling passed) p w p v fault → PrintsAll x w v old old
-untold_prints passed x e p w v (faults.Station fault) old ends refused = quiet x w v old old (still w v refused.1.recorder) (nothing_new old)
-untold_prints passed x e p w v faults.Line old ends refused = absurd ends
-untold_prints passed x e p w v (faults.Record fault) old ends refused =
-    quiet x w v old old (λ before es written. written_none before w v es _ fault refl written ends) (nothing_new old)
-untold_prints passed x e p w v faults.Memory old ends refused = absurd ends
+pub untold_prints : {L : Type 0} (passed : L → PassedOver) (e : ℕ) (p : StationAtLine (TracingLine L)) (w v : WriterState) (fault : AtLineFault) (old : Printing)
+    → TellsAt e p w v (Err fault) → LeavesRefused (telling passed) p w p v fault → PrintsAll w v old old
+untold_prints passed e p w v (faults.Station fault) old ends refused = quiet w v old old (still w v refused.1.recorder) (nothing_new old)
+untold_prints passed e p w v faults.Line old ends refused = absurd ends
+untold_prints passed e p w v (faults.Record fault) old ends refused =
+    quiet w v old old (λ before es written. written_none before w v es _ fault refl written ends) (nothing_new old)
+untold_prints passed e p w v faults.Memory old ends refused = absurd ends

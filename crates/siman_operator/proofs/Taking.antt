@@ -1,6 +1,6 @@
 -- Turns that were taken so far.
-use Rattle.std.proofs.Common.{◌≡◌, ℕ, ◌+◌, ◌<◌, ◌≤◌, List, [], ◌∷◌, length, refl, ap, sym, ◌∙◌, subst, inl, inr, arith}
-use Rattle.std.specs.Prelude.{Bool, true, false, ◌||◌}
+use Rattle.std.proofs.Common.{◌≡◌, ℕ, ◌+◌, ◌<◌, List, [], ◌∷◌, length, refl, ap, sym, ◌∙◌, inl, inr, arith}
+use Rattle.std.specs.Prelude.{true, false, ◌||◌}
 use Rattle.exercise_recording.specs.Writer.{WriterState}
 use Rattle.siman_lines.specs.declared.station_at_line.StationAtLine.{StationAtLine}
 use Rattle.siman_lines.specs.AtLines.{Telling}

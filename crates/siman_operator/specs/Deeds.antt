@@ -4,6 +4,7 @@ use Rattle.std.specs.Prelude.{◌≡◌, ℕ, ◌+◌, ◌-◌, ◌^◌, min, �
 use Rattle.std.specs.Bool.{MatchBool}
 use Rattle.dis_records.specs.declared.address.SiteApplication.{SiteApplication}
 use Rattle.exercise_model.specs.Entry.{Entry, Sent, Received}
+use Rattle.exercise_model.specs.Recording.{PlainRecording}
 use Rattle.exercise_recording.specs.Writer.{WriterState}
 use Rattle.siman_stations.specs.declared.turn.Node.{Node}
 use Rattle.siman_lines.specs.declared.fault.ServeFault.{ServeFault}
@@ -24,25 +25,30 @@ use Rattle.siman_operator.specs.Notes.{tick_rows, help_rows, status_rows}
 use Rattle.siman_operator.specs.declared.reading.Question.{Question}
 use Rattle.siman_operator.specs.declared.reading.Question.TheVariants as questions
 use Rattle.siman_lines.specs.declared.line.PassedOver.{PassedOver}
-use Rattle.siman_operator.specs.Printing.{Printing, line_of, IsPrinted, PrintsLine, PrintsNothing, StopsPrinting, MayNote}
+use Rattle.siman_operator.specs.Printing.{Printing, IsPrinted, PrintsEntry, PrintsNothing, StopsPrinting, MayNote}
 
 -- Printing.
 
 -- the printing of a sent datagram, if one was recorded since the recording had so many entries and the link had
 -- sent so many datagrams
-abbrev pub PrintsSent : {L : Type 0} → StationAtLine (TracingLine L) → (exercise recorded now entries sent : ℕ) → (old new : Printing) → Type 0
-PrintsSent p x recorded now entries sent old new =
+abbrev pub PrintsSent : {L : Type 0} → StationAtLine (TracingLine L) → (recorded now entries sent : ℕ) → (old new : Printing) → Type 0
+PrintsSent p recorded now entries sent old new =
     MatchBool (recorded == entries) (PrintsNothing old new)
     (MatchBool (length (datagrams_sent p.line) == sent) (StopsPrinting old new)
-    (PrintsLine (line_of x entries (Sent p.index now (last_of (datagrams_sent p.line)))) old new))
+    (PrintsEntry (Sent p.index now (last_of (datagrams_sent p.line))) old new))
+
+-- THE PRINTING OF A CALL that may have sent a datagram
+abbrev pub PrintsCall : {L : Type 0} → (now : ℕ) → (p : StationAtLine (TracingLine L)) → (w : WriterState) → (q : StationAtLine (TracingLine L)) → (v : WriterState)
+    → (old new : Printing) → Type 0
+PrintsCall now p w q v old new = PrintsSent q v.entries now w.entries (length (datagrams_sent p.line)) old new
 
 -- the printing of a turn, since the link had also returned so many datagrams
-abbrev pub PrintsTurn : {L : Type 0} → StationAtLine (TracingLine L) → (exercise recorded now entries received sent : ℕ) → (old new : Printing) → Type 0
-PrintsTurn p x recorded now entries received sent old new =
+abbrev pub PrintsTurn : {L : Type 0} → StationAtLine (TracingLine L) → (recorded now entries received sent : ℕ) → (old new : Printing) → Type 0
+PrintsTurn p recorded now entries received sent old new =
     MatchBool (recorded == entries) (PrintsNothing old new)
     (MatchBool (length (datagrams_received p.line) - received == 1)
-    ((mid : Printing) × PrintsLine (line_of x entries (Received p.index now (last_of (datagrams_received p.line)))) old mid
-    × PrintsSent p x recorded now (entries + 1) sent mid new)
+    ((mid : Printing) × PrintsEntry (Received p.index now (last_of (datagrams_received p.line))) old mid
+    × PrintsSent p recorded now (entries + 1) sent mid new)
     (StopsPrinting old new))
 
 -- what a tick did is noted, if it was done
@@ -65,19 +71,19 @@ pub record ServesOnce {L : Type 0} (told : Telling L) (now : ℕ) (p : StationAt
   pub dropped : q.dropped ≡ dropped_after p.dropped result
   pub busy : q.busy ≡ p.busy
 
--- A POST: its station, its recorder, its exercise, why printing stopped, if it has, its address and the time of its
--- clock
+-- A POST: its station, its recorder, the recording of the entries whose rows were made, why printing stopped, if it
+-- has, its address and the time of its clock
 pub record PostData (L : Type 0) : Type 0 where
   pub station : StationAtLine (TracingLine L)
   pub recorder : WriterState
-  pub exercise : ℕ
+  pub log : PlainRecording
   pub fault : Option PrintFault
   pub address : SiteApplication
   pub clock : ℕ
 
 -- what contracts see of a post
 abbrev pub data_of : {L W : Type 0} → Post L W → PostData L
-data_of p = record { station = p.station; recorder = p.recorder; exercise = p.printer.exercise; fault = p.printer.fault; address = p.address; clock = p.clock }
+data_of p = record { station = p.station; recorder = p.recorder; log = p.printer.log; fault = p.printer.fault; address = p.address; clock = p.clock }
 
 -- what a line asks of a session is answered; nothing is printed, if it asks nothing
 abbrev pub AnswersQuestion : {L : Type 0} → (passed : L → PassedOver) → Question → PostData L → (old new : Printing) → Type 0
@@ -90,16 +96,15 @@ AnswersQuestion passed questions.Status p old new =
 abbrev pub IsAtSameTime : {L : Type 0} → (old new : PostData L) → Type 0
 IsAtSameTime old new = (new.address ≡ old.address) × (new.clock ≡ old.clock)
 
--- the station of a post, with its recorder, its exercise and its printing
+-- the station of a post, with its recorder and its printing
 pub record PostState (L : Type 0) : Type 0 where
   pub station : StationAtLine (TracingLine L)
   pub recorder : WriterState
-  pub exercise : ℕ
   pub printing : Printing
 
 -- the state of a post, with this output
 abbrev pub printed : {L : Type 0} → PostData L → (out : Option (List ℕ)) → PostState L
-printed p out = record { station = p.station; recorder = p.recorder; exercise = p.exercise; printing = record { out = out; fault = p.fault } }
+printed p out = record { station = p.station; recorder = p.recorder; printing = record { out = out; log = p.log; fault = p.fault } }
 
 -- if some entries are written whole and the invariant of a station holds, more entries are, and it holds of them
 abbrev pub KeepsAll : ℕ → (n : Node) → (w : WriterState) → (handed : Datagrams) → (m : Node) → (v : WriterState) → (handed_after : Datagrams) → Type 0
@@ -108,15 +113,15 @@ KeepsAll s n w handed m v handed_after =
     → (more : List Entry) × (v.setting ≡ w.setting) × IsWritten before v (es ++ more) × IsKept s m v (es ++ more) (Some handed_after)
 
 -- if some entries are written whole and their rows are printed, more entries are, and the rows of all of them
-abbrev pub PrintsAll : (exercise : ℕ) → (w v : WriterState) → (old new : Printing) → Type 0
-PrintsAll x w v old new =
-    (before start : Option (List ℕ)) (es : List Entry) → IsWritten before w es → IsPrinted start x es old
-    → (more : List Entry) × IsWritten before v (es ++ more) × IsPrinted start x (es ++ more) new
+abbrev pub PrintsAll : (w v : WriterState) → (old new : Printing) → Type 0
+PrintsAll w v old new =
+    (before start : Option (List ℕ)) (es : List Entry) → IsWritten before w es → IsPrinted start es old
+    → (more : List Entry) × IsWritten before v (es ++ more) × IsPrinted start (es ++ more) new
 
--- A POST GOES ON, with faults too: the station and the exercise do not change, the invariant is preserved, and the
--- printed rows are those of its entries
+-- A POST GOES ON, with faults too: its station and the setting of its rows do not change, the invariant is preserved,
+-- and the printed rows are those of its entries
 pub record GoesOn {L : Type 0} (old new : PostState L) : Type 0 where
   pub index : new.station.index ≡ old.station.index
-  pub exercise : new.exercise ≡ old.exercise
+  pub setting : new.printing.log.setting ≡ old.printing.log.setting
   pub keeps : KeepsAll old.station.index old.station.node old.recorder (datagrams_sent old.station.line) new.station.node new.recorder (datagrams_sent new.station.line)
-  pub prints : PrintsAll old.exercise old.recorder new.recorder old.printing new.printing
+  pub prints : PrintsAll old.recorder new.recorder old.printing new.printing

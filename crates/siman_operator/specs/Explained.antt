@@ -6,6 +6,7 @@ use Rattle.exercise_model.specs.Cause.{was_sent}
 use Rattle.exercise_model.specs.Entry.{Entry}
 use Rattle.exercise_model.specs.History.{History, Send, Get, Tell}
 use Rattle.exercise_model.specs.Meaning.{meaning}
+use Rattle.exercise_model.specs.Recording.{opened}
 use Rattle.exercise_model.specs.Setting.{SettingData, IsSetting, must_have_sent}
 use Rattle.exercise_recording.specs.Writer.{Starts}
 use Rattle.siman_lines.specs.Calls.{IsFresh}
@@ -25,6 +26,7 @@ pub record IsStarted {L : Type 0} (before start : Option (List ℕ)) (w : Settin
   pub setting : IsSetting w
   pub starts : Starts before w a.recorder
   pub fresh : IsFresh a.station.index a.station.node w (Some (datagrams_sent a.station.line))
+  pub log : a.printing.log ≡ opened w
   pub fault : a.printing.fault ≡ None
   pub out : Keeps start a.printing.out
 
@@ -34,13 +36,14 @@ pub record InvariantHolds {L : Type 0} (before : Option (List ℕ)) (w : Setting
   pub written : IsWritten before a.recorder es
   pub kept : IsKept a.station.index a.station.node a.recorder es (Some (datagrams_sent a.station.line))
 
--- THE ROWS OF THE ENTRIES that are written whole are printed, all or a prefix
-pub record AreRowsPrinted {L : Type 0} (before start : Option (List ℕ)) (a : PostState L) (es : List Entry) : Type 0 where
+-- THE ROWS OF THE ENTRIES that are written whole are printed, all or a prefix, as of a recording with this setting
+pub record AreRowsPrinted {L : Type 0} (before start : Option (List ℕ)) (w : SettingData) (a : PostState L) (es : List Entry) : Type 0 where
+  pub setting : a.printing.log.setting ≡ w
   pub written : IsWritten before a.recorder es
-  pub printed : IsPrinted start a.exercise es a.printing
+  pub printed : IsPrinted start es a.printing
 
 abbrev pub Leaves : {L : Type 0} → (before start : Option (List ℕ)) → SettingData → PostState L → Type 0
-Leaves before start w a = ((es : List Entry) × InvariantHolds before w a es) × ((es : List Entry) × AreRowsPrinted before start a es)
+Leaves before start w a = ((es : List Entry) × InvariantHolds before w a es) × ((es : List Entry) × AreRowsPrinted before start w a es)
 
 -- no received datagram names a recorded station as its originator, except what was sent before
 abbrev pub HearsOwnSent : SettingData → History → Type 0

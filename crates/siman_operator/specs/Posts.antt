@@ -1,7 +1,8 @@
 -- A POST takes lines of text (profile).
 use Rattle.std.specs.Bool.{MatchBool}
-use Rattle.std.specs.Prelude.{◌≡◌, ℕ, Bool, true, false, ◌||◌, List, [], Option, None, Result, Ok, Err, if◌then◌else◌}
+use Rattle.std.specs.Prelude.{◌≡◌, ℕ, Bool, true, false, ◌||◌, [], Option, None, Result, Ok, Err, if◌then◌else◌}
 use Rattle.dis_records.specs.declared.address.SiteApplication.{SiteApplication}
+use Rattle.exercise_model.specs.Recording.{PlainRecording}
 use Rattle.exercise_recording.specs.Writer.{WriterState}
 use Rattle.siman_stations.specs.declared.turn.Node.{Node}
 use Rattle.siman_lines.specs.declared.station_at_line.StationAtLine.{StationAtLine}
@@ -27,8 +28,8 @@ pub record IsAtLink {L : Type 0} (node : Node) (station : StationAtLine (Tracing
   pub dropped : station.dropped ≡ 0
 
 -- A POST IN ITS INITIAL STATE: printing has not failed, and its clock shows 0
-abbrev pub begun_post : {L : Type 0} → (exercise : ℕ) → SiteApplication → StationAtLine (TracingLine L) → WriterState → PostData L
-begun_post exercise address station w = record { station = station; recorder = w; exercise = exercise; fault = None; address = address; clock = 0 }
+abbrev pub begun_post : {L : Type 0} → (log : PlainRecording) → SiteApplication → StationAtLine (TracingLine L) → WriterState → PostData L
+begun_post log address station w = record { station = station; recorder = w; log = log; fault = None; address = address; clock = 0 }
 
 -- Results of lines.
 

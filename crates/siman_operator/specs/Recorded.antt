@@ -1,12 +1,12 @@
 -- A recorded session, from the start of the recording to its end (profile). Histories have THE LAST EVENT FIRST.
-use Rattle.std.specs.Prelude.{◌≡◌, ◌≤◌, ◌⊎◌, ℕ, List, ◌++◌, length, Option, Some, None, Ok, Err}
+use Rattle.std.specs.Prelude.{◌≡◌, ◌≤◌, ◌⊎◌, ℕ, List, ◌++◌, length, Option, Some, Ok, Err}
 use Rattle.std.specs.Io.KnownBytes.{Appends}
 use Rattle.byte_files.specs.Writing.{WritesPart}
 use Rattle.dis_records.specs.declared.address.SiteApplication.{SiteApplication}
 use Rattle.exercise_model.specs.declared.form.Form.TheVariants.{Open}
 use Rattle.exercise_model.specs.Entry.{Entry}
 use Rattle.exercise_model.specs.History.{past, log_at}
-use Rattle.exercise_model.specs.Recording.{PlainRecording, IsRecording}
+use Rattle.exercise_model.specs.Recording.{PlainRecording, IsRecording, opened}
 use Rattle.exercise_model.specs.Run.{Explains}
 use Rattle.exercise_model.specs.Setting.{SettingData}
 use Rattle.exercise_recording.specs.Text.{head_text, recording_text}
@@ -29,10 +29,11 @@ use Rattle.siman_operator.specs.Told.{WritesMore, closed_text}
 abbrev pub open_setting : PlainRecording → SettingData
 open_setting head = record { form = Open; exercise = head.setting.exercise; stations = head.setting.stations }
 
--- A STATION IN ITS INITIAL STATE: it is the only one of its recording, it has received nothing and made no order,
--- and its link has sent nothing
+-- A STATION IN ITS INITIAL STATE: it is the only one of its recording, no row was made of it, it has received nothing
+-- and made no order, and its link has sent nothing
 pub record IsReady {L : Type 0} (ready : ReadyStation L) : Type 0 where
   pub one : length ready.head.setting.stations ≡ 1
+  pub log : ready.log ≡ opened (open_setting ready.head)
   pub index : ready.station.index ≡ 0
   pub fresh : IsFresh 0 ready.station.node (open_setting ready.head) (Some (datagrams_sent ready.station.line))
 
@@ -54,7 +55,7 @@ abbrev pub Records : {L : Type 0} → (passed : L → PassedOver) → (known : O
     → SessionReport → Type 0
 Records passed known ready file file_after out out_after errors errors_after told =
     RecordsNone (open_setting ready.head) file file_after out out_after errors errors_after told
-    ⊎ ((w : WriterState) × Starts file (open_setting ready.head) w × RecordsBegun ready.stations.items passed known (begun_post ready.head.setting.exercise ready.address ready.station w) out out_after errors errors_after file_after told)
+    ⊎ ((w : WriterState) × Starts file (open_setting ready.head) w × RecordsBegun ready.stations.items passed known (begun_post ready.log ready.address ready.station w) out out_after errors errors_after file_after told)
 
 -- WHAT THE FILE HAS: the text of a recording of some entries and at most one more, or a prefix of it; with status 0
 -- the whole text with these entries. What the station recorded is explained: each prefix of the entries is a run in

@@ -4,7 +4,7 @@
 //! A post has the station, its recorder and its clock. It takes one line of text after the other
 //! ([`Post::take_line`]), in the forms of the moves of a script: the station does what the line asks
 //! for, and is then served until no datagram is waiting. Each entry is recorded before its datagram
-//! is sent, and its row is printed, as `show` has it. [`play`] reads a text line by line, passes each
+//! is sent, and its rows are printed then, as `log` has them but for what only later entries show. [`play`] reads a text line by line, passes each
 //! line to a post, reports every line that failed with its number, and at the end of the text ends
 //! the recording and prints the counts. [`record_session`] is all of it, from the start of the
 //! recording. The crate opens no file and no socket and reads no clock: the caller passes in the
@@ -36,6 +36,7 @@ mod scripted;
 mod session;
 mod session_notes;
 mod session_report;
+mod setting;
 mod tracing_line;
 mod turn_printing;
 mod turns;

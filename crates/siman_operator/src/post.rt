@@ -4,8 +4,9 @@ ghost use Rattle.std.specs.Prelude.{◌≡◌, Some};
 ghost use Rattle.siman_lines.specs.AtLines.{OrdersAt, RepeatsAt, TellsAt};
 ghost use Rattle.siman_lines.specs.KeptAtLine.{Keeps};
 ghost use Rattle.siman_operator.specs.Noting.{telling, datagrams_sent};
-ghost use Rattle.siman_operator.specs.Deeds.{data_of, printed, ServesOnce, IsAtSameTime, GoesOn};
+ghost use Rattle.siman_operator.specs.Deeds.{data_of, printed, ServesOnce, IsAtSameTime, PrintsCall, GoesOn};
 ghost use Rattle.siman_operator.specs.Posts.{begun_post};
+ghost use Rattle.siman_operator.specs.Printing.{printing_of};
 ghost use Rattle.siman_operator.specs.Closing.{session_text, PrintsEnd, Closes};
 
 use crate::closing::{SocketCounts, print_counts};
@@ -13,6 +14,7 @@ use crate::printing::{EntryPrinter, PrintFault};
 use crate::tracing_line::TracingLine;
 use crate::turn_printing::{TurnCounts, print_sent, print_turn};
 use dis_records::Address;
+use exercise_log::GrowingLog;
 use exercise_model::EntryView;
 use exercise_recording::RecordingWriter;
 use siman_lines::{
@@ -61,27 +63,27 @@ fn serve_counting<L: Line + Drop, W: Write>(
 }
 
 impl<'s, L: Line + Drop, W: Write> Post<'s, L, W> {
-    /// A post in its initial state: a station at its link, with its address in an exercise, and a
-    /// recorder. Its clock shows 0.
+    /// A post in its initial state: a station at its link, with its address in an exercise, a
+    /// recorder, and the log whose rows it prints. Its clock shows 0.
     pub fn begin(
         alloc: Global,
-        exercise: u8,
+        log: GrowingLog,
         address: Address,
         station: StationAtLine<TracingLine<L>>,
         recorder: RecordingWriter<'s, W>,
     ) -> Post<'s, L, W>
-        ensures { data_of result ≡ begun_post exercise address station recorder.entry }
+        ensures { data_of result ≡ begun_post log address station recorder.entry }
     {
         Post {
             station,
             recorder,
-            printer: EntryPrinter::new(alloc, exercise),
+            printer: EntryPrinter::new(alloc, log),
             address,
             clock: 0,
         }
     }
 
-    /// Records and sends a new order, as [`order_at`] does, and prints the row of its entry.
+    /// Records and sends a new order, as [`order_at`] does, and prints the rows of its entry.
     pub(crate) fn order<O: Write>(
         &mut self,
         alloc: Global,
@@ -90,6 +92,7 @@ impl<'s, L: Line + Drop, W: Write> Post<'s, L, W> {
     ) -> Result<(), AtLineFault>
         ensures ends { OrdersAt (telling L.passed) self.old.clock order self.old.station self.old.recorder self.new.station self.new.recorder result }
         ensures time { IsAtSameTime (data_of self.old) (data_of self.new) }
+        ensures prints { PrintsCall self.old.clock self.old.station self.old.recorder self.new.station self.new.recorder (printing_of self.old.printer (O.contents out.old)) (printing_of self.new.printer (O.contents out.new)) }
         ensures goes { GoesOn (printed (data_of self.old) (O.contents out.old)) (printed (data_of self.new) (O.contents out.new)) }
     {
         let Post {
@@ -116,6 +119,7 @@ impl<'s, L: Line + Drop, W: Write> Post<'s, L, W> {
     ) -> Result<(), AtLineFault>
         ensures ends { RepeatsAt (telling L.passed) self.old.clock self.old.station self.old.recorder self.new.station self.new.recorder result }
         ensures time { IsAtSameTime (data_of self.old) (data_of self.new) }
+        ensures prints { PrintsCall self.old.clock self.old.station self.old.recorder self.new.station self.new.recorder (printing_of self.old.printer (O.contents out.old)) (printing_of self.new.printer (O.contents out.new)) }
         ensures goes { GoesOn (printed (data_of self.old) (O.contents out.old)) (printed (data_of self.new) (O.contents out.new)) }
     {
         let Post {
@@ -147,7 +151,6 @@ impl<'s, L: Line + Drop, W: Write> Post<'s, L, W> {
             printer,
             ..
         } = self;
-        let entries = recorder.entry_count();
         if let Err(fault) = tell_at(station, recorder, entity) {
             return Err(fault);
         }
@@ -156,7 +159,7 @@ impl<'s, L: Line + Drop, W: Write> Post<'s, L, W> {
             entity,
             state: station.node.application.state(entity),
         };
-        printer.print(out, entries, told);
+        printer.print(out, told);
         Ok(())
     }
 

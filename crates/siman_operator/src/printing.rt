@@ -6,8 +6,9 @@ ghost use Rattle.byte_files.specs.Writing.{WritesPart};
 ghost use Rattle.exercise_model.specs.Held.{shown};
 
 use byte_files::put;
+use exercise_log::GrowingLog;
 use exercise_model::EntryView;
-use siman_print::{Spelling, put_entry};
+use siman_print::{Spelling, TextLine};
 use std::alloc::Global;
 use std::io::Write;
 
@@ -20,11 +21,14 @@ pub enum PrintFault {
     Memory,
 }
 
-/// Prints the row of each entry of an exercise, up to the first that it cannot print.
+/// Prints the rows of each entry of a recording, up to the first that it cannot print.
 #[derive(Drop)]
 pub(crate) struct EntryPrinter {
-    exercise: u8,
-    line: String,
+    alloc: Global,
+    /// Recording of the entries whose rows were made.
+    log: GrowingLog,
+    rows: String,
+    line: TextLine,
     fault: Option<PrintFault>,
 }
 
@@ -38,27 +42,29 @@ fn flush<O: Write>(out: &mut O) -> Option<PrintFault>
     }
 }
 
-/// Writes a row, and flushes the output.
-fn print_line<O: Write>(out: &mut O, line: &[u8]) -> Option<PrintFault>
-    ensures { MatchOption result (Appends (O.contents out.old) (O.contents out.new) line.now) (λ fault. WritesPart (O.contents out.old) (O.contents out.new) line.now) }
+/// Writes rows, and flushes the output.
+fn print_rows<O: Write>(out: &mut O, rows: &[u8]) -> Option<PrintFault>
+    ensures { MatchOption result (Appends (O.contents out.old) (O.contents out.new) rows.now) (λ fault. WritesPart (O.contents out.old) (O.contents out.new) rows.now) }
 {
-    match put(out, line) {
+    match put(out, rows) {
         Ok(()) => flush(out),
         Err(_) => Some(PrintFault::Write),
     }
 }
 
 impl EntryPrinter {
-    ghost use Rattle.siman_operator.specs.Printing.{Printing, line_of, PrintsLine};
+    ghost use Rattle.siman_operator.specs.Printing.{printing_of, PrintsEntry, PrintsText};
 
-    /// A printer for the entries of this exercise, which has printed none.
-    pub(crate) fn new(alloc: Global, exercise: u8) -> EntryPrinter
-        ensures exercise { result.exercise ≡ exercise }
+    /// A printer for the entries that follow those of a log.
+    pub(crate) fn new(alloc: Global, log: GrowingLog) -> EntryPrinter
+        ensures log { result.log ≡ log }
         ensures fault { result.fault ≡ None }
     {
         EntryPrinter {
-            exercise,
-            line: String::new(alloc),
+            alloc,
+            log,
+            rows: String::new(alloc),
+            line: TextLine::new(),
             fault: None,
         }
     }
@@ -70,49 +76,43 @@ impl EntryPrinter {
         self.fault
     }
 
-    /// Prints the row of an entry, given its number, from 0, and flushes the output. Prints nothing
-    /// if an earlier row was not printed whole.
-    pub(crate) fn print<O: Write>(&mut self, out: &mut O, number: u32, entry: EntryView<'_>)
-        ensures exercise { self.new.exercise ≡ self.old.exercise }
-        ensures printed { let old : Printing = record { out = O.contents out.old; fault = self.old.fault } in
-            let new : Printing = record { out = O.contents out.new; fault = self.new.fault } in
-            PrintsLine (line_of self.old.exercise number (shown entry.entry)) old new }
+    /// Prints the rows of the next entry, and flushes the output. Prints nothing if earlier rows
+    /// were not printed whole.
+    pub(crate) fn print<O: Write>(&mut self, out: &mut O, entry: EntryView<'_>)
+        ensures { PrintsEntry (shown entry.entry) (printing_of self.old (O.contents out.old)) (printing_of self.new (O.contents out.new)) }
     {
         if self.fault.is_some() {
             return;
         }
-        self.line.clear();
-        let exercise = self.exercise;
-        let made = put_entry(
+        self.rows.clear();
+        let made = self.log.put_next(
+            self.alloc,
+            &mut self.rows,
             &mut self.line,
             Spelling::Text,
-            exercise,
-            number as usize,
             entry,
         );
         self.fault = match made {
-            Ok(()) => print_line(out, self.line.as_bytes()),
+            Ok(()) => print_rows(out, self.rows.as_bytes()),
             Err(_) => Some(PrintFault::Memory),
         };
     }
 
-    /// Prints the text of notes, and flushes the output. Prints nothing if an earlier row was not
+    /// Prints the text of notes, and flushes the output. Prints nothing if earlier rows were not
     /// printed whole.
     pub(crate) fn print_notes<O: Write>(&mut self, out: &mut O, text: &str)
-        ensures exercise { self.new.exercise ≡ self.old.exercise }
-        ensures printed { let old : Printing = record { out = O.contents out.old; fault = self.old.fault } in
-            let new : Printing = record { out = O.contents out.new; fault = self.new.fault } in
-            PrintsLine text.now old new }
+        ensures log { self.new.log ≡ self.old.log }
+        ensures printed { PrintsText text.now (printing_of self.old (O.contents out.old)) (printing_of self.new (O.contents out.new)) }
     {
         if self.fault.is_some() {
             return;
         }
-        self.fault = print_line(out, text.as_bytes());
+        self.fault = print_rows(out, text.as_bytes());
     }
 
     /// Stops the printing, since an entry is unknown.
     pub(crate) fn stop_printing(&mut self)
-        ensures exercise { self.new.exercise ≡ self.old.exercise }
+        ensures log { self.new.log ≡ self.old.log }
         ensures fault { MatchOption self.old.fault (self.new.fault ≡ Some PrintFault.Memory) (λ fault. self.new.fault ≡ Some fault) }
     {
         if self.fault.is_none() {

@@ -2,7 +2,7 @@
 
 ghost use Rattle.std.specs.Prelude.{◌≡◌, ◌≤◌};
 ghost use Rattle.exercise_model.specs.declared.recording.TheConstants.{MOST_ENTRIES};
-ghost use Rattle.siman_operator.specs.Printing.{Printing};
+ghost use Rattle.siman_operator.specs.Printing.{printing_of};
 ghost use Rattle.siman_operator.specs.Deeds.{PrintsSent, PrintsTurn};
 
 use crate::printing::EntryPrinter;
@@ -24,10 +24,7 @@ pub(crate) fn print_sent<L: Line + Drop, W: Write, O: Write>(
     entries: u32,
     sent: u64,
 )
-    ensures exercise { printer.new.exercise ≡ printer.old.exercise }
-    ensures printed { let old : Printing = record { out = O.contents out.old; fault = printer.old.fault } in
-        let new : Printing = record { out = O.contents out.new; fault = printer.new.fault } in
-        PrintsSent station.now printer.old.exercise recorder.now.entries now entries sent old new }
+    ensures { PrintsSent station.now recorder.now.entries now entries sent (printing_of printer.old (O.contents out.old)) (printing_of printer.new (O.contents out.new)) }
 {
     if recorder.entry_count() == entries {
         return;
@@ -41,7 +38,7 @@ pub(crate) fn print_sent<L: Line + Drop, W: Write, O: Write>(
         stamp: now,
         bytes: station.line.last_sent(),
     };
-    printer.print(out, entries, entry);
+    printer.print(out, entry);
 }
 
 /// What a recording and a link had before a turn.
@@ -67,10 +64,7 @@ pub(crate) fn print_turn<L: Line + Drop, W: Write, O: Write>(
     before: TurnCounts,
 )
     requires { before.entries ≤ MOST_ENTRIES }
-    ensures exercise { printer.new.exercise ≡ printer.old.exercise }
-    ensures printed { let old : Printing = record { out = O.contents out.old; fault = printer.old.fault } in
-        let new : Printing = record { out = O.contents out.new; fault = printer.new.fault } in
-        PrintsTurn station.now printer.old.exercise recorder.now.entries now before.entries before.received before.sent old new }
+    ensures { PrintsTurn station.now recorder.now.entries now before.entries before.received before.sent (printing_of printer.old (O.contents out.old)) (printing_of printer.new (O.contents out.new)) }
 {
     let TurnCounts {
         entries,
@@ -89,6 +83,6 @@ pub(crate) fn print_turn<L: Line + Drop, W: Write, O: Write>(
         stamp: now,
         bytes: station.line.last_received(),
     };
-    printer.print(out, entries, entry);
+    printer.print(out, entry);
     print_sent(station, printer, recorder, out, now, entries + 1, sent);
 }

@@ -11,7 +11,7 @@ use Rattle.siman_exercise_commands.proofs.station.open_and_play.Goals as goal
 
 pub greet_and_create-requires-clause-ready : goal.greet_and_create-requires-clause-ready
 greet_and_create-requires-clause-ready g c =
-    let had = c.in-Ok-attach_station in stood_ready c.args.set_up had.ready c.requires.set_up had.ensures.head had.ensures.station
+    let had = c.in-Ok-attach_station in stood_ready c.args.set_up had.ready c.requires.set_up had.ensures.head had.ensures.log had.ensures.station
 
 pub returns-in-Ok-attach_station : goal.returns-in-Ok-attach_station
 returns-in-Ok-attach_station g c =
@@ -21,7 +21,7 @@ returns-in-Ok-attach_station g c =
       bound ∷ rest.0,
       adds_then _ _ _ (bound ∷ []) rest.0 (rw c.deref.ensures.value at c.in-Ok.ensures.done) rest.1,
       (λ holds. All-cons (WasHeld holds) bound rest.0 tt (rest.2 holds)),
-      (refl, refl, refl, inr (had.ready, had.ensures.head, had.ensures.station, had.ensures.address, had.ensures.stations, rest.3)),
+      (refl, refl, refl, inr (had.ready, had.ensures.head, had.ensures.log, had.ensures.station, had.ensures.address, had.ensures.stations, rest.3)),
     )
 
 pub returns-in-Err-attach_station : goal.returns-in-Err-attach_station

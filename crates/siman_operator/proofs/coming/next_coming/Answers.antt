@@ -1,6 +1,5 @@
 -- Until something comes, the line goes on.
-use Rattle.std.proofs.Common.{◌≡◌, ◌+◌, length, Option, Some, None, arith}
-use Rattle.siman_operator.specs.Coming.{GoesOnBy}
+use Rattle.std.proofs.Common.{arith}
 use Rattle.siman_operator.proofs.coming.next_coming.Goals as goal
 
 pub loop-init : goal.loop-init

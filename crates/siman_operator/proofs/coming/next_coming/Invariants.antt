@@ -1,5 +1,5 @@
 -- The line has begun so far.
-use Rattle.std.proofs.Common.{◌<◌, length, Option, None}
+use Rattle.std.proofs.Common.{◌<◌, length, None}
 use Rattle.siman_operator.specs.Coming.{GoesOnBy}
 use Rattle.siman_operator.proofs.coming.next_coming.Given as goal
 

@@ -1,5 +1,5 @@
 -- A byte is read, or there is none.
-use Rattle.std.proofs.Common.{◌≡◌, ◌≢◌, length, get_or, rules, refl, arith}
+use Rattle.std.proofs.Common.{◌≡◌, ◌≢◌, get_or, rules, refl, arith}
 use Rattle.byte_files.proofs.LineReadings.{so_far-same, one_byte, so_far-held, so_far-past, line-ended, line-last, no-line}
 use Rattle.siman_operator.proofs.Begun.{as_so_far, of_so_far}
 use Rattle.siman_operator.proofs.coming.read_on.Goals as goal

@@ -1,7 +1,7 @@
 -- One row is put.
 use Rattle.std.proofs.Common.{[], ◌∷◌, ◌++◌, refl, ap, sym, ◌∙◌, append-nil}
 use Rattle.std.specs.Prelude.{codes, string_bytes}
-use Rattle.siman_print.specs.Line.{Number, Keyed, Line, named_line}
+use Rattle.siman_print.specs.Line.{Number, Keyed, named_line}
 use Rattle.siman_operator.proofs.session_notes.put_lost.Goals as goal
 
 pub returns-in_ok-put_named-in-Some : goal.returns-in_ok-put_named-in-Some

@@ -1,6 +1,6 @@
-use Rattle.std.proofs.Common.{arith, refl, ◌∙◌}
+use Rattle.std.proofs.Common.{refl, ◌∙◌}
 use Rattle.siman_operator.proofs.Going.{goes_none, goes_then}
-use Rattle.siman_operator.proofs.Taking.{none_taken, one_taken, last_taken, all_taken}
+use Rattle.siman_operator.proofs.Taking.{none_taken, one_taken, last_taken}
 use Rattle.siman_operator.proofs.post.Post.take_turns.Goals as goal
 
 pub loop-init : goal.loop-init

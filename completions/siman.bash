@@ -78,7 +78,7 @@ _siman() {
         live:1) _siman_folders ;;
         station:0) _siman_files script ;;
         station:2) _siman_folders ;;
-        station:*) _siman_words 'from=any keep=all' ;;
+        station:*) _siman_words 'from=any keep=all clock=system' ;;
         convert:0) _siman_files dsrc ;;
         convert:1) _siman_folders ;;
         convert:*) _siman_words '--force' ;;

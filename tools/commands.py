@@ -1,6 +1,6 @@
 #!/usr/bin/env python3
-"""Compares the table of commands in the README with that of the program, `ROWS` in siman_outside, there each usage with
-the words of its row, and the made-up command lines of siman_trials with the commands.
+"""Compares the table of commands in the README with that of the program, `table.rt` of siman_outside, there each usage
+with the words of its row, and the made-up command lines of siman_trials with the commands.
 
 Each command of the program needs its row in the README, with the words that usage gives it, in the order of the help;
 and each row of the README that is a command by its name has to be one of the program. Each command has to be a word of
@@ -25,9 +25,15 @@ def in_readme(usage):
     return re.sub(r"<([A-Z]+)>", r"\1", words).replace("...", " ..")
 
 
+def table_of_program():
+    """What stands before the program's table, and each of its rows, of one constant and the next."""
+    before, _, behind = TABLE.read_text(encoding="utf-8").partition("const ROWS")
+    return before, re.findall(r"^    CommandRow \{$(.*?)^    \},$", behind, flags=re.M | re.S)
+
+
 def rows_of_program():
     """Each command of the program as the README has its usage: its name and its words."""
-    rows = TABLE.read_text(encoding="utf-8").partition("const ROWS")[2].partition("\n];")[0]
+    rows = "".join(table_of_program()[1])
     return [in_readme(usage) for usage in re.findall(r'^        usage: "([^"]+)",$', rows, flags=re.M)]
 
 
@@ -45,9 +51,9 @@ def words_of_usage(usage):
 
 def rows_that_differ():
     """Each row of which the usage names another command or other words than the row has: what it says, and what it has."""
-    before, _, behind = TABLE.read_text(encoding="utf-8").partition("const ROWS")
+    before, rows = table_of_program()
     shared = {name: word for name, *word in re.findall(rf"const (\w+): CommandWord = {WORD}", before)}
-    for row in re.split(r"^    CommandRow \{$", behind.partition("\n];")[0], flags=re.M)[1:]:
+    for row in rows:
         head, _, tail = row.partition("words:")
         name, usage = (re.search(rf'{key}: "([^"]+)"', head)[1] for key in ("name", "usage"))
         # Each word is written out there, or is the name of one that rows share.

@@ -7,8 +7,9 @@ The parts, all of them if none is named:
 
 - exercises: two and four processes, each with its own recording, and a proxy between them that loses, copies and swaps
   datagrams by a seed. In some seeds one process is killed and its file mended; in some a datagram is forged in the name of
-  a station. Each piece alone, read as open, and all joined, closed, are searched, checked and reviewed: a recording is
-  explained unless a station recorded what its sender never sent, and what is printed is what tools/pages computes of it.
+  a station; in some all go by the system's clock and repeat by themselves. Each piece alone, read as open, and all
+  joined, closed, are searched, checked and reviewed: a recording is explained unless a station recorded what its sender
+  never sent, and what is printed is what tools/pages computes of it.
 - peers: a station among peers that are not siman, whose datagrams are damaged, foreign, of another version, too long or
   in its own name. What it sends, records, prints and tells is what tools/pages computes, byte by byte; only where the notes
   of strangers stand is left open.
@@ -16,6 +17,10 @@ The parts, all of them if none is named:
 - waiting: what comes while nobody types, at a pipe and a terminal, is answered and printed within 50 ms; files and
   /dev/null; an idle station; 2,000 Entity States a second beside 50 orders; and more than the socket holds, which is
   counted, and noted, as the system counts it.
+- clock: a station by the system's clock (`clock=system`): its stamps and timestamps, orders that are sent again by
+  themselves within 50 ms of their time, while nobody types, in the middle of a line, beside traffic and after a
+  standstill, and given up at last; what is answered is not sent again; `at` is refused; idle stations. What it records,
+  prints and sends is what tools/pages computes of a clock that shows the stamps of its entries.
 - flood: 100,000 datagrams as fast as a peer can send them: what came is recorded and answered, or was thrown away by the
   system; what is passed over takes no memory, and what is recorded its bytes and some more.
 
@@ -32,11 +37,11 @@ from pathlib import Path
 
 sys.dont_write_bytecode = True
 
-from cases import exercises, floods, hostile_peer, waiting
+from cases import clocked, exercises, floods, hostile_peer, waiting
 from cases.examples import TOP
 from cases.trials import Trials, described
 
-PARTS = ("exercises", "peers", "calls", "waiting", "flood")
+PARTS = ("exercises", "peers", "calls", "waiting", "clock", "flood")
 
 
 def arguments():
@@ -60,7 +65,7 @@ def add_tasks(trials, given):
     if "exercises" in parts:
         for seed in seeds:
             for count in (2, 4):
-                how = {"kills": seed % 3 == 1, "forges": seed % 5 == 2}
+                how = {"kills": seed % 3 == 1, "forges": seed % 5 == 2, "by_system": seed % 4 == 3}
                 trials.tasks.append(lambda count=count, seed=seed, how=how: exercises.try_exercise(trials, count, seed, **how))
     if "peers" in parts:
         trials.tasks += [lambda seed=seed: hostile_peer.try_seed(trials, seed) for seed in seeds]
@@ -90,6 +95,7 @@ def main():
         tried, wrong = told(trials)
         # With nothing else at work, so that their figures say something.
         alone = list(waiting.TRIES) if "waiting" in (given.parts or PARTS) else []
+        alone += clocked.TRIES if "clock" in (given.parts or PARTS) else []
         alone += [floods.try_orders, floods.try_foreign] if "flood" in (given.parts or PARTS) else []
         for one in alone:
             trials.tasks = [lambda one=one: one(trials)]

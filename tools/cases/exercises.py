@@ -41,10 +41,11 @@ def move_of(chances, station, others):
 
 
 class Exercise:
-    """The processes of so many stations, by a seed, until all have ended."""
+    """The processes of so many stations, by a seed, until all have ended. Lines set their clocks, or these are the
+    system's."""
 
-    def __init__(self, program, folder, count, seed):
-        self.program, self.folder, self.count = program, folder, count
+    def __init__(self, program, folder, count, seed, by_system):
+        self.program, self.folder, self.count, self.by_system = program, folder, count, by_system
         self.name, self.chances = f"{count}.{seed}", random.Random(f"{count} {seed}")
         self.stations = ADDRESSES[:count]
         (folder / f"{self.name}.script").write_bytes(setup(count))
@@ -57,6 +58,7 @@ class Exercise:
             own = free_address()
             self.proxy.stations[number] = own
             words = (f"{self.name}.script", station, f"{self.name}.{number}.dsrc", own, [self.proxy.address(number)])
+            words += ("clock=system",) * self.by_system
             self.players.append(Player(self.program, self.folder, *words))
         self.proxy.start()
         return all(player.is_up() for player in self.players)
@@ -75,7 +77,8 @@ class Exercise:
                 self.forge(which)
             if which != self.killed:
                 station, others = self.stations[which], [it for it in self.stations if it != self.stations[which]]
-                self.players[which].say(f"at {number}".encode(), move_of(self.chances, station, others).encode())
+                clock = [] if self.by_system else [f"at {number}".encode()]
+                self.players[which].say(*clock, move_of(self.chances, station, others).encode())
                 # What it sends is answered by the others before the next line, or behind it.
                 time.sleep(PACE)
                 if self.chances.random() < 0.6:
@@ -160,9 +163,9 @@ class Exercise:
             yield Verdict(f"a station of {self.name} ends", (True,), bool(is_right))
 
 
-def try_exercise(trials, count, seed, kills=False, forges=False):
+def try_exercise(trials, count, seed, kills=False, forges=False, by_system=False):
     """An exercise by a seed: all pieces alone, read as open, and joined, closed."""
-    exercise = Exercise(trials.program, trials.folder, count, seed)
+    exercise = Exercise(trials.program, trials.folder, count, seed, by_system)
     if not exercise.begin():
         exercise.end()
         return [Verdict(f"the stations of {exercise.name} are up", ([],), exercise.outcomes)]

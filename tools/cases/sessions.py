@@ -4,9 +4,9 @@
 
 FILE is ../crates/siman_cases/data/stations.cases if none is given. Of each case in which a session begins, what it prints,
 what is on its link and in its file, its status and the first lines of its faults are compared; `--write` writes the first
-three anew. What fails there is given as the case has it: a call of the link by its number; a byte of what is printed by
-`calls 1 N other` or `nothing`, where the N-th is not; of the file by the bytes that are left. The last line is `N tried, M
-wrong`, with status 1 where something is wrong.
+three anew. What the waits for its input find is said by `pause` and `time N` in it. What fails there is given as the case
+has it: a call of the link by its number; a byte of what is printed by `calls 1 N other` or `nothing`, where the N-th is
+not; of the file by the bytes that are left. The last line is `N tried, M wrong`, with status 1 where something is wrong.
 """
 import sys
 from pathlib import Path
@@ -15,6 +15,7 @@ from cases.trials import without_reasons
 from pages import LONGEST_DATAGRAM, Post, greeting
 
 STATIONS = Path(__file__).resolve().parents[2] / "crates" / "siman_cases" / "data" / "stations.cases"
+WORDS_BEHIND_PEERS = ("from=any", "keep=all", "clock=system")
 FILLED = ("word", "file", "input", "comes", "out", "errors", "reason", "behind", "left", "discarded", "sent")
 FILLING = ("text", "piece", "times", "each", "hex")
 MOST_RECEIVES = 65_536
@@ -27,8 +28,8 @@ class Unrecorded(Exception):
 class Session(Post):
     """A station at a link in memory, with what comes there: None where a receive finds nothing."""
 
-    def __init__(self, script, address, coming, fails_at=None, most_out=None, most_left=None):
-        super().__init__(script, address, lost="-", buffer="-")
+    def __init__(self, script, address, coming, by_system=False, fails_at=None, most_out=None, most_left=None):
+        super().__init__(script, address, lost="-", buffer="-", by_system=by_system)
         self.coming, self.fails_at, self.most_out, self.most_left = list(coming), fails_at, most_out, most_left
         self.calls, self.has_failed, self.is_mute, self.is_spent, self.torn = 0, False, False, False, None
 
@@ -71,6 +72,10 @@ class Session(Post):
             self.hear(datagram[: LONGEST_DATAGRAM + 1], keeps=True)
         self.told_of_line()
 
+    def end_thing(self):
+        super().end_thing()
+        self.try_to_print()
+
     def try_to_print(self):
         """That what is printed so far cannot be printed whole is told once."""
         if self.most_out is not None and not self.is_mute and len(self.lines()) > self.most_out:
@@ -81,10 +86,10 @@ class Session(Post):
         self.told.append("output: write\n")
         self.status = 2
 
-    def play(self, text, pauses, is_cut):
-        """All lines of a text, with what comes behind so many of its bytes. Where it is cut the rest cannot be read."""
+    def play(self, text, waits, is_cut):
+        """All lines of a text, with what a wait finds behind so many of its bytes. Where it is cut the rest cannot be read."""
         try:
-            self.play_lines(text, list(pauses))
+            self.play_lines(text, waits)
         except Unrecorded:
             self.is_spent = True
             self.tell_unwritten()
@@ -93,25 +98,28 @@ class Session(Post):
             self.told.append("file: -\n")
             self.status = 2
 
-    def play_lines(self, text, pauses):
+    def play_lines(self, text, waits):
+        """Before each byte, and before the end, there is a wait."""
         held, given = b"", 0
         while not self.is_over:
-            if pauses and pauses[0] <= given:
-                del pauses[0]
-                self.serve()
-            elif given == len(text):
-                if not held:
-                    return
+            time, has_datagrams = waits.time(given), waits.finds_datagrams(given)
+            byte = b"" if has_datagrams else text[given : given + 1]
+            given += len(byte)
+            if has_datagrams or byte not in (b"", b"\n"):
+                held += byte
+                if has_datagrams or self.is_due_at(time):
+                    self.show(time)
+                    self.wake()
+            elif byte or held:
+                self.show(time)
                 self.take(held)
                 held = b""
             else:
-                given += 1
-                if text[given - 1 : given] != b"\n":
-                    held += text[given - 1 : given]
-                    continue
-                self.take(held)
-                held = b""
-            self.try_to_print()
+                return
+
+    def is_due_at(self, time):
+        """Whether the system's clock shows that an order is due, so that a wait ends."""
+        return self.by_system and any(order.is_due(time, self.station) for order in self.station.orders)
 
     def all_printed(self):
         """What is printed at the end, with the last line, if all was printed before and the recording has its end."""
@@ -133,6 +141,21 @@ class Session(Post):
         text = self.text()
         before = len(text) - len(b"\0" + bytes(4)) - sum(map(len, self.entries))
         return [text[:before], *self.entries, text[-5:] if self.torn is None else self.torn]
+
+
+class Waits:
+    """What the waits for a text find: behind so many of its bytes datagrams, and what the system's clock shows."""
+
+    def __init__(self):
+        self.pauses, self.times = [], []
+
+    def finds_datagrams(self, given):
+        """Whether a wait behind so many bytes finds datagrams, once for each pause there."""
+        return bool(self.pauses) and self.pauses[0] <= given and self.pauses.pop(0) is not None
+
+    def time(self, given):
+        """What the clock shows behind so many bytes: the last time of those so far, and 0 before the first."""
+        return next((time for place, time in reversed(self.times) if place <= given), 0)
 
 
 def filled(lines):
@@ -184,24 +207,26 @@ class Case:
     def __init__(self, lines, files):
         self.lines, self.files = lines, files
         self.words, self.coming, self.waits = [], [], 0
-        self.input, self.pauses, self.input_calls = b"", [], None
+        self.input, self.waits_of_input, self.input_calls = b"", Waits(), None
         self.parts, self.said, self.shut = {}, {}, set()
         part = None
         for word, rest, filling in blocks_of(lines):
             text, calls = filled(filling)
-            if word == "pause":
-                self.pause(part, text, calls)
-                continue
-            part = word if word in FILLED else part
-            self.take(word, rest, text, calls)
+            if word == "pause" and part != "input":
+                self.waits += 1
+            elif word in ("pause", "time"):
+                self.wait_in_input(word, rest, text, calls)
+            else:
+                part = word if word in FILLED else part
+                self.take(word, rest, text, calls)
 
-    def pause(self, part, text, calls):
-        """Datagrams come behind so much of the input, or one receive finds nothing."""
-        if part == "input":
-            self.pauses.append(len(self.input))
-            self.input, self.input_calls = self.input + text, calls or self.input_calls
+    def wait_in_input(self, word, rest, text, calls):
+        """Behind so much of the input datagrams come, or the clock shows a time."""
+        if word == "pause":
+            self.waits_of_input.pauses.append(len(self.input))
         else:
-            self.waits += 1
+            self.waits_of_input.times.append((len(self.input), int(rest)))
+        self.input, self.input_calls = self.input + text, calls or self.input_calls
 
     def take(self, word, rest, text, calls):
         if word == "words":
@@ -240,7 +265,17 @@ class Case:
         most_out = int(out_calls[1]) - 1 if out_calls else None
         most_left = len(left) if left_calls and left_calls[2] == "other" else None
         fails_at = int(self.said["line-fails"]) if "line-fails" in self.said else None
-        return Session(self.files[self.words[1]], address, self.coming, fails_at, most_out, most_left)
+        by_system = "clock=system" in self.words_behind_peers()
+        return Session(self.files[self.words[1]], address, self.coming, by_system, fails_at, most_out, most_left)
+
+    def words_behind_peers(self):
+        """The words behind the last peer, each at most once."""
+        behind = []
+        for word in reversed(self.words[6:]):
+            if word not in WORDS_BEHIND_PEERS or word in behind:
+                break
+            behind.append(word)
+        return behind
 
     def status(self):
         return int(self.said.get("status", 0))
@@ -256,7 +291,7 @@ class Case:
         if post.most_left is not None and post.most_left < len(post.left()[0]):
             return greets, [], [self.part("left")[0]], b"output: write\n", 2
         is_cut = self.input_calls is not None and self.input_calls[2] == "other"
-        post.play(self.input[: int(self.input_calls[1]) - 1] if is_cut else self.input, self.pauses, is_cut)
+        post.play(self.input[: int(self.input_calls[1]) - 1] if is_cut else self.input, self.waits_of_input, is_cut)
         out = post.all_printed()
         left = post.left()
         if post.most_left is not None:

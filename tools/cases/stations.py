@@ -1,5 +1,6 @@
 """`station` from outside: its words and faults, its streams, its socket, what it hears, memory that is refused to it, and
 calls of the system that fail."""
+import itertools
 import os
 import re
 import socket
@@ -26,6 +27,9 @@ fixed 2:3 30 5
 action 2:3 40
 tick 1:1
 """
+# By the system's clock its orders are due at once.
+HASTY = SETUP.replace(b"station 2:3\n", b"station 2:3 first=1 tries=3 wait=0\n")
+BEHIND_PEERS = ("from=any", "keep=all", "clock=system")
 OWN, MANAGER = (2, 3), (1, 1, 0)
 GREETING = greeting(OWN).encode()
 COUNTS = b"station records=0 dropped=0 strangers=0 other=0 lost=0 buffer=N\n"
@@ -53,8 +57,8 @@ def orders():
 class Station:
     """A process of the station 2:3 with one peer, which is here."""
 
-    def __init__(self, trials, name, *more, peer=None, own=None, **how):
-        (trials.folder / f"{name}.script").write_bytes(SETUP)
+    def __init__(self, trials, name, *more, peer=None, own=None, setup=SETUP, **how):
+        (trials.folder / f"{name}.script").write_bytes(setup)
         self.peer, self.own = peer or bound(), own or free_address()
         words = (f"{name}.script", OWN, f"{name}.dsrc", self.own, [self.peer.getsockname()], *more)
         self.player = Player(trials.program, trials.folder, *words, **how)
@@ -96,13 +100,18 @@ def try_words(trials):
         (["none", "2:4", stands, "127.0.0.1", "y"], "station: address 127.0.0.1"),
         (["none", "2:4", stands, busy, there, "127.0.0.256:1", "z"], "station: address 127.0.0.256:1"),
         (["none", "2:4", stands, busy, "from=any", there], "station: address from=any"),
+        (["none", "2:4", stands, busy, "clock=system", there], "station: address clock=system"),
+        (["none", "2:4", stands, busy, there, "clock=lines"], "station: address clock=lines"),
         (["none", "2:4", stands, busy, there, "keep=all", "keep=all"], "station: address keep=all"),
+        (["none", "2:4", stands, busy, there, "clock=system", "from=any", "clock=system"], "station: address clock=system"),
+        (["none", "2:4", stands, busy, there, "clock=sytem"], "station: address clock=sytem"),
         (["none", "2:4", stands, busy, there], "file: none: no such file"),
         ([trials.file(b"exercise 1\n"), "2:4", stands, busy, there], "script: bad-line at line 2"),
         (["examples", "2:4", stands, busy, there], "file: examples: is a directory"),
         ([many, "2:4", stands, busy, there], "station: not-in-setup"),
         ([many, "2:3", stands, busy, there], "world: stations"),
         ([setup, "2:3", stands, busy, there], "output: exists"),
+        ([setup, "2:3", stands, busy, there, "keep=all", "clock=system", "from=any"], "output: exists"),
         ([setup, "2:3", setup, busy, there], "output: exists"),
         ([setup, "2:3", "none/there.dsrc", busy, there], "live: line"),
         ([setup, "2:3", "none/there.dsrc", "192.0.2.1:3000", there], "live: line"),
@@ -110,8 +119,12 @@ def try_words(trials):
         trials.expect(["station", *words], pages.fault(fault), given=b"tell 2:3 7\n")
     greeted = pages.fault("output: write")._replace(out=GREETING)
     trials.expect(["station", setup, "2:3", "none/there.dsrc", here, there], greeted, given=b"tell 2:3 7\n")
-    for words in ([], [setup], [setup, "2:3", "new", here], [setup, "2:3", "new", here, "from=any"], [setup, "2:3", "new", here, there, "-x"]):
+    begun = [setup, "2:3", "new", here]
+    for words in ([], [setup], begun, [*begun, "from=any"], [*begun, "clock=system"], [*begun, *BEHIND_PEERS], [*begun, there, "-x"]):
         trials.expect(["station", *words], Outcome(2, b"", Some()))
+    for behind in itertools.permutations(BEHIND_PEERS):
+        words = [setup, "2:3", "/dev/null", word_of(free_address()), there, *behind]
+        trials.expect(["station", *words], Outcome(0, GREETING + COUNTS, b""))
     trials.expect(["station", setup, "2:3", "/dev/null", here, there], Outcome(0, GREETING + COUNTS, b""))
     trials.expect(["station", setup, "2:3", "/dev/full", there, here], greeted)
 
@@ -260,22 +273,51 @@ def try_memory(trials):
         return
     for alone in (True, False):
         trials.tasks.append(lambda alone=alone: refused(trials, library, alone))
+        trials.tasks.append(lambda alone=alone: refused_as_it_ticks(trials, library, alone))
+
+
+def begun_with_refusals(trials, library, name, first, last, *more, **how):
+    """A station to which these allocations are refused, and where it is marked that one was."""
+    reader, writer = os.pipe()
+    refuse = {"REFUSE_FIRST": str(first), "REFUSE_LAST": str(last), "REFUSE_MARK": str(writer)}
+    environment = {**os.environ, "LD_PRELOAD": str(library), **refuse}
+    station = Station(trials, name, *more, env=environment, pass_fds=[writer], **how)
+    os.close(writer)
+    return station, reader
+
+
+def was_marked(reader):
+    """Whether an allocation was refused, once the station has ended."""
+    is_refused = os.read(reader, 1) != b""
+    os.close(reader)
+    return is_refused
+
+
+def refused_as_it_ticks(trials, library, alone):
+    """By the system's clock an order is due at once: also where memory is refused to its repeats it ends with its lines."""
+    verdicts = []
+    for first in range(1, 2000):
+        last = first if alone else LATER
+        station, reader = begun_with_refusals(trials, library, f"ticks.{alone}.{first}", first, last, "clock=system", setup=HASTY)
+        station.player.say(b"create 2:3 1:1:4", b"status")
+        (outcome, left), sent = station.ends(), station.sent()
+        is_refused = was_marked(reader)
+        is_usual = (outcome.status, outcome.errors, len(sent)) == (0, b"", 3)
+        is_right = is_usual or is_refused and is_as_refused(outcome, left, sent)
+        verdicts.append(Verdict(f"station that ticks, allocation {first}{'' if alone else ' and all later'} refused", (True,), is_right))
+        if not is_refused or not is_right:
+            return verdicts
+    return [*verdicts, Verdict("the allocations of a station that ticks", ("fewer than 2000",), "more")]
 
 
 def refused(trials, library, alone):
     verdicts, usual = [], usual_end()
     for first in range(1, 2000):
-        last, name = first if alone else LATER, f"refused.{alone}.{first}"
-        reader, writer = os.pipe()
-        refuse = {"REFUSE_FIRST": str(first), "REFUSE_LAST": str(last), "REFUSE_MARK": str(writer)}
-        environment = {**os.environ, "LD_PRELOAD": str(library), **refuse}
-        station = Station(trials, name, env=environment, pass_fds=[writer])
-        os.close(writer)
+        station, reader = begun_with_refusals(trials, library, f"refused.{alone}.{first}", first, first if alone else LATER)
         station.hears(*orders())
         station.player.say(*LINES)
         outcome, left = station.ends()
-        is_refused = os.read(reader, 1) != b""
-        os.close(reader)
+        is_refused = was_marked(reader)
         # Some refusals it gets over.
         # What is lost is not known where the system's list of sockets cannot be read, as here for want of memory.
         known = outcome._replace(out=re.sub(rb" lost=-(?=[ \n])", b" lost=0", outcome.out))

@@ -173,7 +173,7 @@ def words(files):
         ("import a 1:1 h c new --torn", "import <SETUP> <ADDRESS> <HOST> <CAPTURE> <NEW> [WORD]... [--force]"),
         ("plan torn --torn", "plan <SOURCE> [SCRIPT] [--json] [--force]"), ("world torn new --torn", "world <SCRIPT> <REC> [--force]"),
         ("live torn new --torn", "live <SCRIPT> <REC>"), ("pdu 00 --torn", "pdu <HEX>"), ("pdus --torn", "pdus"),
-        ("station a 1:1 r b p --torn", "station <SETUP> <ADDRESS> <REC> <BIND> <PEER>... [from=any] [keep=all]"),
+        ("station a 1:1 r b p --torn", "station <SETUP> <ADDRESS> <REC> <BIND> <PEER>... [from=any] [keep=all] [clock=system]"),
     ):  # fmt: skip
         none = usage_fault("error: unexpected argument '--torn' found", f"siman {usage}")
         yield from ["", f"case not-taken-{said.replace(' ', '-')}", f"words {said}", *none]

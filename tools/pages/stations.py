@@ -7,11 +7,13 @@ from .logs import GrowingStory, lines_of, log_text
 from .scripts import Refused, read_line
 from .worlds import ORDERS, Stopped, World
 
-__all__ = ["HELP", "LONGEST_LINE", "MOST_STRANGERS_NOTED", "Post", "greeting"]
+__all__ = ["HELP", "LONGEST_LINE", "MOST_STRANGERS_NOTED", "Post", "absolute_timestamp", "greeting"]
 
 LONGEST_LINE = 65_536
 MOST_STRANGERS_NOTED = 64
 EVERY = 65535  # every site, or every application of one
+SHORT_WAIT = 1_000  # milliseconds that `station S:A` waits by the system's clock
+HOUR, LATEST = 3_600_000_000, (1 << 64) - 1  # microseconds
 HELP = """\
 # create OWN TO, remove OWN TO, start OWN TO, stop OWN TO: an order; OWN is this station, S:A, and TO an entity, S:A:E
 # do OWN TO ACTION, query OWN TO ID .., set OWN TO ID VALUE: orders an action, asks for data, sets a datum
@@ -26,34 +28,60 @@ def greeting(address, buffer="N"):
     return f"# station {identifier_text(address)} buffer={buffer}\n# {ENDS}\n"
 
 
+def absolute_timestamp(time):
+    """The timestamp of so many microseconds since 1970: the time past the hour, absolute."""
+    return 2 * ((time % HOUR << 31) // HOUR) + 1
+
+
+def system_wait(words):
+    """The microseconds that a line `station` says, by its words behind the address."""
+    return min(1_000 * (words[-1][0] if words else SHORT_WAIT), LATEST)
+
+
 def rows_of(story, index):
     return "".join(log_text(line) + "\n" for line in lines_of(story, index))
 
 
 class Post(World):
     """One station of a script, and what came of the lines and datagrams so far. It has what the script says of the
-    station, and none of its moves. What the system says of its socket is `lost` and `buffer`."""
+    station, and none of its moves. What the system says of its socket is `lost` and `buffer`. Its clock is set by lines,
+    or it is the system's: then `show` says what that shows before a line is taken."""
 
-    def __init__(self, script, address, lost="0", buffer="N"):
+    def __init__(self, script, address, lost="0", buffer="N", by_system=False):
         super().__init__()
-        self.known = set()
+        self.known, self.by_system = set(), by_system
+        self.address, self.lost, self.buffer = address, lost, buffer
         for line in script.decode("ascii").split("\n"):
             if line and not line.startswith("#"):
-                name, part, words = read_line(line)
-                if name == "station":
-                    self.known.add(words[0])
-                if name == "exercise" or part in (2, 3) and words[0] == address:
-                    self.take_line(line)
-        self.address, self.lost, self.buffer = address, lost, buffer
+                self.take_setup(line)
         self.told, self.number, self.status, self.is_over = [], 0, 0, False
         self.dropped = self.strangers = self.others = 0
         self.met, self.news = [], []  # strangers that were met, and those of them that are to be noted
         # What was printed behind the greeting, in its order: the number of an entry, or the text of notes.
         self.printed = []
 
+    def take_setup(self, line):
+        """A line of the script."""
+        name, part, words = read_line(line)
+        if name == "station":
+            self.known.add(words[0])
+        if name == "exercise" or part in (2, 3) and words[0] == self.address:
+            self.take_line(line)
+            if name == "station" and self.by_system:
+                self.station.wait = system_wait(words[1:])
+
     @property
     def station(self):
         return self.stations[self.address]
+
+    def timestamp(self):
+        return absolute_timestamp(self.now) if self.by_system else super().timestamp()
+
+    def show(self, time):
+        """The system's clock shows a time, in microseconds since 1970, before the next thing is taken. Where it goes back
+        the station's stands still."""
+        if self.by_system:
+            self.now = max(self.now, time)
 
     def refuse(self, why):
         """Something is told of the line that was taken last."""
@@ -78,6 +106,24 @@ class Post(World):
             self.note(HELP)
         if line == b"status":
             self.note_status()
+        self.end_thing()
+        self.tick_by_itself()
+
+    def wake(self):
+        """Between lines it takes what has arrived, and sends again what is due."""
+        self.serve()
+        self.end_thing()
+        self.tick_by_itself()
+
+    def tick_by_itself(self):
+        """By the system's clock it ticks as long as an order is due."""
+        while self.by_system and self.due():
+            self.note_tick(*self.tick(self.address))
+            self.serve()
+            self.end_thing()
+
+    def end_thing(self):
+        """What ends each line, each tick by itself, and what came between lines."""
         self.note_strangers()
 
     def serve(self):
@@ -86,6 +132,8 @@ class Post(World):
     def obey(self, name, part, words):
         if part != 4 or name == "deliver":
             raise Refused("bad-line")
+        if name == "at" and self.by_system:
+            raise Refused("system-clock")
         if name == "at":
             self.set_clock(words[0][0])
         elif words[0] != self.address:
@@ -99,7 +147,7 @@ class Post(World):
             self.warn(*words[1][:2])
 
     def set_clock(self, now):
-        """The clock shows a time; each order that is due by it, and was not before, is noted."""
+        """By a line the clock shows a time; each order that is due by it, and was not before, is noted."""
         before, self.now = self.due(), now
         for order in self.due():
             if order not in before:

@@ -130,9 +130,12 @@ class World:
         index = sorted(self.stations).index(address)
         self.enter(struct.pack(">BHQH", kind, index, self.now, len(datagram)) + datagram)
 
+    def timestamp(self):
+        """The timestamp of a PDU that is sent now: relative."""
+        return 2 * (self.now % (1 << 31))
+
     def send(self, address, kind, entity, target, body, version=7):
-        stamp = 2 * (self.now % (1 << 31))
-        head = struct.pack(">BBBBIHBB", version, self.exercise, kind, 5, stamp, 24 + len(body), 0, 0)
+        head = struct.pack(">BBBBIHBB", version, self.exercise, kind, 5, self.timestamp(), 24 + len(body), 0, 0)
         datagram = head + struct.pack(">6H", *address, entity, *target) + body
         self.record(SENT, address, datagram)
         self.sent.append(datagram)

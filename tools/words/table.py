@@ -106,10 +106,8 @@ def words_of(row, shared):
 
 def rows():
     """The commands of the table, in its order, without what the README says that they answer."""
-    text = commands.TABLE.read_text(encoding="utf-8")
-    before, _, behind = text.partition("const ROWS")
+    before, found = commands.table_of_program()
     shared = {name: word_of(*parts) for name, *parts in re.findall(rf"const (\w+): CommandWord = {WORD};", before)}
-    found = re.split(r"^    CommandRow \{$", behind.partition("\n];")[0], flags=re.M)[1:]
     usages = [usage.replace(r"\|", "|") for usage in commands.rows_of_program()]
     for row, usage in zip(found, usages, strict=True):
         head, _, tail = row.partition("words:")

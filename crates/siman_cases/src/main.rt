@@ -19,7 +19,8 @@
 //! - `shut NAME`, `folder NAME`, `odd NAME`, `full NAME`: a file that can't be opened or made: no
 //!   permission, a directory, a file in place of a directory in its path, no memory
 //! - `input`: standard input, which is filled; a `pause` in it: datagrams come to the station before
-//!   its next bytes do
+//!   its next bytes do; a `time N` in it: the clock of the system shows N microseconds since 1970
+//!   behind the bytes so far, and 0 before the first one
 //! - `comes`: one more datagram that arrives on the link of a station, which is filled
 //! - `pause`: before the next datagram one receive finds nothing
 //! - `line-fails N`: the N-th call of links fails, from 1; 0: no link can be made

@@ -13,7 +13,7 @@ use crate::shelf::{Shelf, filled};
 use plain_check::compare_case;
 use siman_console::{Ended, run};
 use siman_trials::{
-    Calls, Case, Stream, WELL, Written, begin_case, compare, read_with_pauses, sent_text,
+    Calls, Case, Stream, WELL, Written, begin_case, compare, read_with_waits, sent_text,
     try_at_line, write_to,
 };
 use std::alloc::Global;
@@ -67,7 +67,12 @@ pub(crate) fn run_case(
     let mut shelf = filled(alloc, case, makes, line_fails);
     let mut out = write_to(alloc, case.out.calls);
     let mut errors = write_to(alloc, case.errors.calls);
-    let input = read_with_pauses(&case.input.bytes, case.input.calls, &case.input_pauses);
+    let input = read_with_waits(
+        &case.input.bytes,
+        case.input.calls,
+        &case.input_pauses,
+        &case.input_times,
+    );
     let words = words(alloc, case);
     let mut reasons = write_to(alloc, WELL);
     let ended = run(

@@ -1,5 +1,5 @@
 -- What was fetched of a script: what is made of it depends on no more.
-use Rattle.std.proofs.Common.{◌≡◌, ℕ, ◌+◌, ◌<◌, List, [], Bool, true, Option, Some, None, Result, Err, nat_lt, length, IfSome, if◌then◌else◌, arith, refl, sym, ap, subst, ◌∙◌, inl, inr, take_all}
+use Rattle.std.proofs.Common.{◌≡◌, ℕ, ◌+◌, ◌<◌, ◌≤◌, List, [], Bool, true, Option, Some, None, Result, Err, nat_lt, length, IfSome, if◌then◌else◌, arith, refl, sym, ap, subst, ◌∙◌, inl, inr, take_all}
 use Rattle.std.proofs.lemmas.Bool.{cases_lt}
 use Rattle.std.proofs.lemmas.Bool.Decides.{nat_tests}
 use Rattle.std.proofs.lemmas.List.{length-take-le}
@@ -51,6 +51,14 @@ pub of_text : (P : TextRead → Type 0) (known : Option (List ℕ)) (text : List
     → IfSome known (λ bytes. text ≡ fetched LARGEST_SCRIPT bytes) → P (text_read text) → Said (λ bytes. P (text_read bytes)) known
 of_text P None text whole said = (text, tt, said)
 of_text P (Some bytes) text whole said = (bytes, refl, subst P (ap text_read whole ∙ text_read-fetched bytes) said)
+
+-- what was read, with the piece that was fetched
+pub of_piece : (P : TextRead → List ℕ → Type 0) (known : Option (List ℕ)) (text : List ℕ) → IfSome known (λ bytes. text ≡ fetched LARGEST_SCRIPT bytes)
+    → length text ≤ LARGEST_SCRIPT + 1 → P (text_read text) text → Said (λ bytes. P (text_read bytes) (fetched LARGEST_SCRIPT bytes)) known
+of_piece P None text whole few said =
+    (text, tt, subst (P (text_read text)) (sym (take_all (LARGEST_SCRIPT + 1) text few)) said)
+of_piece P (Some bytes) text whole few said =
+    (bytes, refl, subst (λ (t : TextRead). P t (fetched LARGEST_SCRIPT bytes)) (ap text_read whole ∙ text_read-fetched bytes) (subst (P (text_read text)) whole said))
 
 pub of_script : (P : Scripted → Type 0) (known : Option (List ℕ)) (text : List ℕ)
     → IfSome known (λ bytes. text ≡ fetched LARGEST_SCRIPT bytes) → P (text_read text).scripted → Said (λ bytes. P (text_read bytes).scripted) known

@@ -1,15 +1,20 @@
 -- What `station` does with a script and its words, and how it ends (profile).
 use Rattle.siman_lines.specs.declared.line.PassedOver.{PassedOver}
-use Rattle.std.specs.Prelude.{◌≡◌, ◌⊎◌, ⊤, ℕ, ◌+◌, true, false, List, [], ◌∷◌, ◌++◌, length, map, codes, is_some, Option, Some, None, Result, Ok, Err, Vec, if◌then◌else◌}
+use Rattle.std.specs.Prelude.{◌≡◌, ◌⊎◌, ⊤, ℕ, ◌+◌, Bool, true, false, List, [], ◌∷◌, ◌++◌, length, map, codes, is_some, Option, Some, None, Result, Ok, Err, Vec, if◌then◌else◌}
 use Rattle.std.specs.declared.alloc.Global.{Global}
 use Rattle.std.specs.Io.KnownBytes.{Keeps}
 use Rattle.dis_records.specs.declared.address.SiteApplication.{SiteApplication}
 use Rattle.siman_scripts.specs.declared.script_fault.ScriptFault.TheVariants as scripts
+use Rattle.byte_files.specs.Fetching.{fetched}
+use Rattle.siman_scripts.specs.declared.script.TheConstants.{LARGEST_SCRIPT}
 use Rattle.siman_scripts.specs.Script.{ScriptData}
 use Rattle.siman_scripts.specs.Statement.{address_of}
 use Rattle.siman_scripts.specs.Stations.{WorldStationData}
 use Rattle.exercise_model.specs.Recording.{opened}
+use Rattle.siman_operator.specs.Clocks.{source_by, unit_by}
+use Rattle.siman_operator.specs.declared.clock.WaitUnit.{WaitUnit}
 use Rattle.siman_operator.specs.Posts.{IsAtLink}
+use Rattle.siman_operator.specs.ShortForm.{is_short_form}
 use Rattle.siman_operator.specs.declared.reading.TheConstants.{LONGEST_LINE}
 use Rattle.siman_operator.specs.declared.recorded.ReadyStation.{ReadyStation}
 use Rattle.siman_operator.specs.declared.scripted.SetUp.{SetUp}
@@ -72,6 +77,7 @@ pub record IsPlaced (asked : StationAsked) (placed : Placed) : Type 0 where
   pub bind : endpoint_of asked.bind ≡ Some placed.bind
   pub peers : map endpoint_of asked.peers ≡ map Some placed.peers.items
   pub listening : placed.listening ≡ asked.listening
+  pub by_system : placed.by_system ≡ asked.by_system
   pub name : placed.name.now ≡ asked.recording
   pub room : length placed.room.items ≡ LONGEST_LINE + 1
 
@@ -91,26 +97,28 @@ of_set_up set_ups.Memory = Memory
 
 -- WHY THE STATION OF A SCRIPT AT AN ADDRESS IS NOT SET UP: the first refused line of the script, no station there,
 -- or one that a world cannot have; or the script could not be read; or memory ran out, which may happen at any time
-abbrev pub SetsUpNone : Scripted → (address : SiteApplication) → Fault → Type 0
-SetsUpNone scripted address (BadLine line why) = scripted ≡ Err (scripts.BadLine line)
-SetsUpNone scripted address (UnknownStation line why) = scripted ≡ Err (scripts.UnknownStation line)
-SetsUpNone scripted address (ScriptRead failed) = ⊤
-SetsUpNone scripted address NotInSetup = (s : ScriptData) × (scripted ≡ Ok s) × SetsUp s address (Err set_ups.NotInSetup)
-SetsUpNone scripted address WorldStations = (s : ScriptData) × (scripted ≡ Ok s) × SetsUp s address (Err set_ups.Stations)
-SetsUpNone scripted address Memory = ⊤
-SetsUpNone scripted address other = ⊥
+abbrev pub SetsUpNone : Scripted → (address : SiteApplication) → WaitUnit → Fault → Type 0
+SetsUpNone scripted address unit (BadLine line why) = scripted ≡ Err (scripts.BadLine line)
+SetsUpNone scripted address unit (UnknownStation line why) = scripted ≡ Err (scripts.UnknownStation line)
+SetsUpNone scripted address unit (ScriptRead failed) = ⊤
+SetsUpNone scripted address unit NotInSetup = (s : ScriptData) × (scripted ≡ Ok s) × SetsUp s address unit (Err set_ups.NotInSetup)
+SetsUpNone scripted address unit WorldStations = (s : ScriptData) × (scripted ≡ Ok s) × SetsUp s address unit (Err set_ups.Stations)
+SetsUpNone scripted address unit Memory = ⊤
+SetsUpNone scripted address unit other = ⊥
 
-abbrev pub SetsUpText : Scripted → (address : SiteApplication) → Result SetUp Fault → Type 0
-SetsUpText scripted address (Ok set_up) = (s : ScriptData) × (scripted ≡ Ok s) × SetsUp s address (Ok set_up)
-SetsUpText scripted address (Err fault) = SetsUpNone scripted address fault
+abbrev pub SetsUpText : Scripted → (address : SiteApplication) → WaitUnit → Result SetUp Fault → Type 0
+SetsUpText scripted address unit (Ok set_up) = (s : ScriptData) × (scripted ≡ Ok s) × SetsUp s address unit (Ok set_up)
+SetsUpText scripted address unit (Err fault) = SetsUpNone scripted address unit fault
 
 -- a station is set up from what was read of a text; or the reason why there is none
-abbrev pub SetsUpRead : TextRead → (address : SiteApplication) → Result SetUp Fault → Type 0
-SetsUpRead t address set_up = SetsUpText t.scripted address set_up × GivesReason t set_up
+abbrev pub SetsUpRead : TextRead → (address : SiteApplication) → WaitUnit → Result SetUp Fault → Type 0
+SetsUpRead t address unit set_up = SetsUpText t.scripted address unit set_up × GivesReason t set_up
 
--- a station is set up from a file with these bytes, if they are known
-abbrev pub SetsUpFile : (known : Option (List ℕ)) → (address : SiteApplication) → Result SetUp Fault → Type 0
-SetsUpFile known address set_up = (text : List ℕ) × Has known text × SetsUpRead (text_read text) address set_up
+-- a station is set up from a file with these bytes, if they are known; by the system's clock its wait counts
+-- milliseconds, and in the short form it is a second
+abbrev pub SetsUpFile : (known : Option (List ℕ)) → (address : SiteApplication) → (by_system : Bool) → Result SetUp Fault → Type 0
+SetsUpFile known address by_system set_up =
+    (text : List ℕ) × Has known text × SetsUpRead (text_read text) address (unit_by by_system (is_short_form address (fetched LARGEST_SCRIPT text))) set_up
 
 -- a station of some script was set up
 abbrev pub IsOfScript : SetUp → Type 0
@@ -161,11 +169,11 @@ GreetsAndCreates passed ready name input deeds played s =
 
 -- THE STATION IS ATTACHED TO ITS LINK as it was set up, among the stations of its script; it is not if memory runs
 -- out
-abbrev pub IsAttached : {L : Type 0} → (passed : L → PassedOver) → SetUp → (address : SiteApplication) → (name : List ℕ) → (input : Option (List ℕ)) → List Deed → Played → Streams → Type 0
-IsAttached {L} passed set_up address name input deeds played s =
+abbrev pub IsAttached : {L : Type 0} → (passed : L → PassedOver) → SetUp → (address : SiteApplication) → (by_system : Bool) → (name : List ℕ) → (input : Option (List ℕ)) → List Deed → Played → Streams → Type 0
+IsAttached {L} passed set_up address by_system name input deeds played s =
     PlaysNone Memory deeds played s
     ⊎ ((ready : ReadyStation L) × (ready.head ≡ set_up.head) × (ready.log ≡ opened (open_setting set_up.head)) × IsAtLink set_up.node ready.station × (ready.address ≡ address)
-    × (ready.stations ≡ set_up.stations) × GreetsAndCreates passed ready name input deeds played s)
+    × (ready.stations ≡ set_up.stations) × (ready.source ≡ source_by by_system set_up.wait) × GreetsAndCreates passed ready name input deeds played s)
 
 -- ITS LINK is requested, with the endpoints that the words name; if there is none, the fault is `live: line`, or
 -- that memory ran out
@@ -174,7 +182,7 @@ HasLine passed set_up placed name input (Binds bind peers listening (Err kind) �
     (bind ≡ placed.bind) × (peers ≡ placed.peers.items) × (listening ≡ placed.listening)
     × ((fault : Fault) × IsFaultOf kind LineFailed fault × PlaysNone fault deeds played s)
 HasLine passed set_up placed name input (Binds bind peers listening (Ok x) ∷ deeds) played s =
-    (bind ≡ placed.bind) × (peers ≡ placed.peers.items) × (listening ≡ placed.listening) × IsAttached passed set_up placed.address name input deeds played s
+    (bind ≡ placed.bind) × (peers ≡ placed.peers.items) × (listening ≡ placed.listening) × IsAttached passed set_up placed.address placed.by_system name input deeds played s
 HasLine passed set_up placed name input deeds played s = ⊥
 
 -- A FILE OF THE RECORDING'S NAME EXISTS: nothing is done, and no link is requested
@@ -190,8 +198,8 @@ PlaysFile passed asked placed input (Opens opened (Err kind) ∷ deeds) played s
     (opened ≡ asked.setup) × ((fault : Fault) × IsOpenFault asked.setup kind fault × PlaysNone fault deeds played s)
 PlaysFile passed asked placed input (Opens opened (Ok known) ∷ Reads read ∷ deeds) played s =
     (opened ≡ asked.setup) × (read ≡ known)
-    × (((fault : Fault) × SetsUpFile known placed.address (Err fault) × PlaysNone fault deeds played s)
-    ⊎ ((set_up : SetUp) × SetsUpFile known placed.address (Ok set_up) × PlaysSetUp passed set_up placed asked.recording input deeds played s))
+    × (((fault : Fault) × SetsUpFile known placed.address placed.by_system (Err fault) × PlaysNone fault deeds played s)
+    ⊎ ((set_up : SetUp) × SetsUpFile known placed.address placed.by_system (Ok set_up) × PlaysSetUp passed set_up placed asked.recording input deeds played s))
 PlaysFile passed asked placed input deeds played s = ⊥
 
 -- THE END OF `station`: the result of its session, or its fault, which is then reported

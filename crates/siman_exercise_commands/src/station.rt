@@ -5,7 +5,9 @@ ghost use Rattle.std.specs.Prelude.{◌≡◌, ◌+◌, length, None, Ok, map};
 ghost use Rattle.siman_outside.specs.Outside.{outcome_of, Did, DidMake, stream};
 ghost use Rattle.siman_scripts.specs.Script.{script_at};
 ghost use Rattle.siman_operator.specs.declared.reading.TheConstants.{LONGEST_LINE};
+ghost use Rattle.siman_operator.specs.Clocks.{unit_by};
 ghost use Rattle.siman_operator.specs.Recorded.{IsReady};
+ghost use Rattle.siman_operator.specs.ShortForm.{is_short_form};
 ghost use Rattle.siman_outside.specs.Words.{named_by};
 ghost use Rattle.siman_exercise_commands.specs.Explained.{TextRead, text_read, GivesReason};
 ghost use Rattle.siman_exercise_commands.specs.Station.{of_set_up, Streams, FindsAddress, FindsEndpoint, FindsEndpoints, Places, SetsUpText, SetsUpFile, IsOfScript, CreatesPlayed, of_print, GreetsAndCreates, IsAttached, HasLine, PlaysSetUp, PlaysFile, EndsPlayed, EndsStation};
@@ -17,7 +19,7 @@ use dis_records::Address;
 use siman_lines::{Input, Line};
 use siman_operator::{
     LONGEST_LINE, PrintFault, ReadyStation, SessionRecording, SessionReport, SetUp, SetUpFault,
-    attach_station, greet, record_session, set_up,
+    WaitUnit, attach_station, greet, is_short_form, record_session, set_up,
 };
 use siman_outside::{
     Ended, Ending, Endpoint, Fault, Listening, StationWords, conclude, end, endpoint_of, of_error,
@@ -36,6 +38,8 @@ struct Placed<'a> {
     peers: Vec<Endpoint>,
     /// Whom it hears, and what.
     listening: Listening,
+    /// Whether its clock is the system's.
+    by_system: bool,
     name: &'a str,
     room: Vec<u8>,
 }
@@ -89,6 +93,7 @@ fn place<'a>(alloc: Global, words: &StationWords<'a, &'a str>) -> Result<Placed<
         bind,
         peers,
         listening: words.listening,
+        by_system: words.by_system,
         name: words.recording,
         room,
     })
@@ -105,24 +110,38 @@ fn of_set_up(fault: SetUpFault) -> Fault<'static>
     }
 }
 
-/// Sets up the station of a script with this address.
-fn set_up_script(alloc: Global, script: Script, address: Address) -> Result<SetUp, Fault<'static>>
-    ensures sets_up { SetsUpText (Ok script) address result }
+/// Sets up the station of a script with this address, whose wait counts `unit`.
+fn set_up_script(
+    alloc: Global,
+    script: Script,
+    address: Address,
+    unit: WaitUnit,
+) -> Result<SetUp, Fault<'static>>
+    ensures sets_up { SetsUpText (Ok script) address unit result }
     ensures why { (t : TextRead) → GivesReason t result }
 {
-    match set_up(alloc, script, address) {
+    match set_up(alloc, script, address, unit) {
         Ok(set_up) => Ok(set_up),
         Err(fault) => Err(of_set_up(fault)),
     }
 }
 
-/// Sets up the station with this address of the script that a text spells.
-fn set_up_text(alloc: Global, text: &[u8], address: Address) -> Result<SetUp, Fault<'static>>
-    ensures sets_up { SetsUpText (script_at text.now) address result }
+/// Sets up the station with this address of the script that a text spells; its clock is the
+/// system's, if `by_system`.
+fn set_up_text(
+    alloc: Global,
+    text: &[u8],
+    address: Address,
+    by_system: bool,
+) -> Result<SetUp, Fault<'static>>
+    ensures sets_up { SetsUpText (script_at text.now) address (unit_by by_system (is_short_form address text.now)) result }
     ensures why { GivesReason (text_read text.now) result }
 {
     match read_script(alloc, text) {
-        Ok(script) => set_up_script(alloc, script, address),
+        Ok(script) => {
+            let unit = WaitUnit::of(by_system, is_short_form(text, address));
+            set_up_script(alloc, script, address, unit)
+        }
         Err(fault) => Err(refused(alloc, text, fault)),
     }
 }
@@ -132,12 +151,13 @@ fn set_up_file<R: Read + Drop>(
     alloc: Global,
     script: R,
     address: Address,
+    by_system: bool,
 ) -> Result<SetUp, Fault<'static>>
-    ensures { SetsUpFile (R.remaining script) address result }
+    ensures { SetsUpFile (R.remaining script) address by_system result }
 {
     let mut script = script;
     let text = read_text(alloc, &mut script, LARGEST_SCRIPT)?;
-    set_up_text(alloc, &text, address)
+    set_up_text(alloc, &text, address, by_system)
 }
 
 /// Creates the file of a recording, and plays a station at its link by the lines of a reader,
@@ -230,7 +250,7 @@ fn open_and_play<O: Links, R: Input<O::Line>, W: Write, E: Write>(
             return Err(of_error(&error, Fault::LineFailed));
         }
     };
-    match attach_station(alloc, set_up, placed.address, line) {
+    match attach_station(alloc, set_up, placed.address, line, placed.by_system) {
         Ok(ready) => greet_and_create(alloc, ready, placed, outside, input, out, errors),
         Err(_) => {
             drop(placed);
@@ -281,7 +301,12 @@ fn play_file<'a, O: Links, R: Input<O::Line>, W: Write, E: Write>(
         Ok(opened) => opened,
         Err(error) => return Err(open_fault(words.setup, &error)),
     };
-    match set_up_file(alloc, outside.read(opened), placed.address) {
+    match set_up_file(
+        alloc,
+        outside.read(opened),
+        placed.address,
+        placed.by_system,
+    ) {
         Ok(set_up) => play_set_up(alloc, set_up, placed, outside, input, out, errors),
         Err(fault) => Err(fault),
     }

@@ -9,6 +9,7 @@ use Rattle.exercise_model.specs.Setting.{SettingData}
 use Rattle.exercise_recording.specs.declared.fault.WriterFault.{WriterFault}
 use Rattle.exercise_recording.specs.Writer.{WriterState}
 use Rattle.siman_manager.specs.declared.order.Order.{Order}
+use Rattle.siman_stations.specs.declared.moment.Moment.{Moment}
 use Rattle.siman_stations.specs.declared.turn.Node.{Node}
 use Rattle.siman_stations.specs.declared.turn.TurnFault.TheVariants as turn_faults
 use Rattle.siman_stations.specs.Sending.{next_order}
@@ -19,9 +20,9 @@ use Rattle.siman_lines.specs.declared.fault.ServeFault.TheVariants as faults
 use Rattle.siman_lines.specs.declared.fault.IssueFault.{IssueFault}
 use Rattle.siman_lines.specs.declared.fault.IssueFault.TheVariants as issue_faults
 use Rattle.siman_lines.specs.declared.served.Served.{Served}
-use Rattle.siman_lines.specs.Serving.{State, ServeEnds, is_short}
+use Rattle.siman_lines.specs.Serving.{State, ServeEndsAt, is_short}
 use Rattle.siman_lines.specs.LineDatagrams.{Datagrams, Same}
-use Rattle.siman_lines.specs.Ordering.{Rests, IssueEnds, NudgeEnds}
+use Rattle.siman_lines.specs.Ordering.{Rests, IssueEndsAt, NudgeEndsAt}
 use Rattle.siman_lines.specs.KeptAtLine.{IsRightRefusal, RefusesServe, RefusesIssue}
 use Rattle.siman_lines.proofs.Writings.{right_refusal, refusal_before, setting_all}
 
@@ -40,48 +41,48 @@ good_came s now b v w within same short =
       by : (n : ℕ) → s < n → (nat_lt s n && nat_le (length b) LARGEST_DATAGRAM) ≡ true
       by n h = grind (arith, nat_tests, short)
 
-turn_refused : (s now : ℕ) (b : List ℕ) (fault : WriterFault) (n m : Node) (first w new : WriterState) → s < length first.setting.stations
+turn_refused : (s : ℕ) (at : Moment) (b : List ℕ) (fault : WriterFault) (n m : Node) (first w new : WriterState) → s < length first.setting.stations
     → w.setting ≡ first.setting
-    → is_short b ≡ true → FailsTurn WritesOne WritesNone s now b (turn_faults.Record fault) w new n m → IsRightRefusal fault w new
-turn_refused s now b fault n m first w new within same short (inl u) =
-    right_refusal w new (Received s now b) fault (good_came s now b w.setting first.setting within same short) u.refused
-turn_refused s now b fault n m first w new within same short (inr u) =
-    refusal_before (Received s now b ∷ []) w u.next new fault (u.next, u.received, refl)
-    (right_refusal u.next new (Sent s now (pdu_text u.unsent.answer)) fault
-    (good_text s now (pdu_text u.unsent.answer) u.next.setting first.setting within (u.received.adds.setting ∙ same) u.unsent.size) u.unsent.refused)
+    → is_short b ≡ true → FailsTurn WritesOne WritesNone s at b (turn_faults.Record fault) w new n m → IsRightRefusal fault w new
+turn_refused s at b fault n m first w new within same short (inl u) =
+    right_refusal w new (Received s at.now b) fault (good_came s at.now b w.setting first.setting within same short) u.refused
+turn_refused s at b fault n m first w new within same short (inr u) =
+    refusal_before (Received s at.now b ∷ []) w u.next new fault (u.next, u.received, refl)
+    (right_refusal u.next new (Sent s at.now (pdu_text u.unsent.answer)) fault
+    (good_text s at.now (pdu_text u.unsent.answer) u.next.setting first.setting within (u.received.adds.setting ∙ same) u.unsent.size) u.unsent.refused)
 
-pub serve_refused : (s now turns : ℕ) (old new : State) (result : Result Served ServeFault) → s < length old.recorder.setting.stations
-    → ServeEnds s now turns old new result → RefusesServe old.recorder new.recorder result
-serve_refused s now turns old new (Ok served) within ends = tt
-serve_refused s now turns old new (Err faults.Receive) within ends = tt
-serve_refused s now turns old new (Err faults.Send) within ends = tt
-serve_refused s now turns old new (Err (faults.Record fault)) within ends =
+pub serve_refused : (s : ℕ) (at : Moment) (turns : ℕ) (old new : State) (result : Result Served ServeFault) → s < length old.recorder.setting.stations
+    → ServeEndsAt s at turns old new result → RefusesServe old.recorder new.recorder result
+serve_refused s at turns old new (Ok served) within ends = tt
+serve_refused s at turns old new (Err faults.Receive) within ends = tt
+serve_refused s at turns old new (Err faults.Send) within ends = tt
+serve_refused s at turns old new (Err (faults.Record fault)) within ends =
     refusal_before _ old.recorder ends.recorder new.recorder fault ends.taken.entries
-    (turn_refused s now ends.datagram fault ends.node new.node old.recorder ends.recorder new.recorder within
+    (turn_refused s at ends.datagram fault ends.node new.node old.recorder ends.recorder new.recorder within
     (setting_all _ old.recorder ends.recorder ends.taken.entries) ends.short ends.broken)
-serve_refused s now turns old new (Err faults.Memory) within ends = tt
+serve_refused s at turns old new (Err faults.Memory) within ends = tt
 
-pub issue_refused : (s now : ℕ) (order : Order) (old new : State) (result : Result ℕ IssueFault) → s < length old.recorder.setting.stations
-    → IssueEnds s now order old new result → RefusesIssue old.recorder new.recorder result
-issue_refused s now order old new (Ok id) within ends = tt
-issue_refused s now order old new (Err (issue_faults.Order fault)) within ends = tt
-issue_refused s now order old new (Err issue_faults.Send) within ends = tt
-issue_refused s now order old new (Err (issue_faults.Record fault)) within ends =
-    (let text = pdu_text (next_order old.node.manager now order) in
-    right_refusal old.recorder new.recorder (Sent s now text) fault (good_text s now text old.recorder.setting old.recorder.setting within refl
+pub issue_refused : (s : ℕ) (at : Moment) (order : Order) (old new : State) (result : Result ℕ IssueFault) → s < length old.recorder.setting.stations
+    → IssueEndsAt s at order old new result → RefusesIssue old.recorder new.recorder result
+issue_refused s at order old new (Ok id) within ends = tt
+issue_refused s at order old new (Err (issue_faults.Order fault)) within ends = tt
+issue_refused s at order old new (Err issue_faults.Send) within ends = tt
+issue_refused s at order old new (Err (issue_faults.Record fault)) within ends =
+    (let text = pdu_text (next_order old.node.manager at.stamp order) in
+    right_refusal old.recorder new.recorder (Sent s at.now text) fault (good_text s at.now text old.recorder.setting old.recorder.setting within refl
     ends.size) ends.left.refused)
-issue_refused s now order old new (Err issue_faults.Memory) within ends = tt
+issue_refused s at order old new (Err issue_faults.Memory) within ends = tt
 
-pub nudge_refused : (s now : ℕ) (old new : State) (result : Result Bool IssueFault) → s < length old.recorder.setting.stations
-    → NudgeEnds s now old new result → RefusesIssue old.recorder new.recorder result
-nudge_refused s now old new (Ok true) within ends = tt
-nudge_refused s now old new (Ok false) within ends = tt
-nudge_refused s now old new (Err (issue_faults.Order fault)) within ends = tt
-nudge_refused s now old new (Err issue_faults.Send) within ends = tt
-nudge_refused s now old new (Err (issue_faults.Record fault)) within ends =
-    right_refusal old.recorder new.recorder (Sent s now (pdu_text ends.1.repeat)) fault
-    (good_text s now (pdu_text ends.1.repeat) old.recorder.setting old.recorder.setting within refl ends.1.size) ends.1.left.refused
-nudge_refused s now old new (Err issue_faults.Memory) within ends = tt
+pub nudge_refused : (s : ℕ) (at : Moment) (old new : State) (result : Result Bool IssueFault) → s < length old.recorder.setting.stations
+    → NudgeEndsAt s at old new result → RefusesIssue old.recorder new.recorder result
+nudge_refused s at old new (Ok true) within ends = tt
+nudge_refused s at old new (Ok false) within ends = tt
+nudge_refused s at old new (Err (issue_faults.Order fault)) within ends = tt
+nudge_refused s at old new (Err issue_faults.Send) within ends = tt
+nudge_refused s at old new (Err (issue_faults.Record fault)) within ends =
+    right_refusal old.recorder new.recorder (Sent s at.now (pdu_text ends.1.repeat)) fault
+    (good_text s at.now (pdu_text ends.1.repeat) old.recorder.setting old.recorder.setting within refl ends.1.size) ends.1.left.refused
+nudge_refused s at old new (Err issue_faults.Memory) within ends = tt
 
 -- Where nothing was done.
 

@@ -6,6 +6,7 @@ use Rattle.std.proofs.lemmas.Bool.Decides.{nat_tests}
 use Rattle.std.proofs.lemmas.List.{length-set, get_or-set_same, get_or-set_other}
 use Rattle.std.proofs.lemmas.Option.{slice_get_within, slice_get-get_or, get_or_from_slice_get}
 use Rattle.exercise_recording.specs.Writer.{WriterState}
+use Rattle.siman_stations.specs.declared.moment.Moment.{Moment}
 use Rattle.siman_stations.specs.declared.turn.Node.{Node}
 use Rattle.siman_stations.proofs.Offered.{all_append}
 use Rattle.siman_lines.specs.declared.fault.AtLineFault.{AtLineFault}
@@ -179,19 +180,19 @@ pub follows_on : {L : Type 0} (told : Telling L) (old : AtLines L) (k : ℕ) (ps
     → Follows told old (record { stations = set ps k q; recorder = v })
 follows_on told old k ps w v p q before there index keeps = follows_then told old _ _ before (follows_one told k ps w v p q there index keeps)
 
-pub round_on : {L : Type 0} (told : Telling L) (now turns : ℕ) (old : AtLines L) (k : ℕ) (ps : List (StationAtLine L)) (w v : WriterState) (p q : StationAtLine L)
-    → Each (One (ServedAt told now turns)) k old (record { stations = ps; recorder = w }) → slice_get ps k ≡ Some p → ServedAt told now turns p w q v
-    → Each (One (ServedAt told now turns)) (k + 1) old (record { stations = set ps k q; recorder = v })
-round_on told now turns old k ps w v p q before there served =
-    each_more (One (ServedAt told now turns)) k old (record { stations = ps; recorder = w }) (record { stations = set ps k q; recorder = v }) before
+pub round_on : {L : Type 0} (told : Telling L) (at : Moment) (turns : ℕ) (old : AtLines L) (k : ℕ) (ps : List (StationAtLine L)) (w v : WriterState) (p q : StationAtLine L)
+    → Each (One (ServedAt told at turns)) k old (record { stations = ps; recorder = w }) → slice_get ps k ≡ Some p → ServedAt told at turns p w q v
+    → Each (One (ServedAt told at turns)) (k + 1) old (record { stations = set ps k q; recorder = v })
+round_on told at turns old k ps w v p q before there served =
+    each_more (One (ServedAt told at turns)) k old (record { stations = ps; recorder = w }) (record { stations = set ps k q; recorder = v }) before
     (record { before = p; after = q; there = there; others = refl; does = served })
 
-pub round_stops : {L : Type 0} (told : Telling L) (now turns : ℕ) (fault : AtLineFault) (old : AtLines L) (k : ℕ) (ps : List (StationAtLine L)) (w v : WriterState)
+pub round_stops : {L : Type 0} (told : Telling L) (at : Moment) (turns : ℕ) (fault : AtLineFault) (old : AtLines L) (k : ℕ) (ps : List (StationAtLine L)) (w v : WriterState)
     (p q : StationAtLine L)
-    → k < length old.stations → Each (One (ServedAt told now turns)) k old (record { stations = ps; recorder = w }) → slice_get ps k ≡ Some p
-    → UnservedAt told now turns fault p w q v
-    → FailsRound told now turns fault old (record { stations = set ps k q; recorder = v })
-round_stops told now turns fault old k ps w v p q within before there unserved = record {
+    → k < length old.stations → Each (One (ServedAt told at turns)) k old (record { stations = ps; recorder = w }) → slice_get ps k ≡ Some p
+    → UnservedAt told at turns fault p w q v
+    → FailsRound told at turns fault old (record { stations = set ps k q; recorder = v })
+round_stops told at turns fault old k ps w v p q within before there unserved = record {
   number = k;
   within = within;
   mid = record { stations = ps; recorder = w };

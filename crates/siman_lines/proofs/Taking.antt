@@ -7,9 +7,10 @@ use Rattle.exercise_recording.specs.Writer.{WriterState}
 use Rattle.siman_application.specs.AppProfile.{AppProfile}
 use Rattle.siman_application.specs.Application.{ApplicationData, came}
 use Rattle.siman_manager.specs.Book.{Book}
+use Rattle.siman_stations.specs.declared.moment.Moment.{Moment}
 use Rattle.siman_stations.specs.declared.turn.Node.{Node}
 use Rattle.siman_stations.specs.Recording.{WritesOne}
-use Rattle.siman_stations.specs.StationTurn.{stamp_of, sent_as, reply_due, turn_entries, RecordsAll, TakesBoth}
+use Rattle.siman_stations.specs.StationTurn.{sent_as, reply_due, turn_entries, RecordsAll, TakesBoth}
 use Rattle.siman_lines.specs.LineDatagrams.{Datagrams}
 use Rattle.siman_lines.specs.Serving.{requests_with, taken_with, reply_with, reply_at, entries_after, HasTaken}
 
@@ -51,28 +52,28 @@ reply_same a None stamp = refl
 reply_same a (Some q) stamp = refl
 
 -- the reply after datagrams, of the halves as they are
-pub reply_told : (s now : ℕ) (bs : Datagrams) (b : List ℕ) (before mid : Node) (old writer : WriterState) → HasTaken s now bs before mid old writer
-    → reply_due mid.application (reading b) (stamp_of now) ≡ reply_at before.application.outfit (came before.application) now bs b
-reply_told s now bs b before mid old writer t =
-    reply_same mid.application (reading b) (stamp_of now)
-    ∙ (ap (λ (a : AppProfile). reply_with a (came mid.application) (reading b) (stamp_of now)) t.outfit
-    ∙ ap (λ (ds : List Pdu). reply_with before.application.outfit ds (reading b) (stamp_of now)) t.came_is)
+pub reply_told : (s : ℕ) (at : Moment) (bs : Datagrams) (b : List ℕ) (before mid : Node) (old writer : WriterState) → HasTaken s at bs before mid old writer
+    → reply_due mid.application (reading b) at.stamp ≡ reply_at before.application.outfit (came before.application) at.stamp bs b
+reply_told s at bs b before mid old writer t =
+    reply_same mid.application (reading b) at.stamp
+    ∙ (ap (λ (a : AppProfile). reply_with a (came mid.application) (reading b) at.stamp) t.outfit
+    ∙ ap (λ (ds : List Pdu). reply_with before.application.outfit ds (reading b) at.stamp) t.came_is)
 
-pub taken_none : (s now : ℕ) (n : Node) (w : WriterState) → HasTaken s now [] n n w w
-taken_none s now n w = record { outfit = refl; came_is = refl; manager = refl; entries = refl }
+pub taken_none : (s : ℕ) (at : Moment) (n : Node) (w : WriterState) → HasTaken s at [] n n w w
+taken_none s at n w = record { outfit = refl; came_is = refl; manager = refl; entries = refl }
 
 -- ONE MORE DATAGRAM is taken
-pub taken_on : (s now : ℕ) (bs : Datagrams) (b : List ℕ) (before mid after : Node) (old writer new : WriterState)
-    → HasTaken s now bs before mid old writer
-    → RecordsAll WritesOne (turn_entries mid.application s now b) writer new → TakesBoth (reading b) mid after
-    → HasTaken s now (b ∷ bs) before after old new
-taken_on s now bs b before mid after old writer new t entries halves = record {
+pub taken_on : (s : ℕ) (at : Moment) (bs : Datagrams) (b : List ℕ) (before mid after : Node) (old writer new : WriterState)
+    → HasTaken s at bs before mid old writer
+    → RecordsAll WritesOne (turn_entries mid.application s at b) writer new → TakesBoth (reading b) mid after
+    → HasTaken s at (b ∷ bs) before after old new
+taken_on s at bs b before mid after old writer new t entries halves = record {
   outfit = takes_outfit (reading b) mid after halves ∙ t.outfit;
   came_is = takes_came (reading b) mid after halves
       ∙ (ap (λ (a : AppProfile). requests_with a (came mid.application) (reading b)) t.outfit
       ∙ ap (λ (ds : List Pdu). requests_with before.application.outfit ds (reading b)) t.came_is);
   manager = takes_book (reading b) mid after halves ∙ ap (λ (k : Book). taken_with k (reading b)) t.manager;
-  entries = records_on WritesOne (entries_after before.application.outfit (came before.application) s now bs) _ old writer new t.entries
-      (subst (λ (o : Option Pdu). RecordsAll WritesOne (Received s now b ∷ sent_as s now o) writer new) (reply_told s now bs b before mid old writer
+  entries = records_on WritesOne (entries_after before.application.outfit (came before.application) s at bs) _ old writer new t.entries
+      (subst (λ (o : Option Pdu). RecordsAll WritesOne (Received s at.now b ∷ sent_as s at.now o) writer new) (reply_told s at bs b before mid old writer
       t) entries);
 }

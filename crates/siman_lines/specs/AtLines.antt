@@ -10,6 +10,7 @@ use Rattle.siman_application.specs.Application.{came}
 use Rattle.siman_application.specs.Play.{state_over}
 use Rattle.siman_manager.specs.declared.fault.OrderFault.TheVariants as order_faults
 use Rattle.siman_manager.specs.declared.order.Order.{Order}
+use Rattle.siman_stations.specs.declared.moment.Moment.{Moment}
 use Rattle.siman_stations.specs.declared.turn.Node.{Node}
 use Rattle.siman_stations.specs.Asked.{order_fault, tell_fault}
 use Rattle.siman_stations.specs.Recording.{WritesOne, WritesNone}
@@ -26,8 +27,8 @@ use Rattle.siman_lines.specs.KeptAtLine.{IsWritten}
 use Rattle.siman_lines.specs.LineDatagrams.{Datagrams}
 use Rattle.siman_lines.specs.Passed.{same_counts}
 use Rattle.siman_lines.specs.declared.line.PassedOver.{PassedOver}
-use Rattle.siman_lines.specs.Ordering.{Rests, IssueEnds, NudgeEnds}
-use Rattle.siman_lines.specs.Serving.{State, ServeEnds}
+use Rattle.siman_lines.specs.Ordering.{Rests, IssueEndsAt, NudgeEndsAt}
+use Rattle.siman_lines.specs.Serving.{State, ServeEndsAt}
 use Rattle.siman_lines.specs.Steps.{Each, Stops}
 
 -- what links of a kind specify: the datagrams that they returned and were passed, how many calls failed, and how
@@ -64,25 +65,25 @@ Misfits nodes lines = (length lines ≢ length nodes) ⊎ (2 ^ 16 < length nodes
 -- ONE STATION, before and after, with its recorder.
 
 -- an order: it was issued; or there is a reason against it; or the fault of the call has this name
-abbrev pub OrdersAt : {L : Type 0} → Telling L → ℕ → Order → (p : StationAtLine L) → (w : WriterState) → (q : StationAtLine L) → (v : WriterState)
+abbrev pub OrdersAt : {L : Type 0} → Telling L → Moment → Order → (p : StationAtLine L) → (w : WriterState) → (q : StationAtLine L) → (v : WriterState)
     → Result (Unit {0}) AtLineFault → Type 0
-OrdersAt told now order p w q v (Ok x) = (id : ℕ) × IssueEnds p.index now order (state_at told p w) (state_at told q v) (Ok id)
-OrdersAt told now order p w q v (Err (faults.Station fault)) = order_fault p.node.manager now order ≡ Some fault
-OrdersAt told now order p w q v (Err faults.Line) = IssueEnds p.index now order (state_at told p w) (state_at told q v) (Err issue_faults.Send)
-OrdersAt told now order p w q v (Err (faults.Record fault)) =
-    IssueEnds p.index now order (state_at told p w) (state_at told q v) (Err (issue_faults.Record fault))
-OrdersAt told now order p w q v (Err faults.Memory) =
-    IssueEnds p.index now order (state_at told p w) (state_at told q v) (Err issue_faults.Memory)
-    ⊎ IssueEnds p.index now order (state_at told p w) (state_at told q v) (Err (issue_faults.Order order_faults.Memory))
+OrdersAt told at order p w q v (Ok x) = (id : ℕ) × IssueEndsAt p.index at order (state_at told p w) (state_at told q v) (Ok id)
+OrdersAt told at order p w q v (Err (faults.Station fault)) = order_fault p.node.manager at.stamp order ≡ Some fault
+OrdersAt told at order p w q v (Err faults.Line) = IssueEndsAt p.index at order (state_at told p w) (state_at told q v) (Err issue_faults.Send)
+OrdersAt told at order p w q v (Err (faults.Record fault)) =
+    IssueEndsAt p.index at order (state_at told p w) (state_at told q v) (Err (issue_faults.Record fault))
+OrdersAt told at order p w q v (Err faults.Memory) =
+    IssueEndsAt p.index at order (state_at told p w) (state_at told q v) (Err issue_faults.Memory)
+    ⊎ IssueEndsAt p.index at order (state_at told p w) (state_at told q v) (Err (issue_faults.Order order_faults.Memory))
 
 -- the repeat that is due
-abbrev pub RepeatsAt : {L : Type 0} → Telling L → ℕ → (p : StationAtLine L) → (w : WriterState) → (q : StationAtLine L) → (v : WriterState)
+abbrev pub RepeatsAt : {L : Type 0} → Telling L → Moment → (p : StationAtLine L) → (w : WriterState) → (q : StationAtLine L) → (v : WriterState)
     → Result (Unit {0}) AtLineFault → Type 0
-RepeatsAt told now p w q v (Ok x) = (due : Bool) × NudgeEnds p.index now (state_at told p w) (state_at told q v) (Ok due)
-RepeatsAt told now p w q v (Err (faults.Station fault)) = ⊥
-RepeatsAt told now p w q v (Err faults.Line) = NudgeEnds p.index now (state_at told p w) (state_at told q v) (Err issue_faults.Send)
-RepeatsAt told now p w q v (Err (faults.Record fault)) = NudgeEnds p.index now (state_at told p w) (state_at told q v) (Err (issue_faults.Record fault))
-RepeatsAt told now p w q v (Err faults.Memory) = NudgeEnds p.index now (state_at told p w) (state_at told q v) (Err issue_faults.Memory)
+RepeatsAt told at p w q v (Ok x) = (due : Bool) × NudgeEndsAt p.index at (state_at told p w) (state_at told q v) (Ok due)
+RepeatsAt told at p w q v (Err (faults.Station fault)) = ⊥
+RepeatsAt told at p w q v (Err faults.Line) = NudgeEndsAt p.index at (state_at told p w) (state_at told q v) (Err issue_faults.Send)
+RepeatsAt told at p w q v (Err (faults.Record fault)) = NudgeEndsAt p.index at (state_at told p w) (state_at told q v) (Err (issue_faults.Record fault))
+RepeatsAt told at p w q v (Err faults.Memory) = NudgeEndsAt p.index at (state_at told p w) (state_at told q v) (Err issue_faults.Memory)
 
 -- the state of an entity is recorded, as the application has it
 abbrev pub TellsAt : {L : Type 0} → (e : ℕ) → (p : StationAtLine L) → (w v : WriterState) → Result (Unit {0}) AtLineFault → Type 0
@@ -118,24 +119,24 @@ abbrev pub is_busy : Served → (met : Bool) → Bool
 is_busy served met = nat_lt 0 served.taken || nat_lt 0 served.dropped || met || not served.idle
 
 -- it was served; its counts have what it dropped so far, and whether something may be left
-pub record ServedAt {L : Type 0} (told : Telling L) (now turns : ℕ) (p : StationAtLine L) (w : WriterState) (q : StationAtLine L) (v : WriterState) : Type 0 where
+pub record ServedAt {L : Type 0} (told : Telling L) (at : Moment) (turns : ℕ) (p : StationAtLine L) (w : WriterState) (q : StationAtLine L) (v : WriterState) : Type 0 where
   pub served : Served
-  pub ends : ServeEnds p.index now turns (state_at told p w) (state_at told q v) (Ok served)
+  pub ends : ServeEndsAt p.index at turns (state_at told p w) (state_at told q v) (Ok served)
   pub index : q.index ≡ p.index
   pub dropped : q.dropped ≡ min (p.dropped + served.dropped) (2 ^ 64 - 1)
   pub busy : q.busy ≡ is_busy served (not (same_counts (told.passed q.line) (told.passed p.line)))
 
 -- its service failed, with the fault of the failed turn
-pub record UnservedAt {L : Type 0} (told : Telling L) (now turns : ℕ) (fault : AtLineFault) (p : StationAtLine L) (w : WriterState) (q : StationAtLine L) (v : WriterState) : Type 0 where
+pub record UnservedAt {L : Type 0} (told : Telling L) (at : Moment) (turns : ℕ) (fault : AtLineFault) (p : StationAtLine L) (w : WriterState) (q : StationAtLine L) (v : WriterState) : Type 0 where
   pub below : ServeFault
-  pub ends : ServeEnds p.index now turns (state_at told p w) (state_at told q v) (Err below)
+  pub ends : ServeEndsAt p.index at turns (state_at told p w) (state_at told q v) (Err below)
   pub index : q.index ≡ p.index
   pub named : fault ≡ of_serve below
 
-abbrev pub ServesAt : {L : Type 0} → Telling L → (now turns : ℕ) → (p : StationAtLine L) → (w : WriterState) → (q : StationAtLine L) → (v : WriterState)
+abbrev pub ServesAt : {L : Type 0} → Telling L → (at : Moment) (turns : ℕ) → (p : StationAtLine L) → (w : WriterState) → (q : StationAtLine L) → (v : WriterState)
     → Result (Unit {0}) AtLineFault → Type 0
-ServesAt told now turns p w q v (Ok x) = ServedAt told now turns p w q v
-ServesAt told now turns p w q v (Err fault) = UnservedAt told now turns fault p w q v
+ServesAt told at turns p w q v (Ok x) = ServedAt told at turns p w q v
+ServesAt told at turns p w q v (Err fault) = UnservedAt told at turns fault p w q v
 
 -- ALL STATIONS.
 
@@ -148,20 +149,20 @@ pub record One {L : Type 0} (Does : StationAtLine L → WriterState → StationA
   pub does : Does before old.recorder after new.recorder
 
 -- A ROUND: each station is served once, in their order
-abbrev pub Round : {L : Type 0} → Telling L → (now turns : ℕ) → AtLines L → AtLines L → Type 0
-Round told now turns old new = Each (One (ServedAt told now turns)) (length old.stations) old new
+abbrev pub Round : {L : Type 0} → Telling L → (at : Moment) (turns : ℕ) → AtLines L → AtLines L → Type 0
+Round told at turns old new = Each (One (ServedAt told at turns)) (length old.stations) old new
 
-abbrev pub FailsRound : {L : Type 0} → Telling L → (now turns : ℕ) → AtLineFault → AtLines L → AtLines L → Type 0
-FailsRound told now turns fault old new = Stops (One (ServedAt told now turns)) (One (UnservedAt told now turns fault)) (length old.stations) old new
+abbrev pub FailsRound : {L : Type 0} → Telling L → (at : Moment) (turns : ℕ) → AtLineFault → AtLines L → AtLines L → Type 0
+FailsRound told at turns fault old new = Stops (One (ServedAt told at turns)) (One (UnservedAt told at turns fault)) (length old.stations) old new
 
-abbrev pub RoundEnds : {L : Type 0} → Telling L → (now turns : ℕ) → AtLines L → AtLines L → Result (Unit {0}) AtLineFault → Type 0
-RoundEnds told now turns old new (Ok x) = Round told now turns old new
-RoundEnds told now turns old new (Err fault) = FailsRound told now turns fault old new
+abbrev pub RoundEnds : {L : Type 0} → Telling L → (at : Moment) (turns : ℕ) → AtLines L → AtLines L → Result (Unit {0}) AtLineFault → Type 0
+RoundEnds told at turns old new (Ok x) = Round told at turns old new
+RoundEnds told at turns old new (Err fault) = FailsRound told at turns fault old new
 
 -- ROUNDS, one after the other
-abbrev pub RoundsEnd : {L : Type 0} → Telling L → (now rounds turns : ℕ) → AtLines L → AtLines L → Result (Unit {0}) AtLineFault → Type 0
-RoundsEnd told now rounds turns old new (Ok x) = Each (λ number. Round told now turns) rounds old new
-RoundsEnd told now rounds turns old new (Err fault) = Stops (λ number. Round told now turns) (λ number. FailsRound told now turns fault) rounds old new
+abbrev pub RoundsEnd : {L : Type 0} → Telling L → (at : Moment) (rounds turns : ℕ) → AtLines L → AtLines L → Result (Unit {0}) AtLineFault → Type 0
+RoundsEnd told at rounds turns old new (Ok x) = Each (λ number. Round told at turns) rounds old new
+RoundsEnd told at rounds turns old new (Err fault) = Stops (λ number. Round told at turns) (λ number. FailsRound told at turns fault) rounds old new
 
 -- AS CALLS.
 

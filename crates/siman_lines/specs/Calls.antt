@@ -38,7 +38,7 @@ pub record Stations : Type 0 where
   pub handed : ℕ → Option Datagrams
   pub recorder : WriterState
 
--- A CALL at station s: it preserves the invariant of that station, as each of the four does, and the other stations
+-- A CALL at station s: it preserves the invariant of that station, as each of them does, and the other stations
 -- are unchanged
 pub record IsCall (s : ℕ) (old new : Stations) : Type 0 where
   pub keeps : Keeps s (old.node s) old.recorder (old.handed s) (new.node s) new.recorder (new.handed s)

@@ -8,10 +8,11 @@ use Rattle.exercise_recording.specs.declared.fault.WriterFault.{WriterFault}
 use Rattle.siman_manager.specs.declared.order.Order.{Order}
 use Rattle.siman_manager.specs.Answers.{refusal_of, reported_by}
 use Rattle.siman_manager.specs.Book.{next_id}
+use Rattle.siman_stations.specs.declared.moment.Moment.{Moment}
 use Rattle.siman_stations.specs.declared.turn.Node.{Node}
+use Rattle.siman_stations.specs.Moments.{moment_of}
 use Rattle.siman_stations.specs.Sending.{next_order, after_order, next_repeat, after_tick}
 use Rattle.siman_stations.specs.Recording.{WritesOne, WritesNone}
-use Rattle.siman_stations.specs.StationTurn.{stamp_of}
 use Rattle.siman_stations.specs.Sending.{IsOrderInRange}
 use Rattle.siman_lines.specs.declared.fault.IssueFault.{IssueFault}
 use Rattle.siman_lines.specs.declared.fault.IssueFault.TheVariants as faults
@@ -58,65 +59,73 @@ FailsText s now text old new faults.Memory = ⊥
 -- An order.
 
 -- the manager made the order
-pub record Makes (now : ℕ) (order : Order) (old new : Node) : Type 0 where
-  pub made : refusal_of old.manager order (stamp_of now) ≡ None
+pub record Makes (at : Moment) (order : Order) (old new : Node) : Type 0 where
+  pub made : refusal_of old.manager order at.stamp ≡ None
   pub in_range : IsOrderInRange order
-  pub halves : new ≡ after_order old now order
+  pub halves : new ≡ after_order old at order
 
 -- A NEW ORDER was sent
-pub record Issues (s now : ℕ) (order : Order) (old new : State) (id : ℕ) : Type 0 where
-  pub makes : Makes now order old.node new.node
+pub record Issues (s : ℕ) (at : Moment) (order : Order) (old new : State) (id : ℕ) : Type 0 where
+  pub makes : Makes at order old.node new.node
   pub id_is : id ≡ next_id old.node.manager.settings (length old.node.manager.orders)
-  pub size : length (pdu_text (next_order old.node.manager now order)) ≤ LARGEST_DATAGRAM
-  pub goes : SendsText s now (pdu_text (next_order old.node.manager now order)) old new
+  pub size : length (pdu_text (next_order old.node.manager at.stamp order)) ≤ LARGEST_DATAGRAM
+  pub goes : SendsText s at.now (pdu_text (next_order old.node.manager at.stamp order)) old new
 
 -- the manager made the order, which was not sent, with this effect on the rest
-pub record Withholds (now : ℕ) (order : Order) (old new : State) (Left : List ℕ → Type 0) : Type 0 where
-  pub makes : Makes now order old.node new.node
-  pub size : length (pdu_text (next_order old.node.manager now order)) ≤ LARGEST_DATAGRAM
-  pub left : Left (pdu_text (next_order old.node.manager now order))
+pub record Withholds (at : Moment) (order : Order) (old new : State) (Left : List ℕ → Type 0) : Type 0 where
+  pub makes : Makes at order old.node new.node
+  pub size : length (pdu_text (next_order old.node.manager at.stamp order)) ≤ LARGEST_DATAGRAM
+  pub left : Left (pdu_text (next_order old.node.manager at.stamp order))
 
 -- THE EFFECT OF A FAULT in an order: only a refusal leaves the manager unchanged
-abbrev pub FailsIssue : (s now : ℕ) → Order → State → State → IssueFault → Type 0
-FailsIssue s now order old new (faults.Order fault) =
-    (refusal_of old.node.manager order (stamp_of now) ≡ reported_by fault) × (new.node ≡ old.node) × Rests old new
-FailsIssue s now order old new faults.Send = Withholds now order old new (λ text. LosesText s now text old new)
-FailsIssue s now order old new (faults.Record fault) = Withholds now order old new (λ text. KeepsText s now text fault old new)
-FailsIssue s now order old new faults.Memory = Makes now order old.node new.node × Rests old new
+abbrev pub FailsIssue : (s : ℕ) (at : Moment) → Order → State → State → IssueFault → Type 0
+FailsIssue s at order old new (faults.Order fault) =
+    (refusal_of old.node.manager order at.stamp ≡ reported_by fault) × (new.node ≡ old.node) × Rests old new
+FailsIssue s at order old new faults.Send = Withholds at order old new (λ text. LosesText s at.now text old new)
+FailsIssue s at order old new (faults.Record fault) = Withholds at order old new (λ text. KeepsText s at.now text fault old new)
+FailsIssue s at order old new faults.Memory = Makes at order old.node new.node × Rests old new
 
--- THE EFFECT OF AN ORDER
+-- THE EFFECT OF AN ORDER at this moment
+abbrev pub IssueEndsAt : (s : ℕ) (at : Moment) → Order → State → State → Result ℕ IssueFault → Type 0
+IssueEndsAt s at order old new (Ok id) = Issues s at order old new id
+IssueEndsAt s at order old new (Err fault) = FailsIssue s at order old new fault
+
+-- the same at the moment of a world at this time
 abbrev pub IssueEnds : (s now : ℕ) → Order → State → State → Result ℕ IssueFault → Type 0
-IssueEnds s now order old new (Ok id) = Issues s now order old new id
-IssueEnds s now order old new (Err fault) = FailsIssue s now order old new fault
+IssueEnds s now order old new result = IssueEndsAt s (moment_of now) order old new result
 
 -- A repeat. The tick of the manager is made in any case.
 
 -- A DUE REPEAT was sent
-pub record Repeats (s now : ℕ) (old new : State) : Type 0 where
+pub record Repeats (s : ℕ) (at : Moment) (old new : State) : Type 0 where
   pub repeat : Pdu
-  pub due : next_repeat old.node.manager now ≡ Some repeat
+  pub due : next_repeat old.node.manager at ≡ Some repeat
   pub size : length (pdu_text repeat) ≤ LARGEST_DATAGRAM
-  pub goes : SendsText s now (pdu_text repeat) old new
+  pub goes : SendsText s at.now (pdu_text repeat) old new
 
-abbrev pub Nudges : (s now : ℕ) → State → State → Bool → Type 0
-Nudges s now old new true = (new.node ≡ after_tick old.node now) × Repeats s now old new
+abbrev pub Nudges : (s : ℕ) (at : Moment) → State → State → Bool → Type 0
+Nudges s at old new true = (new.node ≡ after_tick old.node at) × Repeats s at old new
 -- no repeat was due
-Nudges s now old new false = (new.node ≡ after_tick old.node now) × (next_repeat old.node.manager now ≡ None) × Rests old new
+Nudges s at old new false = (new.node ≡ after_tick old.node at) × (next_repeat old.node.manager at ≡ None) × Rests old new
 
 -- a repeat was due and was not sent, with this effect on the rest
-pub record Delays (now : ℕ) (old : State) (Left : List ℕ → Type 0) : Type 0 where
+pub record Delays (at : Moment) (old : State) (Left : List ℕ → Type 0) : Type 0 where
   pub repeat : Pdu
-  pub due : next_repeat old.node.manager now ≡ Some repeat
+  pub due : next_repeat old.node.manager at ≡ Some repeat
   pub size : length (pdu_text repeat) ≤ LARGEST_DATAGRAM
   pub left : Left (pdu_text repeat)
 
-abbrev pub FailsNudge : (s now : ℕ) → State → State → IssueFault → Type 0
-FailsNudge s now old new (faults.Order fault) = ⊥
-FailsNudge s now old new faults.Send = (new.node ≡ after_tick old.node now) × Delays now old (λ text. LosesText s now text old new)
-FailsNudge s now old new (faults.Record fault) = (new.node ≡ after_tick old.node now) × Delays now old (λ text. KeepsText s now text fault old new)
-FailsNudge s now old new faults.Memory = (new.node ≡ after_tick old.node now) × (is_some (next_repeat old.node.manager now) ≡ true) × Rests old new
+abbrev pub FailsNudge : (s : ℕ) (at : Moment) → State → State → IssueFault → Type 0
+FailsNudge s at old new (faults.Order fault) = ⊥
+FailsNudge s at old new faults.Send = (new.node ≡ after_tick old.node at) × Delays at old (λ text. LosesText s at.now text old new)
+FailsNudge s at old new (faults.Record fault) = (new.node ≡ after_tick old.node at) × Delays at old (λ text. KeepsText s at.now text fault old new)
+FailsNudge s at old new faults.Memory = (new.node ≡ after_tick old.node at) × (is_some (next_repeat old.node.manager at) ≡ true) × Rests old new
 
--- THE EFFECT OF A NUDGE
+-- THE EFFECT OF A NUDGE at this moment
+abbrev pub NudgeEndsAt : (s : ℕ) (at : Moment) → State → State → Result Bool IssueFault → Type 0
+NudgeEndsAt s at old new (Ok due) = Nudges s at old new due
+NudgeEndsAt s at old new (Err fault) = FailsNudge s at old new fault
+
+-- the same at the moment of a world at this time
 abbrev pub NudgeEnds : (s now : ℕ) → State → State → Result Bool IssueFault → Type 0
-NudgeEnds s now old new (Ok due) = Nudges s now old new due
-NudgeEnds s now old new (Err fault) = FailsNudge s now old new fault
+NudgeEnds s now old new result = NudgeEndsAt s (moment_of now) old new result

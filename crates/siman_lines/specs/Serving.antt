@@ -13,11 +13,13 @@ use Rattle.siman_application.specs.Play.{reply_after}
 use Rattle.siman_application.specs.Application.{came}
 use Rattle.siman_manager.specs.Answers.{taken}
 use Rattle.siman_manager.specs.Book.{Book}
+use Rattle.siman_stations.specs.declared.moment.Moment.{Moment}
 use Rattle.siman_stations.specs.declared.turn.Node.{Node}
 use Rattle.siman_stations.specs.declared.turn.TurnFault.{TurnFault}
 use Rattle.siman_stations.specs.declared.turn.TurnFault.TheVariants as turn_faults
+use Rattle.siman_stations.specs.Moments.{moment_of}
 use Rattle.siman_stations.specs.Recording.{WritesOne, WritesNone}
-use Rattle.siman_stations.specs.StationTurn.{stamp_of, sent_as, reply_due, turn_entries, RecordsAll, TakesBoth, FailsTurn as FailsHalves}
+use Rattle.siman_stations.specs.StationTurn.{sent_as, reply_due, turn_entries, RecordsAll, TakesBoth, FailsTurn as FailsHalves}
 use Rattle.exercise_recording.specs.declared.fault.WriterFault.{WriterFault}
 use Rattle.siman_lines.specs.declared.fault.ServeFault.{ServeFault}
 use Rattle.siman_lines.specs.declared.fault.ServeFault.TheVariants as faults
@@ -49,35 +51,35 @@ abbrev pub reply_with : AppProfile → List Pdu → Option Pdu → ℕ → Optio
 reply_with a ds None stamp = None
 reply_with a ds (Some q) stamp = reply_after a ds q stamp
 
--- the reply to a datagram, after the earlier datagrams
+-- the reply to a datagram, after the earlier datagrams, with this timestamp
 abbrev pub reply_at : AppProfile → List Pdu → ℕ → Datagrams → List ℕ → Option Pdu
-reply_at a ds now bs b = reply_with a (pdus_after a ds bs) (reading b) (stamp_of now)
+reply_at a ds stamp bs b = reply_with a (pdus_after a ds bs) (reading b) stamp
 
 -- THE ENTRIES: each datagram is received, and then the reply is sent, if one is due
-abbrev pub entries_after : AppProfile → List Pdu → (s now : ℕ) → Datagrams → List Entry
-entries_after a ds s now [] = []
-entries_after a ds s now (b ∷ bs) = entries_after a ds s now bs ++ (Received s now b ∷ sent_as s now (reply_at a ds now bs b))
+abbrev pub entries_after : AppProfile → List Pdu → (s : ℕ) (at : Moment) → Datagrams → List Entry
+entries_after a ds s at [] = []
+entries_after a ds s at (b ∷ bs) = entries_after a ds s at bs ++ (Received s at.now b ∷ sent_as s at.now (reply_at a ds at.stamp bs b))
 
 -- the text of a reply, if any
 abbrev pub text_of : Option Pdu → Datagrams
 text_of None = []
 text_of (Some p) = pdu_text p ∷ []
 
--- THE TEXTS that are sent, in their order
+-- THE TEXTS that are sent, in their order, with this timestamp
 abbrev pub texts_after : AppProfile → List Pdu → ℕ → Datagrams → Datagrams
-texts_after a ds now [] = []
-texts_after a ds now (b ∷ bs) = texts_after a ds now bs ++ text_of (reply_at a ds now bs b)
+texts_after a ds stamp [] = []
+texts_after a ds stamp (b ∷ bs) = texts_after a ds stamp bs ++ text_of (reply_at a ds stamp bs b)
 
 -- manager and application took these datagrams, each in its turn, and exactly the entries of them are recorded
-pub record HasTaken (s now : ℕ) (bs : Datagrams) (before after : Node) (old new : WriterState) : Type 0 where
+pub record HasTaken (s : ℕ) (at : Moment) (bs : Datagrams) (before after : Node) (old new : WriterState) : Type 0 where
   pub outfit : after.application.outfit ≡ before.application.outfit
   pub came_is : came after.application ≡ pdus_after before.application.outfit (came before.application) bs
   pub manager : after.manager ≡ book_after before.manager bs
-  pub entries : RecordsAll WritesOne (entries_after before.application.outfit (came before.application) s now bs) old new
+  pub entries : RecordsAll WritesOne (entries_after before.application.outfit (came before.application) s at bs) old new
 
--- the texts that a station with this node sends
+-- the texts that a station with this node sends, with this timestamp
 abbrev pub texts_by : Node → ℕ → Datagrams → Datagrams
-texts_by n now bs = texts_after n.application.outfit (came n.application) now bs
+texts_by n stamp bs = texts_after n.application.outfit (came n.application) stamp bs
 
 -- Received datagrams.
 
@@ -111,104 +113,108 @@ pub record State : Type 0 where
 
 -- THE STATE AFTER a station received these datagrams through its link: the long ones are dropped, the others taken,
 -- each in its turn, and each reply that was due was sent
-pub record HasServed (s now : ℕ) (us : Datagrams) (old new : State) : Type 0 where
-  pub taken : HasTaken s now (short_of us) old.node new.node old.recorder new.recorder
+pub record HasServed (s : ℕ) (at : Moment) (us : Datagrams) (old new : State) : Type 0 where
+  pub taken : HasTaken s at (short_of us) old.node new.node old.recorder new.recorder
   pub received_are : GrowsAll old.received new.received (reverse us)
-  pub sent_are : GrowsAll old.sent new.sent (texts_by old.node now (short_of us))
+  pub sent_are : GrowsAll old.sent new.sent (texts_by old.node at.stamp (short_of us))
   pub bytes : AreBytes (short_of us)
 
 -- TURNS THAT ENDED without a fault: the link worked, and all that the station received is counted; it made all its
 -- receives, or fewer, and then it was idle
-pub record Serves (s now turns : ℕ) (old new : State) (served : Served) : Type 0 where
+pub record Serves (s : ℕ) (at : Moment) (turns : ℕ) (old new : State) (served : Served) : Type 0 where
   pub datagrams : Datagrams
-  pub done : HasServed s now datagrams old new
+  pub done : HasServed s at datagrams old new
   pub worked : new.failures ≡ old.failures
   pub taken : served.taken ≡ length (short_of datagrams)
   pub dropped : served.dropped ≡ length (filter is_long datagrams)
-  pub sent : served.sent ≡ length (texts_by old.node now (short_of datagrams))
+  pub sent : served.sent ≡ length (texts_by old.node at.stamp (short_of datagrams))
   pub whole : served.idle ≡ false → served.taken + served.dropped ≡ turns
   pub idle : served.idle ≡ true → served.taken + served.dropped < turns
 
 -- THE EFFECT OF A FAULT, after these datagrams were served.
 
 -- a receive failed, and nothing else was done
-pub record LosesReceive (s now : ℕ) (old new : State) : Type 0 where
+pub record LosesReceive (s : ℕ) (at : Moment) (old new : State) : Type 0 where
   pub datagrams : Datagrams
-  pub done : HasServed s now datagrams old new
+  pub done : HasServed s at datagrams old new
   pub lost : old.failures < new.failures
 
 -- the turn of one more datagram was done, and the send of its reply failed
-pub record LosesSend (s now : ℕ) (old new : State) : Type 0 where
+pub record LosesSend (s : ℕ) (at : Moment) (old new : State) : Type 0 where
   pub earlier : Datagrams
   pub datagram : List ℕ
   pub answer : Pdu
   pub short : is_short datagram ≡ true
-  pub due : reply_at old.node.application.outfit (came old.node.application) now (short_of earlier) datagram ≡ Some answer
-  pub taken : HasTaken s now (datagram ∷ short_of earlier) old.node new.node old.recorder new.recorder
+  pub due : reply_at old.node.application.outfit (came old.node.application) at.stamp (short_of earlier) datagram ≡ Some answer
+  pub taken : HasTaken s at (datagram ∷ short_of earlier) old.node new.node old.recorder new.recorder
   pub received_are : GrowsAll old.received new.received (reverse (datagram ∷ earlier))
   pub before : Option Datagrams
-  pub sent_are : GrowsAll old.sent before (texts_by old.node now (short_of earlier))
+  pub sent_are : GrowsAll old.sent before (texts_by old.node at.stamp (short_of earlier))
   pub may_be_sent : MayGrow before new.sent (pdu_text answer)
   pub bytes : AreBytes (datagram ∷ short_of earlier)
   pub lost : old.failures < new.failures
 
 -- the turn of one more datagram was not done whole; nothing was sent for it
-pub record BreaksTurn (s now : ℕ) (fault : TurnFault WriterFault) (old new : State) : Type 0 where
+pub record BreaksTurn (s : ℕ) (at : Moment) (fault : TurnFault WriterFault) (old new : State) : Type 0 where
   pub earlier : Datagrams
   pub datagram : List ℕ
   pub short : is_short datagram ≡ true
   pub node : Node
   pub recorder : WriterState
-  pub taken : HasTaken s now (short_of earlier) old.node node old.recorder recorder
-  pub broken : FailsHalves WritesOne WritesNone s now datagram fault recorder new.recorder node new.node
+  pub taken : HasTaken s at (short_of earlier) old.node node old.recorder recorder
+  pub broken : FailsHalves WritesOne WritesNone s at datagram fault recorder new.recorder node new.node
   pub received_are : GrowsAll old.received new.received (reverse (datagram ∷ earlier))
-  pub sent_are : GrowsAll old.sent new.sent (texts_by old.node now (short_of earlier))
+  pub sent_are : GrowsAll old.sent new.sent (texts_by old.node at.stamp (short_of earlier))
   pub bytes : AreBytes (datagram ∷ short_of earlier)
   pub worked : new.failures ≡ old.failures
 
-abbrev pub FailsServe : (s now : ℕ) → State → State → ServeFault → Type 0
-FailsServe s now old new faults.Receive = LosesReceive s now old new
-FailsServe s now old new faults.Send = LosesSend s now old new
-FailsServe s now old new (faults.Record fault) = BreaksTurn s now (turn_faults.Record fault) old new
-FailsServe s now old new faults.Memory = BreaksTurn s now turn_faults.Memory old new
+abbrev pub FailsServe : (s : ℕ) (at : Moment) → State → State → ServeFault → Type 0
+FailsServe s at old new faults.Receive = LosesReceive s at old new
+FailsServe s at old new faults.Send = LosesSend s at old new
+FailsServe s at old new (faults.Record fault) = BreaksTurn s at (turn_faults.Record fault) old new
+FailsServe s at old new faults.Memory = BreaksTurn s at turn_faults.Memory old new
 
--- THE EFFECT of at most so many turns
+-- THE EFFECT of at most so many turns at this moment
+abbrev pub ServeEndsAt : (s : ℕ) (at : Moment) (turns : ℕ) → State → State → Result Served ServeFault → Type 0
+ServeEndsAt s at turns old new (Ok served) = Serves s at turns old new served
+ServeEndsAt s at turns old new (Err fault) = FailsServe s at old new fault
+
+-- the same at the moment of a world at this time
 abbrev pub ServeEnds : (s now turns : ℕ) → State → State → Result Served ServeFault → Type 0
-ServeEnds s now turns old new (Ok served) = Serves s now turns old new served
-ServeEnds s now turns old new (Err fault) = FailsServe s now old new fault
+ServeEnds s now turns old new result = ServeEndsAt s (moment_of now) turns old new result
 
 -- One datagram.
 
 -- the turn of a datagram was done, and the reply that was due was sent
-pub record ServesOne (s now : ℕ) (b : List ℕ) (old new : State) : Type 0 where
-  pub entries : RecordsAll WritesOne (turn_entries old.node.application s now b) old.recorder new.recorder
+pub record ServesOne (s : ℕ) (at : Moment) (b : List ℕ) (old new : State) : Type 0 where
+  pub entries : RecordsAll WritesOne (turn_entries old.node.application s at b) old.recorder new.recorder
   pub halves : TakesBoth (reading b) old.node new.node
-  pub sent_are : GrowsAll old.sent new.sent (text_of (reply_due old.node.application (reading b) (stamp_of now)))
+  pub sent_are : GrowsAll old.sent new.sent (text_of (reply_due old.node.application (reading b) at.stamp))
   pub received_are : Same old.received new.received
   pub worked : new.failures ≡ old.failures
 
 -- the turn was done, and the send failed
-pub record SendsNone (s now : ℕ) (b : List ℕ) (old new : State) : Type 0 where
-  pub entries : RecordsAll WritesOne (turn_entries old.node.application s now b) old.recorder new.recorder
+pub record SendsNone (s : ℕ) (at : Moment) (b : List ℕ) (old new : State) : Type 0 where
+  pub entries : RecordsAll WritesOne (turn_entries old.node.application s at b) old.recorder new.recorder
   pub halves : TakesBoth (reading b) old.node new.node
   pub answer : Pdu
-  pub due : reply_due old.node.application (reading b) (stamp_of now) ≡ Some answer
+  pub due : reply_due old.node.application (reading b) at.stamp ≡ Some answer
   pub may_be_sent : MayGrow old.sent new.sent (pdu_text answer)
   pub received_are : Same old.received new.received
   pub lost : old.failures < new.failures
 
 -- the turn was not done whole
-pub record BreaksOne (s now : ℕ) (b : List ℕ) (fault : TurnFault WriterFault) (old new : State) : Type 0 where
-  pub broken : FailsHalves WritesOne WritesNone s now b fault old.recorder new.recorder old.node new.node
+pub record BreaksOne (s : ℕ) (at : Moment) (b : List ℕ) (fault : TurnFault WriterFault) (old new : State) : Type 0 where
+  pub broken : FailsHalves WritesOne WritesNone s at b fault old.recorder new.recorder old.node new.node
   pub sent_are : Same old.sent new.sent
   pub received_are : Same old.received new.received
   pub worked : new.failures ≡ old.failures
 
-abbrev pub FailsOne : (s now : ℕ) → List ℕ → State → State → ServeFault → Type 0
-FailsOne s now b old new faults.Receive = ⊥
-FailsOne s now b old new faults.Send = SendsNone s now b old new
-FailsOne s now b old new (faults.Record fault) = BreaksOne s now b (turn_faults.Record fault) old new
-FailsOne s now b old new faults.Memory = BreaksOne s now b turn_faults.Memory old new
+abbrev pub FailsOne : (s : ℕ) (at : Moment) → List ℕ → State → State → ServeFault → Type 0
+FailsOne s at b old new faults.Receive = ⊥
+FailsOne s at b old new faults.Send = SendsNone s at b old new
+FailsOne s at b old new (faults.Record fault) = BreaksOne s at b (turn_faults.Record fault) old new
+FailsOne s at b old new faults.Memory = BreaksOne s at b turn_faults.Memory old new
 
 -- One receive.
 
@@ -236,20 +242,20 @@ pub record DropsIt (old new : State) (turn : Served) : Type 0 where
   pub told : turn ≡ record { taken = 0; sent = 0; dropped = 1; idle = false }
 
 -- another datagram was received and served
-pub record TakesIt (s now : ℕ) (old new : State) (turn : Served) : Type 0 where
+pub record TakesIt (s : ℕ) (at : Moment) (old new : State) (turn : Served) : Type 0 where
   pub datagram : List ℕ
   pub heard : State
   pub hears : Hears datagram old heard
   pub short : is_short datagram ≡ true
   pub bytes : IsBytes datagram
-  pub serves : ServesOne s now datagram heard new
+  pub serves : ServesOne s at datagram heard new
   pub answered : Bool
-  pub due : answered ≡ is_some (reply_due heard.node.application (reading datagram) (stamp_of now))
+  pub due : answered ≡ is_some (reply_due heard.node.application (reading datagram) at.stamp)
   pub told : turn ≡ record { taken = 1; sent = if answered then 1 else 0; dropped = 0; idle = false }
 
-abbrev pub ServesTurn : (s now : ℕ) → State → State → Option Served → Type 0
-ServesTurn s now old new None = Stays old new
-ServesTurn s now old new (Some turn) = DropsIt old new turn ⊎ TakesIt s now old new turn
+abbrev pub ServesTurn : (s : ℕ) (at : Moment) → State → State → Option Served → Type 0
+ServesTurn s at old new None = Stays old new
+ServesTurn s at old new (Some turn) = DropsIt old new turn ⊎ TakesIt s at old new turn
 
 -- the receive failed
 pub record HearsNone (old new : State) : Type 0 where
@@ -260,16 +266,16 @@ pub record HearsNone (old new : State) : Type 0 where
   pub lost : old.failures < new.failures
 
 -- the turn of the received datagram was not done whole
-pub record FailsIt (s now : ℕ) (old new : State) (fault : ServeFault) : Type 0 where
+pub record FailsIt (s : ℕ) (at : Moment) (old new : State) (fault : ServeFault) : Type 0 where
   pub datagram : List ℕ
   pub heard : State
   pub hears : Hears datagram old heard
   pub short : is_short datagram ≡ true
   pub bytes : IsBytes datagram
-  pub fails : FailsOne s now datagram heard new fault
+  pub fails : FailsOne s at datagram heard new fault
 
-abbrev pub FailsTurn : (s now : ℕ) → State → State → ServeFault → Type 0
-FailsTurn s now old new faults.Receive = HearsNone old new
-FailsTurn s now old new faults.Send = FailsIt s now old new faults.Send
-FailsTurn s now old new (faults.Record fault) = FailsIt s now old new (faults.Record fault)
-FailsTurn s now old new faults.Memory = FailsIt s now old new faults.Memory
+abbrev pub FailsTurn : (s : ℕ) (at : Moment) → State → State → ServeFault → Type 0
+FailsTurn s at old new faults.Receive = HearsNone old new
+FailsTurn s at old new faults.Send = FailsIt s at old new faults.Send
+FailsTurn s at old new (faults.Record fault) = FailsIt s at old new (faults.Record fault)
+FailsTurn s at old new faults.Memory = FailsIt s at old new faults.Memory

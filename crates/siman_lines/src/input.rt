@@ -11,12 +11,15 @@ pub struct Ready {
     pub text: bool,
     /// Datagrams may have come to the link.
     pub datagrams: bool,
+    /// Microseconds since 1970 by the system's clock.
+    pub time: u64,
 }
 
 /// A text that comes piece by piece while a link is served.
 pub trait Input<L>: Read {
-    /// Waits until there is something to read of the text or to receive from the link, and returns
-    /// which. It may return earlier, with neither.
-    fn wait(&mut self, line: &L) -> Ready
+    /// Waits until there is something to read of the text or to receive from the link, or, where
+    /// `until` is given, until the system's clock shows that many microseconds since 1970. Returns
+    /// what is ready, and the time. It may return earlier, with neither.
+    fn wait(&mut self, line: &L, until: Option<u64>) -> Ready
         ensures { Self.remaining self.new ≡ Self.remaining self.old };
 }

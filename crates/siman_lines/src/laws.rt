@@ -18,9 +18,10 @@ ghost use Rattle.siman_lines.specs.AtLines.{Telling, AtLines, Follows, AreFresh,
 ghost use Rattle.siman_lines.specs.Calls.{IsFresh, Stations, HasStation, AreAll, AreBegun, AreCalls, AreKept, IsBeginningOf, ComesOfCalls};
 
 /// The invariant of stations over one recorder holds in their initial state, and after every list
-/// of calls of [`serve`](crate::serve), [`issue`](crate::issue), [`nudge`](crate::nudge) and
-/// [`tell`](crate::tell), with faults too. The clause `keeps` of these four is what the law
-/// requires of a call.
+/// of calls of [`serve_stamped`](crate::serve_stamped), [`issue_stamped`](crate::issue_stamped),
+/// [`nudge_stamped`](crate::nudge_stamped) and [`tell`](crate::tell), at any moments, with faults
+/// too, and so of [`serve`](crate::serve), [`issue`](crate::issue) and [`nudge`](crate::nudge). The
+/// clause `keeps` of these calls is what the law requires of a call.
 pub fn calls_are_kept()
     // A recorder that has begun has written the head of a recording,
     ensures started { (before : Option (List ℕ)) (w : SettingData) (recorder : WriterState) → IsSetting w → Starts before w recorder → IsWritten before recorder [] }
@@ -58,9 +59,11 @@ pub fn what_is_kept_stands()
 {}
 
 /// All stations of a recording over one recorder, from its start on, after every list of calls of
-/// [`serve`](crate::serve), [`issue`](crate::issue), [`nudge`](crate::nudge) and
-/// [`tell`](crate::tell), with faults too: if each received datagram that is not other was sent
-/// before, the entries that are written whole are a run in the order of the file.
+/// [`serve_stamped`](crate::serve_stamped), [`issue_stamped`](crate::issue_stamped),
+/// [`nudge_stamped`](crate::nudge_stamped) and [`tell`](crate::tell), at any moments, with faults
+/// too, and so of [`serve`](crate::serve), [`issue`](crate::issue) and [`nudge`](crate::nudge): if
+/// each received datagram that is not other was sent before, the entries that are written whole are
+/// a run in the order of the file.
 pub fn calls_make_a_run()
     ensures { (before : Option (List ℕ)) (w : SettingData) (stations calls : List ℕ) (old new : Stations) → AreBegun before w stations old
         → AllByRecursion (λ s. HasStation s stations) calls → AreCalls calls old new → ComesOfCalls before w stations new }

@@ -8,13 +8,13 @@ ghost use Rattle.siman_lines.specs.KeptAtLine.{Keeps};
 
 use crate::fault::{AtLineFault, IssueFault, ServeFault};
 use crate::line::Line;
-use crate::ordering::{issue, nudge};
-use crate::serving::serve;
+use crate::ordering::{issue_stamped, nudge_stamped};
+use crate::serving::serve_stamped;
 use crate::telling::tell;
 use exercise_model::is_entity;
 use exercise_recording::RecordingWriter;
 use siman_manager::{Order, OrderFault};
-use siman_stations::{Node, StationFault};
+use siman_stations::{Moment, Node, StationFault};
 use std::alloc::{AllocError, Global};
 use std::io::Write;
 
@@ -79,18 +79,18 @@ pub fn stations_at_lines<L: Line + Drop>(
     Ok(stations)
 }
 
-/// Records and sends a new order, as [`issue`] does. Refuses an order that is no request.
+/// Records and sends a new order, as [`issue_stamped`] does. Refuses an order that is no request.
 pub fn order_at<L: Line + Drop, W: Write>(
     alloc: Global,
     station: &mut StationAtLine<L>,
     recorder: &mut RecordingWriter<'_, W>,
-    now: u64,
+    moment: Moment,
     order: Order,
 ) -> Result<(), AtLineFault>
     ensures ends { let told : Telling L = record { received = L.received; sent = L.sent; failures = L.failures; passed = L.passed } in
-        OrdersAt told now order station.old recorder.old station.new recorder.new result }
-    ensures made { OnOk result (order_fault station.old.node.manager now order ≡ None) }
-    ensures fault { IfErr result (Hinders (order_fault station.old.node.manager now order)) }
+        OrdersAt told moment order station.old recorder.old station.new recorder.new result }
+    ensures made { OnOk result (order_fault station.old.node.manager moment.stamp order ≡ None) }
+    ensures fault { IfErr result (Hinders (order_fault station.old.node.manager moment.stamp order)) }
     ensures refused { let told : Telling L = record { received = L.received; sent = L.sent; failures = L.failures; passed = L.passed } in
         IfErr result (LeavesRefused told station.old recorder.old station.new recorder.new) }
     ensures index { station.new.index ≡ station.old.index }
@@ -107,7 +107,7 @@ pub fn order_at<L: Line + Drop, W: Write>(
         line,
         ..
     } = station;
-    match issue(alloc, line, node, recorder, *index, order, now) {
+    match issue_stamped(alloc, line, node, recorder, *index, order, moment) {
         Ok(_) => Ok(()),
         Err(IssueFault::Order(OrderFault::Memory) | IssueFault::Memory) => Err(AtLineFault::Memory),
         Err(IssueFault::Order(fault)) => Err(AtLineFault::Station(StationFault::Order(fault))),
@@ -116,15 +116,15 @@ pub fn order_at<L: Line + Drop, W: Write>(
     }
 }
 
-/// Records and sends the repeat that is due, if any, as [`nudge`] does.
+/// Records and sends the repeat that is due, if any, as [`nudge_stamped`] does.
 pub fn repeat_at<L: Line + Drop, W: Write>(
     alloc: Global,
     station: &mut StationAtLine<L>,
     recorder: &mut RecordingWriter<'_, W>,
-    now: u64,
+    moment: Moment,
 ) -> Result<(), AtLineFault>
     ensures ends { let told : Telling L = record { received = L.received; sent = L.sent; failures = L.failures; passed = L.passed } in
-        RepeatsAt told now station.old recorder.old station.new recorder.new result }
+        RepeatsAt told moment station.old recorder.old station.new recorder.new result }
     ensures fault { IfErr result (Hinders None) }
     ensures index { station.new.index ≡ station.old.index }
     ensures counts { KeepsCounts station.old station.new }
@@ -137,7 +137,7 @@ pub fn repeat_at<L: Line + Drop, W: Write>(
         line,
         ..
     } = station;
-    match nudge(alloc, line, node, recorder, *index, now) {
+    match nudge_stamped(alloc, line, node, recorder, *index, moment) {
         Ok(_) => Ok(()),
         Err(IssueFault::Order(_) | IssueFault::Memory) => Err(AtLineFault::Memory),
         Err(IssueFault::Send) => Err(AtLineFault::Line),
@@ -168,16 +168,16 @@ pub fn tell_at<L: Line + Drop, W: Write>(
     }
 }
 
-/// Serves a station once, with at most `turns` receives, as [`serve`] does.
+/// Serves a station once, with at most `turns` receives, as [`serve_stamped`] does.
 fn serve_at<L: Line + Drop, W: Write>(
     alloc: Global,
     station: &mut StationAtLine<L>,
     recorder: &mut RecordingWriter<'_, W>,
-    now: u64,
+    moment: Moment,
     turns: u32,
 ) -> Result<(), AtLineFault>
     ensures ends { let told : Telling L = record { received = L.received; sent = L.sent; failures = L.failures; passed = L.passed } in
-        ServesAt told now turns station.old recorder.old station.new recorder.new result }
+        ServesAt told moment turns station.old recorder.old station.new recorder.new result }
     ensures fault { IfErr result (Hinders None) }
     ensures keeps { Keeps station.old.index station.old.node recorder.old (L.sent station.old.line) station.new.node recorder.new (L.sent station.new.line) }
 {
@@ -189,7 +189,7 @@ fn serve_at<L: Line + Drop, W: Write>(
         busy,
     } = station;
     let met = line.passed();
-    match serve(alloc, line, node, recorder, *index, now, turns) {
+    match serve_stamped(alloc, line, node, recorder, *index, moment, turns) {
         Ok(served) => {
             *dropped = dropped.saturating_add(u64::from(served.dropped));
             *busy = served.is_busy(line.passed().differs_from(met));
@@ -206,13 +206,13 @@ fn serve_round<L: Line + Drop, W: Write>(
     alloc: Global,
     stations: &mut Vec<StationAtLine<L>>,
     recorder: &mut RecordingWriter<'_, W>,
-    now: u64,
+    moment: Moment,
     turns: u32,
 ) -> Result<(), AtLineFault>
     ensures ends { let told : Telling L = record { received = L.received; sent = L.sent; failures = L.failures; passed = L.passed } in
         let old : AtLines L = record { stations = stations.old.items; recorder = recorder.old } in
         let new : AtLines L = record { stations = stations.new.items; recorder = recorder.new } in
-        RoundEnds told now turns old new result }
+        RoundEnds told moment turns old new result }
     ensures fault { IfErr result (Hinders None) }
     ensures follows { let told : Telling L = record { received = L.received; sent = L.sent; failures = L.failures; passed = L.passed } in
         let old : AtLines L = record { stations = stations.old.items; recorder = recorder.old } in
@@ -220,25 +220,25 @@ fn serve_round<L: Line + Drop, W: Write>(
         Follows told old new }
 {
     for number in 0..stations.len() {
-        serve_at(alloc, &mut stations[number], recorder, now, turns)?;
+        serve_at(alloc, &mut stations[number], recorder, moment, turns)?;
     }
     Ok(())
 }
 
 /// Serves stations in `rounds` rounds, in each of them every station once, in their order, with at
-/// most `turns` receives each, as [`serve`] does.
+/// most `turns` receives each, as [`serve_stamped`] does.
 pub fn serve_rounds<L: Line + Drop, W: Write>(
     alloc: Global,
     stations: &mut Vec<StationAtLine<L>>,
     recorder: &mut RecordingWriter<'_, W>,
-    now: u64,
+    moment: Moment,
     rounds: u32,
     turns: u32,
 ) -> Result<(), AtLineFault>
     ensures ends { let told : Telling L = record { received = L.received; sent = L.sent; failures = L.failures; passed = L.passed } in
         let old : AtLines L = record { stations = stations.old.items; recorder = recorder.old } in
         let new : AtLines L = record { stations = stations.new.items; recorder = recorder.new } in
-        RoundsEnd told now rounds turns old new result }
+        RoundsEnd told moment rounds turns old new result }
     ensures fault { IfErr result (Hinders None) }
     // All that changed follows from calls at these stations, with a fault too.
     ensures follows { let told : Telling L = record { received = L.received; sent = L.sent; failures = L.failures; passed = L.passed } in
@@ -247,7 +247,7 @@ pub fn serve_rounds<L: Line + Drop, W: Write>(
         Follows told old new }
 {
     for _ in 0..rounds {
-        serve_round(alloc, stations, recorder, now, turns)?;
+        serve_round(alloc, stations, recorder, moment, turns)?;
     }
     Ok(())
 }

@@ -1,6 +1,7 @@
 pub mod NotedLemmas
 pub mod NoteRows
 pub mod ReadyPlaces
+pub mod EarliestTimes
 pub mod Lines
 pub mod Flushed
 pub mod Prints

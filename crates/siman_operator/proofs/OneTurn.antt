@@ -14,6 +14,7 @@ use Rattle.exercise_recording.specs.declared.fault.WriterFault.{WriterFault}
 use Rattle.exercise_recording.specs.Writer.{WriterState}
 use Rattle.siman_application.specs.Application.{came}
 use Rattle.siman_application.specs.AppProfile.{AppProfile}
+use Rattle.siman_stations.specs.declared.moment.Moment.{Moment}
 use Rattle.siman_stations.specs.Recording.{WritesOne, WritesNone}
 use Rattle.siman_stations.specs.declared.turn.TurnFault.{TurnFault}
 use Rattle.siman_stations.specs.declared.turn.TurnFault.TheVariants as turn_faults
@@ -26,7 +27,7 @@ use Rattle.siman_lines.specs.declared.station_at_line.StationAtLine.{StationAtLi
 use Rattle.siman_lines.specs.AtLines.{state_at}
 use Rattle.siman_lines.specs.KeptAtLine.{IsWritten}
 use Rattle.siman_lines.specs.LineDatagrams.{Datagrams, GrowsAll, MayGrow}
-use Rattle.siman_lines.specs.Serving.{State, HasServed, LosesSend, BreaksTurn, ServeEnds, reply_at, entries_after, text_of, texts_after, short_of, is_short}
+use Rattle.siman_lines.specs.Serving.{State, HasServed, LosesSend, BreaksTurn, ServeEndsAt, reply_at, entries_after, text_of, texts_after, short_of, is_short}
 use Rattle.siman_lines.proofs.Offered.{written_none, written_all, entries_stamped}
 use Rattle.siman_operator.specs.declared.tracing_line.TracingLine.{TracingLine}
 use Rattle.siman_operator.specs.Noted.{last_of}
@@ -87,39 +88,39 @@ both_good xs ys p q = rw (list_all-append, p, q) refl
 one_good : (s now : ℕ) (b : List ℕ) → now < 2 ^ 64 → list_all is_stamped (Received s now b ∷ []) ≡ true
 one_good s now b h = ap (λ (t : Bool). t && true) (stamped now h)
 
-wrote_by : (s now turns : ℕ) (old new : State) (result : Result Served ServeFault) → now < 2 ^ 64 → ServeEnds s now turns old new result
+wrote_by : (s : ℕ) (mo : Moment) (turns : ℕ) (old new : State) (result : Result Served ServeFault) → mo.now < 2 ^ 64 → ServeEndsAt s mo turns old new result
     → Wrote old.recorder new.recorder
-wrote_by s now turns old new (Ok served) h ends =
+wrote_by s mo turns old new (Ok served) h ends =
     let a = old.node.application.outfit in
     let ds = came old.node.application in
     record {
-      entries = entries_after a ds s now (short_of ends.datagrams);
-      good = entries_stamped s now a ds (short_of ends.datagrams) h;
+      entries = entries_after a ds s mo (short_of ends.datagrams);
+      good = entries_stamped s mo a ds (short_of ends.datagrams) h;
       mid = new.recorder;
       all = ends.done.taken.entries;
       tail = inl refl;
     }
-wrote_by s now turns old new (Err faults.Receive) h ends =
+wrote_by s mo turns old new (Err faults.Receive) h ends =
     let a = old.node.application.outfit in
     let ds = came old.node.application in
     record {
-      entries = entries_after a ds s now (short_of ends.datagrams);
-      good = entries_stamped s now a ds (short_of ends.datagrams) h;
+      entries = entries_after a ds s mo (short_of ends.datagrams);
+      good = entries_stamped s mo a ds (short_of ends.datagrams) h;
       mid = new.recorder;
       all = ends.done.taken.entries;
       tail = inl refl;
     }
-wrote_by s now turns old new (Err faults.Send) h ends =
+wrote_by s mo turns old new (Err faults.Send) h ends =
     let a = old.node.application.outfit in
     let ds = came old.node.application in
     record {
-      entries = entries_after a ds s now (ends.datagram ∷ short_of ends.earlier);
-      good = entries_stamped s now a ds (ends.datagram ∷ short_of ends.earlier) h;
+      entries = entries_after a ds s mo (ends.datagram ∷ short_of ends.earlier);
+      good = entries_stamped s mo a ds (ends.datagram ∷ short_of ends.earlier) h;
       mid = new.recorder;
       all = ends.taken.entries;
       tail = inl refl;
     }
-wrote_by s now turns old new (Err (faults.Record fault)) h ends = by ends.broken where
+wrote_by s mo turns old new (Err (faults.Record fault)) h ends = by ends.broken where
   a : AppProfile
   a = old.node.application.outfit
 
@@ -127,32 +128,32 @@ wrote_by s now turns old new (Err (faults.Record fault)) h ends = by ends.broken
   ds = came old.node.application
 
   first : List Entry
-  first = entries_after a ds s now (short_of ends.earlier)
+  first = entries_after a ds s mo (short_of ends.earlier)
 
-  by : FailsTurn WritesOne WritesNone s now ends.datagram (turn_faults.Record fault) ends.recorder new.recorder ends.node new.node → Wrote old.recorder new.recorder
+  by : FailsTurn WritesOne WritesNone s mo ends.datagram (turn_faults.Record fault) ends.recorder new.recorder ends.node new.node → Wrote old.recorder new.recorder
   by (inl u) = record {
     entries = first;
-    good = entries_stamped s now a ds (short_of ends.earlier) h;
+    good = entries_stamped s mo a ds (short_of ends.earlier) h;
     mid = ends.recorder;
     all = ends.taken.entries;
-    tail = inr (Received s now ends.datagram, fault, stamped now h, u.refused);
+    tail = inr (Received s mo.now ends.datagram, fault, stamped mo.now h, u.refused);
   }
   by (inr u) = record {
-    entries = first ++ Received s now ends.datagram ∷ [];
-    good = both_good first (Received s now ends.datagram ∷ []) (entries_stamped s now a ds (short_of ends.earlier) h) (one_good s now ends.datagram h);
+    entries = first ++ Received s mo.now ends.datagram ∷ [];
+    good = both_good first (Received s mo.now ends.datagram ∷ []) (entries_stamped s mo a ds (short_of ends.earlier) h) (one_good s mo.now ends.datagram h);
     mid = u.next;
-    all = records_then first (Received s now ends.datagram ∷ []) old.recorder ends.recorder u.next ends.taken.entries (u.next, u.received, refl);
-    tail = inr (Sent s now (pdu_text u.unsent.answer), fault, stamped now h, u.unsent.refused);
+    all = records_then first (Received s mo.now ends.datagram ∷ []) old.recorder ends.recorder u.next ends.taken.entries (u.next, u.received, refl);
+    tail = inr (Sent s mo.now (pdu_text u.unsent.answer), fault, stamped mo.now h, u.unsent.refused);
   }
-wrote_by s now turns old new (Err faults.Memory) h ends =
+wrote_by s mo turns old new (Err faults.Memory) h ends =
     let a = old.node.application.outfit in
     let ds = came old.node.application in
-    let first = entries_after a ds s now (short_of ends.earlier) in
+    let first = entries_after a ds s mo (short_of ends.earlier) in
     record {
-      entries = first ++ Received s now ends.datagram ∷ [];
-      good = both_good first (Received s now ends.datagram ∷ []) (entries_stamped s now a ds (short_of ends.earlier) h) (one_good s now ends.datagram h);
+      entries = first ++ Received s mo.now ends.datagram ∷ [];
+      good = both_good first (Received s mo.now ends.datagram ∷ []) (entries_stamped s mo a ds (short_of ends.earlier) h) (one_good s mo.now ends.datagram h);
       mid = new.recorder;
-      all = records_then first (Received s now ends.datagram ∷ []) old.recorder ends.recorder new.recorder ends.taken.entries ends.broken.0;
+      all = records_then first (Received s mo.now ends.datagram ∷ []) old.recorder ends.recorder new.recorder ends.taken.entries ends.broken.0;
       tail = inl refl;
     }
 
@@ -192,8 +193,8 @@ none_is [] b e = refl
 none_is (c ∷ us) b e = absurd (omega (arith, e))
 
 -- of the entries of one datagram that is taken, or of none
-abbrev TakenAs : (s now : ℕ) → AppProfile → List Pdu → Datagrams → (ps qs : Datagrams) → (w v : WriterState) → Type 0
-TakenAs s now a ds bs ps qs w v = RecordsAll WritesOne (entries_after a ds s now bs) w v × (qs ≡ ps ++ texts_after a ds now bs)
+abbrev TakenAs : (s : ℕ) → (mo : Moment) → AppProfile → List Pdu → Datagrams → (ps qs : Datagrams) → (w v : WriterState) → Type 0
+TakenAs s mo a ds bs ps qs w v = RecordsAll WritesOne (entries_after a ds s mo bs) w v × (qs ≡ ps ++ texts_after a ds mo.stamp bs)
 
 replied : (s now : ℕ) (os rs ps qs : Datagrams) (b : List ℕ) (o : Option Pdu) (w v : WriterState) → rs ≡ os ++ b ∷ []
     → RecordsAll WritesOne (Received s now b ∷ sent_as s now o) w v → qs ≡ ps ++ text_of o → Shape s now os rs ps qs w v
@@ -215,29 +216,29 @@ short_true b e = rw e refl
 short_false : (b : List ℕ) → is_short b ≡ false → short_of (b ∷ []) ≡ []
 short_false b e = rw e refl
 
-taken_one : (s now : ℕ) (a : AppProfile) (ds : List Pdu) (os rs ps qs : Datagrams) (b : List ℕ) (w v : WriterState) → rs ≡ os ++ b ∷ []
-    → TakenAs s now a ds (short_of (b ∷ [])) ps qs w v → Shape s now os rs ps qs w v
-taken_one s now a ds os rs ps qs b w v came taken = by (is_short b) refl where
-  by : (t : Bool) → is_short b ≡ t → Shape s now os rs ps qs w v
+taken_one : (s : ℕ) (mo : Moment) (a : AppProfile) (ds : List Pdu) (os rs ps qs : Datagrams) (b : List ℕ) (w v : WriterState) → rs ≡ os ++ b ∷ []
+    → TakenAs s mo a ds (short_of (b ∷ [])) ps qs w v → Shape s mo.now os rs ps qs w v
+taken_one s mo a ds os rs ps qs b w v came taken = by (is_short b) refl where
+  by : (t : Bool) → is_short b ≡ t → Shape s mo.now os rs ps qs w v
   by true e =
-      let is = subst (λ (bs : Datagrams). TakenAs s now a ds bs ps qs w v) (short_true b e) taken in
-      replied s now os rs ps qs b (reply_at a ds now [] b) w v came is.0 is.1
+      let is = subst (λ (bs : Datagrams). TakenAs s mo a ds bs ps qs w v) (short_true b e) taken in
+      replied s mo.now os rs ps qs b (reply_at a ds mo.stamp [] b) w v came is.0 is.1
   by false e =
-      let is = subst (λ (bs : Datagrams). TakenAs s now a ds bs ps qs w v) (short_false b e) taken in
+      let is = subst (λ (bs : Datagrams). TakenAs s mo a ds bs ps qs w v) (short_false b e) taken in
       inl (inl is.0)
 
-abbrev ShapeOf : {L : Type 0} → (now : ℕ) → (p q : StationAtLine (TracingLine L)) → (w v : WriterState) → Type 0
-ShapeOf now p q w v = Shape p.index now (datagrams_received p.line) (datagrams_received q.line) (datagrams_sent p.line) (datagrams_sent q.line) w v
+abbrev ShapeOf : {L : Type 0} → (mo : Moment) → (p q : StationAtLine (TracingLine L)) → (w v : WriterState) → Type 0
+ShapeOf mo p q w v = Shape p.index mo.now (datagrams_received p.line) (datagrams_received q.line) (datagrams_sent p.line) (datagrams_sent q.line) w v
 
-served_shape : {L : Type 0} (passed : L → PassedOver) (now : ℕ) (p q : StationAtLine (TracingLine L)) (w v : WriterState) (us : Datagrams)
-    → HasServed p.index now us (state_at (telling passed) p w) (state_at (telling passed) q v)
-    → length (datagrams_received q.line) ≡ length (datagrams_received p.line) + 1 → ShapeOf now p q w v
-served_shape passed now p q w v us done more =
+served_shape : {L : Type 0} (passed : L → PassedOver) (mo : Moment) (p q : StationAtLine (TracingLine L)) (w v : WriterState) (us : Datagrams)
+    → HasServed p.index mo us (state_at (telling passed) p w) (state_at (telling passed) q v)
+    → length (datagrams_received q.line) ≡ length (datagrams_received p.line) + 1 → ShapeOf mo p q w v
+served_shape passed mo p q w v us done more =
     let grown : datagrams_received q.line ≡ datagrams_received p.line ++ reverse us = done.received_are in
     let one = one_is us (one_came (datagrams_received p.line) (datagrams_received q.line) us grown more) in
-    taken_one p.index now p.node.application.outfit (came p.node.application) (datagrams_received p.line) (datagrams_received q.line) (datagrams_sent p.line)
+    taken_one p.index mo p.node.application.outfit (came p.node.application) (datagrams_received p.line) (datagrams_received q.line) (datagrams_sent p.line)
     (datagrams_sent q.line) one.0 w v (grown ∙ ap (λ (l : Datagrams). datagrams_received p.line ++ reverse l) one.1)
-    (subst (λ (l : Datagrams). TakenAs p.index now p.node.application.outfit (came p.node.application) (short_of l) (datagrams_sent p.line) (datagrams_sent q.line) w v)
+    (subst (λ (l : Datagrams). TakenAs p.index mo p.node.application.outfit (came p.node.application) (short_of l) (datagrams_sent p.line) (datagrams_sent q.line) w v)
     one.1 (done.taken.entries, done.sent_are))
 
 -- where the first of these came alone, nothing came before it
@@ -251,35 +252,35 @@ grows_none : (os : Datagrams) (o : Option Datagrams) → GrowsAll (Some os) o []
 grows_none os None g = absurd g
 grows_none os (Some rs) g = ap Some (g ∙ append-nil os)
 
-sent_shape : {L : Type 0} (passed : L → PassedOver) (now : ℕ) (p q : StationAtLine (TracingLine L)) (w v : WriterState)
-    → LosesSend p.index now (state_at (telling passed) p w) (state_at (telling passed) q v)
-    → length (datagrams_received q.line) ≡ length (datagrams_received p.line) + 1 → ShapeOf now p q w v
-sent_shape passed now p q w v l more =
+sent_shape : {L : Type 0} (passed : L → PassedOver) (mo : Moment) (p q : StationAtLine (TracingLine L)) (w v : WriterState)
+    → LosesSend p.index mo (state_at (telling passed) p w) (state_at (telling passed) q v)
+    → length (datagrams_received q.line) ≡ length (datagrams_received p.line) + 1 → ShapeOf mo p q w v
+sent_shape passed mo p q w v l more =
     let a = p.node.application.outfit in
     let ds = came p.node.application in
     let grown : datagrams_received q.line ≡ datagrams_received p.line ++ reverse (l.datagram ∷ l.earlier) = l.received_are in
     let none = alone (datagrams_received p.line) (datagrams_received q.line) l.earlier l.datagram grown more in
-    let due : reply_at a ds now [] l.datagram ≡ Some l.answer = subst (λ (us : Datagrams). reply_at a ds now (short_of us) l.datagram ≡ Some l.answer) none l.due in
-    let all : RecordsAll WritesOne (Received p.index now l.datagram ∷ sent_as p.index now (reply_at a ds now [] l.datagram)) w v =
-    subst (λ (us : Datagrams). RecordsAll WritesOne (entries_after a ds p.index now (l.datagram ∷ short_of us)) w v) none l.taken.entries in
-    let both : RecordsAll WritesOne (Received p.index now l.datagram ∷ Sent p.index now (pdu_text l.answer) ∷ []) w v =
-    subst (λ (o : Option Pdu). RecordsAll WritesOne (Received p.index now l.datagram ∷ sent_as p.index now o) w v) due all in
+    let due : reply_at a ds mo.stamp [] l.datagram ≡ Some l.answer = subst (λ (us : Datagrams). reply_at a ds mo.stamp (short_of us) l.datagram ≡ Some l.answer) none l.due in
+    let all : RecordsAll WritesOne (Received p.index mo.now l.datagram ∷ sent_as p.index mo.now (reply_at a ds mo.stamp [] l.datagram)) w v =
+    subst (λ (us : Datagrams). RecordsAll WritesOne (entries_after a ds p.index mo (l.datagram ∷ short_of us)) w v) none l.taken.entries in
+    let both : RecordsAll WritesOne (Received p.index mo.now l.datagram ∷ Sent p.index mo.now (pdu_text l.answer) ∷ []) w v =
+    subst (λ (o : Option Pdu). RecordsAll WritesOne (Received p.index mo.now l.datagram ∷ sent_as p.index mo.now o) w v) due all in
     let before : l.before ≡ Some (datagrams_sent p.line) =
-    grows_none (datagrams_sent p.line) l.before (subst (λ (us : Datagrams). GrowsAll (Some (datagrams_sent p.line)) l.before (texts_after a ds now (short_of us))) none l.sent_are) in
+    grows_none (datagrams_sent p.line) l.before (subst (λ (us : Datagrams). GrowsAll (Some (datagrams_sent p.line)) l.before (texts_after a ds mo.stamp (short_of us))) none l.sent_are) in
     inr (inr (record {
       datagram = l.datagram;
       came = came_alone (datagrams_received p.line) (datagrams_received q.line) l.earlier l.datagram grown none;
       mid = both.0;
       one = both.1;
       text = pdu_text l.answer;
-      two = subst (λ (u : WriterState). WritesOne both.0 (Sent p.index now (pdu_text l.answer)) u) (sym both.2.2) both.2.1;
+      two = subst (λ (u : WriterState). WritesOne both.0 (Sent p.index mo.now (pdu_text l.answer)) u) (sym both.2.2) both.2.1;
       goes = subst (λ (o : Option Datagrams). MayGrow o (Some (datagrams_sent q.line)) (pdu_text l.answer)) before l.may_be_sent;
     }))
 
-broken_shape : {L : Type 0} (passed : L → PassedOver) (now : ℕ) (p q : StationAtLine (TracingLine L)) (w v : WriterState) (fault : TurnFault WriterFault) → now < 2 ^ 64
-    → BreaksTurn p.index now fault (state_at (telling passed) p w) (state_at (telling passed) q v)
-    → length (datagrams_received q.line) ≡ length (datagrams_received p.line) + 1 → ShapeOf now p q w v
-broken_shape {L = L} passed now p q w v fault h l more = by fault (subst (λ (u : WriterState). FailsTurn WritesOne WritesNone p.index now l.datagram fault u v l.node q.node) at l.broken) where
+broken_shape : {L : Type 0} (passed : L → PassedOver) (mo : Moment) (p q : StationAtLine (TracingLine L)) (w v : WriterState) (fault : TurnFault WriterFault) → mo.now < 2 ^ 64
+    → BreaksTurn p.index mo fault (state_at (telling passed) p w) (state_at (telling passed) q v)
+    → length (datagrams_received q.line) ≡ length (datagrams_received p.line) + 1 → ShapeOf mo p q w v
+broken_shape {L = L} passed mo p q w v fault h l more = by fault (subst (λ (u : WriterState). FailsTurn WritesOne WritesNone p.index mo l.datagram fault u v l.node q.node) at l.broken) where
   a : AppProfile
   a = p.node.application.outfit
 
@@ -293,31 +294,31 @@ broken_shape {L = L} passed now p q w v fault h l more = by fault (subst (λ (u 
   none = alone (datagrams_received p.line) (datagrams_received q.line) l.earlier l.datagram grown more
 
   at : l.recorder ≡ w
-  at = subst (λ (us : Datagrams). RecordsAll WritesOne (entries_after a ds p.index now (short_of us)) w l.recorder) none l.taken.entries
+  at = subst (λ (us : Datagrams). RecordsAll WritesOne (entries_after a ds p.index mo (short_of us)) w l.recorder) none l.taken.entries
 
   there : datagrams_received q.line ≡ datagrams_received p.line ++ l.datagram ∷ []
   there = came_alone (datagrams_received p.line) (datagrams_received q.line) l.earlier l.datagram grown none
 
-  by : (f : TurnFault WriterFault) → FailsTurn WritesOne WritesNone p.index now l.datagram f w v l.node q.node → ShapeOf now p q w v
-  by (turn_faults.Record f) (inl u) = inl (inr (Received p.index now l.datagram, f, stamped now h, u.refused))
+  by : (f : TurnFault WriterFault) → FailsTurn WritesOne WritesNone p.index mo l.datagram f w v l.node q.node → ShapeOf mo p q w v
+  by (turn_faults.Record f) (inl u) = inl (inr (Received p.index mo.now l.datagram, f, stamped mo.now h, u.refused))
   by (turn_faults.Record f) (inr u) =
       inr (inl (record {
         datagram = l.datagram;
         came = there;
         mid = u.next;
         one = u.received;
-        tail = inr (Sent p.index now (pdu_text u.unsent.answer), f, stamped now h, u.unsent.refused);
+        tail = inr (Sent p.index mo.now (pdu_text u.unsent.answer), f, stamped mo.now h, u.unsent.refused);
       }))
   by turn_faults.Memory u = inr (inl (record { datagram = l.datagram; came = there; mid = u.0.0; one = u.0.1; tail = inl u.0.2 }))
 
-shape_by : {L : Type 0} (passed : L → PassedOver) (now : ℕ) (p q : StationAtLine (TracingLine L)) (w v : WriterState) (result : Result Served ServeFault) → now < 2 ^ 64
-    → ServeEnds p.index now 1 (state_at (telling passed) p w) (state_at (telling passed) q v) result
-    → length (datagrams_received q.line) ≡ length (datagrams_received p.line) + 1 → ShapeOf now p q w v
-shape_by passed now p q w v (Ok served) h ends more = served_shape passed now p q w v ends.datagrams ends.done more
-shape_by passed now p q w v (Err faults.Receive) h ends more = served_shape passed now p q w v ends.datagrams ends.done more
-shape_by passed now p q w v (Err faults.Send) h ends more = sent_shape passed now p q w v ends more
-shape_by passed now p q w v (Err (faults.Record fault)) h ends more = broken_shape passed now p q w v (turn_faults.Record fault) h ends more
-shape_by passed now p q w v (Err faults.Memory) h ends more = broken_shape passed now p q w v turn_faults.Memory h ends more
+shape_by : {L : Type 0} (passed : L → PassedOver) (mo : Moment) (p q : StationAtLine (TracingLine L)) (w v : WriterState) (result : Result Served ServeFault) → mo.now < 2 ^ 64
+    → ServeEndsAt p.index mo 1 (state_at (telling passed) p w) (state_at (telling passed) q v) result
+    → length (datagrams_received q.line) ≡ length (datagrams_received p.line) + 1 → ShapeOf mo p q w v
+shape_by passed mo p q w v (Ok served) h ends more = served_shape passed mo p q w v ends.datagrams ends.done more
+shape_by passed mo p q w v (Err faults.Receive) h ends more = served_shape passed mo p q w v ends.datagrams ends.done more
+shape_by passed mo p q w v (Err faults.Send) h ends more = sent_shape passed mo p q w v ends more
+shape_by passed mo p q w v (Err (faults.Record fault)) h ends more = broken_shape passed mo p q w v (turn_faults.Record fault) h ends more
+shape_by passed mo p q w v (Err faults.Memory) h ends more = broken_shape passed mo p q w v turn_faults.Memory h ends more
 
 -- What is printed of it.
 
@@ -336,24 +337,24 @@ heard_rows s i now os rs b old new index came rows =
     subst (λ (c : List ℕ). PrintsEntry (Received s now c) old new) (ap last_of came ∙ last_more os b)
     (subst (λ (j : ℕ). PrintsEntry (Received j now (last_of rs)) old new) index rows)
 
-shape_prints : {L : Type 0} (now : ℕ) (p q : StationAtLine (TracingLine L)) (w v : WriterState) (old mid new : Printing) → now < 2 ^ 64 → q.index ≡ p.index
-    → ShapeOf now p q w v → (v.entries ≡ w.entries → ⊥) → PrintsEntry (Received q.index now (last_of (datagrams_received q.line))) old mid
-    → PrintsSent q v.entries now (w.entries + 1) (length (datagrams_sent p.line)) mid new → PrintsAll w v old new
-shape_prints now p q w v old mid new h index (inl tail) other line sent = absurd (other (tail_count w v tail))
-shape_prints now p q w v old mid new h index (inr (inl is)) other line sent =
+shape_prints : {L : Type 0} (mo : Moment) (p q : StationAtLine (TracingLine L)) (w v : WriterState) (old mid new : Printing) → mo.now < 2 ^ 64 → q.index ≡ p.index
+    → ShapeOf mo p q w v → (v.entries ≡ w.entries → ⊥) → PrintsEntry (Received q.index mo.now (last_of (datagrams_received q.line))) old mid
+    → PrintsSent q v.entries mo.now (w.entries + 1) (length (datagrams_sent p.line)) mid new → PrintsAll w v old new
+shape_prints mo p q w v old mid new h index (inl tail) other line sent = absurd (other (tail_count w v tail))
+shape_prints mo p q w v old mid new h index (inr (inl is)) other line sent =
     let count = is.one.adds.entries in
     then_prints w is.mid v old mid new
-    (shows_one w is.mid (Received p.index now is.datagram) old mid (stamped now h) is.one
-    (heard_rows p.index q.index now (datagrams_received p.line) (datagrams_received q.line) is.datagram old mid index is.came line))
-    (unsent_prints now (length (datagrams_sent p.line)) q is.mid v mid new (tail_count is.mid v is.tail) (λ before es written. tail_written before is.mid v es is.tail written)
-    (subst (λ (k : ℕ). PrintsSent q v.entries now k (length (datagrams_sent p.line)) mid new) (sym count) sent))
-shape_prints now p q w v old mid new h index (inr (inr is)) other line sent =
+    (shows_one w is.mid (Received p.index mo.now is.datagram) old mid (stamped mo.now h) is.one
+    (heard_rows p.index q.index mo.now (datagrams_received p.line) (datagrams_received q.line) is.datagram old mid index is.came line))
+    (unsent_prints mo.now (length (datagrams_sent p.line)) q is.mid v mid new (tail_count is.mid v is.tail) (λ before es written. tail_written before is.mid v es is.tail written)
+    (subst (λ (k : ℕ). PrintsSent q v.entries mo.now k (length (datagrams_sent p.line)) mid new) (sym count) sent))
+shape_prints mo p q w v old mid new h index (inr (inr is)) other line sent =
     let count = is.one.adds.entries in
     then_prints w is.mid v old mid new
-    (shows_one w is.mid (Received p.index now is.datagram) old mid (stamped now h) is.one
-    (heard_rows p.index q.index now (datagrams_received p.line) (datagrams_received q.line) is.datagram old mid index is.came line))
-    (sent_prints now p q is.mid v is.text mid new h index is.two is.goes
-    (subst (λ (k : ℕ). PrintsSent q v.entries now k (length (datagrams_sent p.line)) mid new) (sym count) sent))
+    (shows_one w is.mid (Received p.index mo.now is.datagram) old mid (stamped mo.now h) is.one
+    (heard_rows p.index q.index mo.now (datagrams_received p.line) (datagrams_received q.line) is.datagram old mid index is.came line))
+    (sent_prints mo.now p q is.mid v is.text mid new h index is.two is.goes
+    (subst (λ (k : ℕ). PrintsSent q v.entries mo.now k (length (datagrams_sent p.line)) mid new) (sym count) sent))
 
 one_more_is : (a b : ℕ) → (a - b == 1) ≡ true → a ≡ b + 1
 one_more_is a b e = grind (arith, nat_tests)
@@ -370,38 +371,38 @@ HeardPrints now p q w v old new =
     (mid : Printing) × PrintsEntry (Received q.index now (last_of (datagrams_received q.line))) old mid
     × PrintsSent q v.entries now (w.entries + 1) (length (datagrams_sent p.line)) mid new
 
-pub turn_prints : {L : Type 0} (passed : L → PassedOver) (now : ℕ) (p q : StationAtLine (TracingLine L)) (w v : WriterState) (result : Result Served ServeFault)
-    (old new : Printing) → now < 2 ^ 64 → q.index ≡ p.index
-    → ServeEnds p.index now 1 (state_at (telling passed) p w) (state_at (telling passed) q v) result
-    → PrintsTurn q v.entries now w.entries (length (datagrams_received p.line)) (length (datagrams_sent p.line)) old new → PrintsAll w v old new
-turn_prints passed now p q w v result old new h index ends is = by (v.entries == w.entries) refl where
+pub turn_prints : {L : Type 0} (passed : L → PassedOver) (mo : Moment) (p q : StationAtLine (TracingLine L)) (w v : WriterState) (result : Result Served ServeFault)
+    (old new : Printing) → mo.now < 2 ^ 64 → q.index ≡ p.index
+    → ServeEndsAt p.index mo 1 (state_at (telling passed) p w) (state_at (telling passed) q v) result
+    → PrintsTurn q v.entries mo.now w.entries (length (datagrams_received p.line)) (length (datagrams_sent p.line)) old new → PrintsAll w v old new
+turn_prints passed mo p q w v result old new h index ends is = by (v.entries == w.entries) refl where
   wrote : Wrote w v
-  wrote = wrote_by p.index now 1 (state_at (telling passed) p w) (state_at (telling passed) q v) result h ends
+  wrote = wrote_by p.index mo 1 (state_at (telling passed) p w) (state_at (telling passed) q v) result h ends
 
-  rest : (v.entries == w.entries) ≡ false → MatchBool (length (datagrams_received q.line) - length (datagrams_received p.line) == 1) (HeardPrints now p q w v old new) (StopsPrinting old new)
+  rest : (v.entries == w.entries) ≡ false → MatchBool (length (datagrams_received q.line) - length (datagrams_received p.line) == 1) (HeardPrints mo.now p q w v old new) (StopsPrinting old new)
   rest differs =
       by_false (PrintsNothing old new)
-      (MatchBool (length (datagrams_received q.line) - length (datagrams_received p.line) == 1) (HeardPrints now p q w v old new) (StopsPrinting old new))
+      (MatchBool (length (datagrams_received q.line) - length (datagrams_received p.line) == 1) (HeardPrints mo.now p q w v old new) (StopsPrinting old new))
       (v.entries == w.entries) differs is
 
   other : (t : Bool) → (length (datagrams_received q.line) - length (datagrams_received p.line) == 1) ≡ t → (v.entries == w.entries) ≡ false → PrintsAll w v old new
   other true one differs =
-      let prints = by_true (HeardPrints now p q w v old new) (StopsPrinting old new) (length (datagrams_received q.line) - length (datagrams_received p.line) == 1) one (rest differs) in
-      shape_prints now p q w v old prints.0 new h index
-      (shape_by passed now p q w v result h ends (one_more_is (length (datagrams_received q.line)) (length (datagrams_received p.line)) one))
+      let prints = by_true (HeardPrints mo.now p q w v old new) (StopsPrinting old new) (length (datagrams_received q.line) - length (datagrams_received p.line) == 1) one (rest differs) in
+      shape_prints mo p q w v old prints.0 new h index
+      (shape_by passed mo p q w v result h ends (one_more_is (length (datagrams_received q.line)) (length (datagrams_received p.line)) one))
       (other_is v.entries w.entries differs) prints.1 prints.2
   other false none differs = λ before start es written printed. (
     wrote.entries,
     wrote_written before w v es wrote written,
     falls_silent start es wrote.entries old new printed
-        (by_false (HeardPrints now p q w v old new) (StopsPrinting old new) (length (datagrams_received q.line) - length (datagrams_received p.line) == 1) none (rest differs)),
+        (by_false (HeardPrints mo.now p q w v old new) (StopsPrinting old new) (length (datagrams_received q.line) - length (datagrams_received p.line) == 1) none (rest differs)),
   )
 
   by : (t : Bool) → (v.entries == w.entries) ≡ t → PrintsAll w v old new
   by true same =
       quiet w v old new (λ before es written. wrote_none before w v es wrote (same_is v.entries w.entries same) written)
       (by_true (PrintsNothing old new)
-      (MatchBool (length (datagrams_received q.line) - length (datagrams_received p.line) == 1) (HeardPrints now p q w v old new) (StopsPrinting old new))
+      (MatchBool (length (datagrams_received q.line) - length (datagrams_received p.line) == 1) (HeardPrints mo.now p q w v old new) (StopsPrinting old new))
       (v.entries == w.entries) same is)
   by false differs = other (length (datagrams_received q.line) - length (datagrams_received p.line) == 1) refl differs
 

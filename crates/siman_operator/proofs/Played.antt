@@ -1,7 +1,7 @@
 -- The lines of a text that a post took so far.
 use Rattle.std.proofs.Common.{◌≡◌, ℕ, ◌+◌, ◌<◌, ◌≤◌, max, List, [], ◌∷◌, ◌++◌, length, take, refl, sym, ap, ◌∙◌, subst, arith, append_assoc, append-nil, take_all}
 use Rattle.std.proofs.lemmas.List.{length-take}
-use Rattle.std.specs.Prelude.{Option, Some, None, Ok, Err, true, false}
+use Rattle.std.specs.Prelude.{Bool, Option, Some, None, Ok, Err, true, false}
 use Rattle.std.specs.Io.KnownBytes.{Keeps}
 use Rattle.std.proofs.KnownBytes.{Appends-nil, Appends-kept}
 use Rattle.dis_records.specs.declared.address.SiteApplication.{SiteApplication}
@@ -9,7 +9,7 @@ use Rattle.byte_files.specs.Writing.{Writes, WritesPart}
 use Rattle.byte_files.proofs.Offered.{writes_part, writes_then}
 use Rattle.siman_lines.specs.AtLines.{Telling}
 use Rattle.siman_operator.specs.declared.tracing_line.TracingLine.{TracingLine}
-use Rattle.siman_operator.specs.Deeds.{PostData}
+use Rattle.siman_operator.specs.Deeds.{PostData, at_time, ticks_at}
 use Rattle.siman_operator.specs.Posts.{TakesLine, is_over}
 use Rattle.siman_scripts.specs.declared.command.Command.{Command}
 use Rattle.siman_operator.specs.declared.reading.TheConstants.{LONGEST_LINE}
@@ -20,10 +20,12 @@ use Rattle.siman_operator.specs.Came.{status_of, result_of}
 use Rattle.byte_files.specs.Lines.{ReadsLines, HoldsLine, AreFirstLines}
 use Rattle.siman_operator.specs.declared.coming.Coming.{Coming}
 use Rattle.siman_operator.specs.declared.coming.Coming.TheVariants as comings
-use Rattle.siman_operator.specs.Coming.{HasBegun, Comes, GoesOnBy, size_of, number_by}
+use Rattle.siman_operator.specs.Coming.{HasBegun, Comes, GoesOnBy, size_of, number_by, is_tick}
 use Rattle.siman_operator.proofs.Begun.{nothing_begun}
+use Rattle.siman_operator.specs.Reading.{said_by}
+use Rattle.siman_operator.specs.Reason.{Reasons}
 use Rattle.siman_operator.specs.Receiver.{WarnsOf}
-use Rattle.siman_operator.specs.Sessions.{Taken, TakesOne, TakesAll, line_of, lines_in, number_after, told_from, worst_of, MayGoOn, quit_line, PlaysLines}
+use Rattle.siman_operator.specs.Sessions.{Taken, print_stop_at, command_taken, TakesOne, TakesAll, line_of, lines_in, number_after, told_from, worst_of, MayGoOn, quit_line, PlaysLines}
 use Rattle.siman_operator.specs.Told.{Wrote, WritesMore}
 use Rattle.siman_operator.proofs.Reasons.{reasons_held}
 use Rattle.siman_operator.proofs.SessionLines.{reads-none, reads-more, all_lines, first_lines, said_by-held}
@@ -128,47 +130,80 @@ pub record Steps (b c : Option (List ℕ)) (buffer buffer_after : List ℕ) (hel
   pub goes : GoesOnBy b c buffer buffer_after held held_after (Some coming)
 
 -- what is taken of what comes
-abbrev pub taken_by : {b c : Option (List ℕ)} {buffer : List ℕ} {held : ℕ} → {coming : Coming} → Arrives b c buffer held coming → Came → Taken
-taken_by {coming = comings.Datagrams} at came = record { line = []; typed = false; came = came }
-taken_by {coming = comings.Line size} at came = record { line = at.comes.0.line; typed = true; came = came }
-taken_by {coming = comings.End} at came = record { line = []; typed = false; came = came }
+abbrev pub taken_by : {b c : Option (List ℕ)} {buffer : List ℕ} {held : ℕ} → {coming : Coming} → Arrives b c buffer held coming → (time : ℕ) → Came → Taken
+taken_by {coming = comings.Tick} at time came = record { line = []; typed = false; ticks = true; time = time; came = came }
+taken_by {coming = comings.Datagrams} at time came = record { line = []; typed = false; ticks = false; time = time; came = came }
+taken_by {coming = comings.Line size} at time came = record { line = at.comes.0.line; typed = true; ticks = false; time = time; came = came }
+taken_by {coming = comings.End} at time came = record { line = []; typed = false; ticks = false; time = time; came = came }
 
 -- as far as the text was read
 abbrev rest_by : (b c : Option (List ℕ)) → Coming → Option (List ℕ)
+rest_by b c comings.Tick = b
 rest_by b c comings.Datagrams = b
 rest_by b c (comings.Line size) = c
 rest_by b c comings.End = b
 
-read_by : {b c : Option (List ℕ)} {buffer : List ℕ} {held : ℕ} {coming : Coming} (a : Option (List ℕ)) (lines : List (List ℕ)) (at : Arrives b c buffer held coming) (came : Came)
-    → ReadsLines a b lines → ReadsLines a (rest_by b c coming) (lines ++ line_of (taken_by at came))
-read_by {b} {coming = comings.Datagrams} a lines at came read = subst (ReadsLines a b) (sym (append-nil lines)) read
-read_by {b} {c} {coming = comings.Line size} a lines at came read = reads-more a b c lines at.comes.0.line read at.comes.0.one at.comes.0.read
-read_by {b} {coming = comings.End} a lines at came read = subst (ReadsLines a b) (sym (append-nil lines)) read
+read_by : {b c : Option (List ℕ)} {buffer : List ℕ} {held : ℕ} {coming : Coming} (a : Option (List ℕ)) (lines : List (List ℕ)) (at : Arrives b c buffer held coming) (time : ℕ) (came : Came)
+    → ReadsLines a b lines → ReadsLines a (rest_by b c coming) (lines ++ line_of (taken_by at time came))
+read_by {b} {coming = comings.Tick} a lines at time came read = subst (ReadsLines a b) (sym (append-nil lines)) read
+read_by {b} {coming = comings.Datagrams} a lines at time came read = subst (ReadsLines a b) (sym (append-nil lines)) read
+read_by {b} {c} {coming = comings.Line size} a lines at time came read = reads-more a b c lines at.comes.0.line read at.comes.0.one at.comes.0.read
+read_by {b} {coming = comings.End} a lines at time came read = subst (ReadsLines a b) (sym (append-nil lines)) read
 
 begun_by : {b c : Option (List ℕ)} {buffer : List ℕ} {held : ℕ} {coming : Coming} {size : ℕ} → size_of coming ≡ Some size → Arrives b c buffer held coming
     → HasBegun (rest_by b c coming) c buffer held
+begun_by {coming = comings.Tick} is at = at.comes
 begun_by {coming = comings.Datagrams} is at = at.comes
 begun_by {c = c} {buffer = buffer} {coming = comings.Line size} is at = subst (λ (n : ℕ). HasBegun c c buffer n) (sym at.comes.1) (nothing_begun c buffer)
 begun_by {coming = comings.End} is at = absurd cc
 
-number_is : {b c : Option (List ℕ)} {buffer : List ℕ} {held : ℕ} {coming : Coming} (number : ℕ) (at : Arrives b c buffer held coming) (came : Came)
-    → number_by number coming ≡ number_after number (taken_by at came)
-number_is {coming = comings.Datagrams} number at came = refl
-number_is {coming = comings.Line size} number at came = refl
-number_is {coming = comings.End} number at came = refl
+number_is : {b c : Option (List ℕ)} {buffer : List ℕ} {held : ℕ} {coming : Coming} (number : ℕ) (at : Arrives b c buffer held coming) (time : ℕ) (came : Came)
+    → number_by number coming ≡ number_after number (taken_by at time came)
+number_is {coming = comings.Tick} number at time came = refl
+number_is {coming = comings.Datagrams} number at time came = refl
+number_is {coming = comings.Line size} number at time came = refl
+number_is {coming = comings.End} number at time came = refl
 
-came_is : {b c : Option (List ℕ)} {buffer : List ℕ} {held : ℕ} {coming : Coming} (at : Arrives b c buffer held coming) (came : Came) → (taken_by at came).came ≡ came
-came_is {coming = comings.Datagrams} at came = refl
-came_is {coming = comings.Line size} at came = refl
-came_is {coming = comings.End} at came = refl
+came_is : {b c : Option (List ℕ)} {buffer : List ℕ} {held : ℕ} {coming : Coming} (at : Arrives b c buffer held coming) (time : ℕ) (came : Came) → (taken_by at time came).came ≡ came
+came_is {coming = comings.Tick} at time came = refl
+came_is {coming = comings.Datagrams} at time came = refl
+came_is {coming = comings.Line size} at time came = refl
+came_is {coming = comings.End} at time came = refl
+
+-- WHAT WAS TAKEN of so much as is held
+pub record TakesHeld {L : Type 0} (stations : List SiteApplication) (told : Telling (TracingLine L)) (line : List ℕ) (ticks : Bool) (time : ℕ) (came : Came) (old new : PostData L) : Type 0 where
+  pub ticked : ticks ≡ ticks_at old
+  pub takes : TakesLine told (command_taken old.address ticks line) (at_time time old) new came.line
+  pub print_stop : came.print_stop ≡ print_stop_at old.fault new.fault
+  pub site : came.site ≡ old.address.site
+  pub application : came.application ≡ old.address.application
+  pub reason : Reasons line came.line.done came.reason
+  pub nobody : WarnsOf stations (said_by line) came.line.done came.nobody
+
+-- nothing is held of what is no line
+takes_none : {L : Type 0} {stations : List SiteApplication} {told : Telling (TracingLine L)} {old new : PostData L} {ticks : Bool} {time : ℕ} {came : Came}
+    → TakesHeld stations told [] ticks time came old new → TakesOne stations told (record { line = []; typed = false; ticks = ticks; time = time; came = came }) old new
+takes_none its = record {
+  untyped = λ e. refl;
+  own = λ e. refl;
+  ticks = its.ticked;
+  takes = its.takes;
+  print_stop = its.print_stop;
+  site = its.site;
+  application = its.application;
+  reason = its.reason;
+  nobody = its.nobody;
+}
 
 -- a line of which as much was taken as is held was taken
-takes_line : {L : Type 0} {stations : List SiteApplication} {told : Telling (TracingLine L)} {b c : Option (List ℕ)} {old new : PostData L} {buffer : List ℕ} {held : ℕ} {came : Came}
-    → length buffer ≡ LONGEST_LINE + 1 → (holds : HoldsLine b c buffer held) → TakesOne stations told (record { line = take held buffer; typed = true; came = came }) old new
-    → TakesOne stations told (record { line = holds.line; typed = true; came = came }) old new
-takes_line {stations = stations} {told = told} {old = old} {new = new} {came = came} size holds takes = record {
+takes_line : {L : Type 0} {stations : List SiteApplication} {told : Telling (TracingLine L)} {b c : Option (List ℕ)} {old new : PostData L} {buffer : List ℕ} {held time : ℕ} {came : Came}
+    → length buffer ≡ LONGEST_LINE + 1 → (holds : HoldsLine b c buffer held) → TakesHeld stations told (take held buffer) false time came old new
+    → TakesOne stations told (record { line = holds.line; typed = true; ticks = false; time = time; came = came }) old new
+takes_line {stations = stations} {told = told} {old = old} {new = new} {time = time} {came = came} size holds takes = record {
   untyped = λ e. absurd cc;
-  takes = subst (λ (said : Option Command). TakesLine told said old new came.line) (said_by-held size holds) takes.takes;
+  own = λ e. absurd cc;
+  ticks = takes.ticked;
+  takes = subst (λ (said : Option Command). TakesLine told said (at_time time old) new came.line) (said_by-held size holds) takes.takes;
   print_stop = takes.print_stop;
   site = takes.site;
   application = takes.application;
@@ -176,36 +211,30 @@ takes_line {stations = stations} {told = told} {old = old} {new = new} {came = c
   nobody = subst (λ (said : Option Command). WarnsOf stations said came.line.done came.nobody) (said_by-held size holds) takes.nobody;
 }
 
-takes_by : {L : Type 0} {stations : List SiteApplication} {told : Telling (TracingLine L)} {b c : Option (List ℕ)} {old new : PostData L} {buffer : List ℕ} {held : ℕ} {coming : Coming} {size : ℕ} {came : Came}
-    → size_of coming ≡ Some size → length buffer ≡ LONGEST_LINE + 1 → (at : Arrives b c buffer held coming) → TakesOne stations told (record { line = take size buffer; typed = true; came = came }) old new
-    → TakesOne stations told (taken_by at came) old new
-takes_by {stations = stations} {told = told} {old = old} {new = new} {buffer = buffer} {coming = comings.Datagrams} {size = size} {came = came} is fits at takes =
+takes_by : {L : Type 0} {stations : List SiteApplication} {told : Telling (TracingLine L)} {b c : Option (List ℕ)} {old new : PostData L} {buffer : List ℕ} {held : ℕ} {coming : Coming} {size time : ℕ} {came : Came}
+    → size_of coming ≡ Some size → length buffer ≡ LONGEST_LINE + 1 → (at : Arrives b c buffer held coming) → TakesHeld stations told (take size buffer) (is_tick coming) time came old new
+    → TakesOne stations told (taken_by at time came) old new
+takes_by {stations = stations} {told = told} {old = old} {new = new} {buffer = buffer} {coming = comings.Tick} {size = size} {time = time} {came = came} is fits at takes =
     let none : size ≡ 0 = cc in
-    let its = subst (λ (n : ℕ). TakesOne stations told (record { line = take n buffer; typed = true; came = came }) old new) none takes in
-    record {
-      untyped = λ e. refl;
-      takes = its.takes;
-      print_stop = its.print_stop;
-      site = its.site;
-      application = its.application;
-      reason = its.reason;
-      nobody = its.nobody;
-    }
-takes_by {stations = stations} {told = told} {old = old} {new = new} {buffer = buffer} {coming = comings.Line n} {size = size} {came = came} is fits at takes =
+    takes_none (subst (λ (n : ℕ). TakesHeld stations told (take n buffer) true time came old new) none takes)
+takes_by {stations = stations} {told = told} {old = old} {new = new} {buffer = buffer} {coming = comings.Datagrams} {size = size} {time = time} {came = came} is fits at takes =
+    let none : size ≡ 0 = cc in
+    takes_none (subst (λ (n : ℕ). TakesHeld stations told (take n buffer) false time came old new) none takes)
+takes_by {stations = stations} {told = told} {old = old} {new = new} {buffer = buffer} {coming = comings.Line n} {size = size} {time = time} {came = came} is fits at takes =
     let same : size ≡ n = cc in
-    takes_line fits at.comes.0 (subst (λ (n : ℕ). TakesOne stations told (record { line = take n buffer; typed = true; came = came }) old new) same takes)
+    takes_line fits at.comes.0 (subst (λ (n : ℕ). TakesHeld stations told (take n buffer) false time came old new) same takes)
 takes_by {coming = comings.End} is fits at takes = absurd cc
 
 -- one more step was taken
 stepped : {L : Type 0} {stations : List SiteApplication} {told : Telling (TracingLine L)} {a b c : Option (List ℕ)} {old now new : PostData L} {e f g : Option (List ℕ)} {number : ℕ} {so after : SessionReport}
-    {buffer : List ℕ} {held : ℕ} {coming : Coming} {size next : ℕ} {came : Came} → (before : SoFar stations told a b old now e f number so) → (at : Arrives b c buffer held coming)
-    → size_of coming ≡ Some size → next ≡ number_by number coming → length buffer ≡ LONGEST_LINE + 1 → TakesOne stations told (record { line = take size buffer; typed = true; came = came }) now new
+    {buffer : List ℕ} {held : ℕ} {coming : Coming} {size next time : ℕ} {came : Came} → (before : SoFar stations told a b old now e f number so) → (at : Arrives b c buffer held coming)
+    → size_of coming ≡ Some size → next ≡ number_by number coming → length buffer ≡ LONGEST_LINE + 1 → TakesHeld stations told (take size buffer) (is_tick coming) time came now new
     → after.status ≡ max so.status (status_of came) → WritesMore so.written after.written f g (result_of next came)
     → SoFar stations told a (rest_by b c coming) old new e g next after
-stepped {stations = stations} {told = told} {a = a} {b = b} {c = c} {f = f} {g = g} {number = number} {so = so} {after = after} {coming = coming} {next = next} {came = came} before at is count fits takes status tells =
-    let t = taken_by at came in
-    let its = came_is at came in
-    one_more (rest_by b c coming) t next before (count ∙ number_is number at came) (read_by a (lines_in before.taken) at came before.read)
+stepped {stations = stations} {told = told} {a = a} {b = b} {c = c} {f = f} {g = g} {number = number} {so = so} {after = after} {coming = coming} {next = next} {time = time} {came = came} before at is count fits takes status tells =
+    let t = taken_by at time came in
+    let its = came_is at time came in
+    one_more (rest_by b c coming) t next before (count ∙ number_is number at time came) (read_by a (lines_in before.taken) at time came before.read)
     (takes_by is fits at takes) (status ∙ ap (λ (k : Came). max so.status (status_of k)) (sym its))
     (subst (λ (k : Came). WritesMore so.written after.written f g (result_of next k)) (sym its) tells)
 
@@ -230,6 +259,7 @@ arrives before step = record { comes = step.goes before.rest before.begun }
 pub size_within : {L : Type 0} {stations : List SiteApplication} {told : Telling (TracingLine L)} {a b c : Option (List ℕ)} {old now : PostData L} {e f : Option (List ℕ)} {number : ℕ} {so : SessionReport}
     {buffer buffer_after : List ℕ} {held held_after : ℕ} {coming : Coming} {size : ℕ} → Going stations told a b old now e f number so buffer held
     → Steps b c buffer buffer_after held held_after coming → size_of coming ≡ Some size → size ≤ length buffer_after
+size_within {buffer_after = buffer_after} {coming = comings.Tick} {size = size} before step is = let none : size ≡ 0 = cc in omega (arith, none)
 size_within {buffer_after = buffer_after} {coming = comings.Datagrams} {size = size} before step is = let none : size ≡ 0 = cc in omega (arith, none)
 size_within {buffer_after = buffer_after} {coming = comings.Line n} {size = size} before step is =
     let same : size ≡ n = cc in
@@ -238,25 +268,26 @@ size_within {coming = comings.End} before step is = absurd cc
 
 -- one more step was taken, after which a further one may be
 pub going_on : {L : Type 0} {stations : List SiteApplication} {told : Telling (TracingLine L)} {a b c : Option (List ℕ)} {old now new : PostData L} {e f g : Option (List ℕ)} {number : ℕ} {so after : SessionReport}
-    {buffer buffer_after : List ℕ} {held held_after : ℕ} {coming : Coming} {size next : ℕ} {came : Came} → Going stations told a b old now e f number so buffer held
+    {buffer buffer_after : List ℕ} {held held_after : ℕ} {coming : Coming} {size next time : ℕ} {came : Came} → Going stations told a b old now e f number so buffer held
     → Steps b c buffer buffer_after held held_after coming → size_of coming ≡ Some size → next ≡ number_by number coming → length buffer_after ≡ LONGEST_LINE + 1
-    → TakesOne stations told (record { line = take size buffer_after; typed = true; came = came }) now new
+    → TakesHeld stations told (take size buffer_after) (is_tick coming) time came now new
     → after.status ≡ max so.status (status_of came) → WritesMore so.written after.written f g (result_of next came)
     → is_over came.line ≡ false → Going stations told a c old new e g next after buffer_after held_after
 unfolding stepped one_more
-going_on {c = c} {coming = coming} {came = came} before step is count fits takes status tells on =
+going_on {c = c} {coming = coming} {time = time} {came = came} before step is count fits takes status tells on =
     let at = arrives before step in
     record {
       rest = rest_by before.rest c coming;
       so_far = (
         stepped before.so_far.0 at is count fits takes status tells,
-        goes-push before.so_far.0.taken (taken_by at came) before.so_far.1 (ap (λ (k : Came). is_over k.line) (came_is at came) ∙ on),
+        goes-push before.so_far.0.taken (taken_by at time came) before.so_far.1 (ap (λ (k : Came). is_over k.line) (came_is at time came) ∙ on),
       );
       begun = begun_by is at;
     }
 
 -- no more lines than steps
 pub number_within : (number count : ℕ) (coming : Coming) → number ≤ count → number_by number coming ≤ count + 1
+number_within number count comings.Tick within = omega (arith, within)
 number_within number count comings.Datagrams within = omega (arith, within)
 number_within number count (comings.Line size) within = omega (arith, within)
 number_within number count comings.End within = omega (arith, within)
@@ -267,6 +298,7 @@ number_within number count comings.End within = omega (arith, within)
 pub all_played : {L : Type 0} {stations : List SiteApplication} {told : Telling (TracingLine L)} {a b c : Option (List ℕ)} {old now : PostData L} {e f : Option (List ℕ)} {number : ℕ} {so : SessionReport}
     {buffer buffer_after : List ℕ} {held held_after : ℕ} {coming : Coming} → Going stations told a b old now e f number so buffer held
     → Steps b c buffer buffer_after held held_after coming → size_of coming ≡ None → PlaysLines stations told a old now e f (record { told = so; stop = stops.End })
+all_played {coming = comings.Tick} before step none = absurd cc
 all_played {coming = comings.Datagrams} before step none = absurd cc
 all_played {coming = comings.Line size} before step none = absurd cc
 all_played {a = a} {coming = comings.End} before step none = record {
@@ -290,6 +322,9 @@ pub quit_played : {L : Type 0} {stations : List SiteApplication} {told : Telling
     {buffer buffer_after : List ℕ} {held held_after : ℕ} {coming : Coming} {size : ℕ} → Going stations told a b old now e f number so buffer held
     → Steps b c buffer buffer_after held held_after coming → size_of coming ≡ Some size → length buffer_after ≡ LONGEST_LINE + 1 → take size buffer_after ≡ quit_line
     → PlaysLines stations told a old now e f (record { told = so; stop = stops.Quit })
+quit_played {buffer_after = buffer_after} {coming = comings.Tick} {size = size} before step is fits said =
+    let none : size ≡ 0 = cc in
+    let nothing : [] ≡ quit_line = subst (λ (n : ℕ). take n buffer_after ≡ quit_line) none said in absurd cc
 quit_played {buffer_after = buffer_after} {coming = comings.Datagrams} {size = size} before step is fits said =
     let none : size ≡ 0 = cc in
     let nothing : [] ≡ quit_line = subst (λ (n : ℕ). take n buffer_after ≡ quit_line) none said in absurd cc
@@ -324,20 +359,20 @@ unread_played {a = a} before = record {
 
 -- at the last step an entry was not recorded
 pub over_played : {L : Type 0} {stations : List SiteApplication} {told : Telling (TracingLine L)} {a b c : Option (List ℕ)} {old now new : PostData L} {e f g : Option (List ℕ)} {number : ℕ} {so after : SessionReport}
-    {buffer buffer_after : List ℕ} {held held_after : ℕ} {coming : Coming} {size next : ℕ} {came : Came} → Going stations told a b old now e f number so buffer held
+    {buffer buffer_after : List ℕ} {held held_after : ℕ} {coming : Coming} {size next time : ℕ} {came : Came} → Going stations told a b old now e f number so buffer held
     → Steps b c buffer buffer_after held held_after coming → size_of coming ≡ Some size → next ≡ number_by number coming → length buffer_after ≡ LONGEST_LINE + 1
-    → TakesOne stations told (record { line = take size buffer_after; typed = true; came = came }) now new
+    → TakesHeld stations told (take size buffer_after) (is_tick coming) time came now new
     → after.status ≡ max so.status (status_of came) → WritesMore so.written after.written f g (result_of next came)
     → is_over came.line ≡ true → PlaysLines stations told a old new e g (record { told = after; stop = stops.Unrecorded })
 unfolding stepped one_more
-over_played {a = a} {c = c} {coming = coming} {came = came} before step is count fits takes status tells over =
+over_played {a = a} {c = c} {coming = coming} {time = time} {came = came} before step is count fits takes status tells over =
     let at = arrives before step in
     let whole = stepped before.so_far.0 at is count fits takes status tells in
     record {
       taken = whole.taken;
       takes = whole.takes;
       stops = (
-        (before.so_far.0.taken, taken_by at came, refl, before.so_far.1, ap (λ (k : Came). is_over k.line) (came_is at came) ∙ over),
+        (before.so_far.0.taken, taken_by at time came, refl, before.so_far.1, ap (λ (k : Came). is_over k.line) (came_is at time came) ∙ over),
         first_lines a (rest_by before.rest c coming) (lines_in whole.taken) whole.read,
       );
       status = whole.status;

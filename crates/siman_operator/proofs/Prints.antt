@@ -13,6 +13,7 @@ use Rattle.exercise_recording.specs.Writer.{WriterState}
 use Rattle.siman_application.specs.Application.{came}
 use Rattle.siman_application.specs.Play.{state_over}
 use Rattle.siman_manager.specs.declared.order.Order.{Order}
+use Rattle.siman_stations.specs.declared.moment.Moment.{Moment}
 use Rattle.siman_stations.specs.Recording.{WritesOne, WritesNone}
 use Rattle.siman_lines.specs.declared.line.PassedOver.{PassedOver}
 use Rattle.siman_lines.specs.declared.fault.AtLineFault.{AtLineFault}
@@ -142,36 +143,36 @@ resting : {L : Type 0} (now k : ℕ) (q : StationAtLine (TracingLine L)) (w v : 
     → v ≡ w → PrintsSent q v.entries now w.entries k old new → PrintsAll w v old new
 resting now k q w v old new e is = unsent_prints now k q w v old new (ap (λ (u : WriterState). u.entries) e) (still w v e) is
 
-pub order_prints : {L : Type 0} (passed : L → PassedOver) (now : ℕ) (order : Order) (p q : StationAtLine (TracingLine L)) (w v : WriterState)
-    (done : Result (Unit {0}) AtLineFault) (old new : Printing) → now < 2 ^ 64 → q.index ≡ p.index
-    → OrdersAt (telling passed) now order p w q v done → IfErr done (LeavesRefused (telling passed) p w q v)
-    → PrintsSent q v.entries now w.entries (length (datagrams_sent p.line)) old new → PrintsAll w v old new
-order_prints passed now order p q w v (Ok u) old new h index ends refused is =
-    sent_prints now p q w v _ old new h index ends.1.goes.entry (inl ends.1.goes.sent_are) is
-order_prints passed now order p q w v (Err (faults.Station fault)) old new h index ends refused is =
-    resting now _ q w v old new refused.1.recorder is
-order_prints passed now order p q w v (Err faults.Line) old new h index ends refused is =
-    sent_prints now p q w v _ old new h index ends.left.entry ends.left.may_be_sent is
-order_prints passed now order p q w v (Err (faults.Record fault)) old new h index ends refused is =
-    unwritten now _ q w v _ fault old new (stamped now h) ends.left.refused is
-order_prints passed now order p q w v (Err faults.Memory) old new h index (inl ends) refused is =
-    resting now _ q w v old new ends.1.recorder is
-order_prints passed now order p q w v (Err faults.Memory) old new h index (inr ends) refused is =
-    resting now _ q w v old new ends.2.recorder is
+pub order_prints : {L : Type 0} (passed : L → PassedOver) (at : Moment) (order : Order) (p q : StationAtLine (TracingLine L)) (w v : WriterState)
+    (done : Result (Unit {0}) AtLineFault) (old new : Printing) → at.now < 2 ^ 64 → q.index ≡ p.index
+    → OrdersAt (telling passed) at order p w q v done → IfErr done (LeavesRefused (telling passed) p w q v)
+    → PrintsSent q v.entries at.now w.entries (length (datagrams_sent p.line)) old new → PrintsAll w v old new
+order_prints passed at order p q w v (Ok u) old new h index ends refused is =
+    sent_prints at.now p q w v _ old new h index ends.1.goes.entry (inl ends.1.goes.sent_are) is
+order_prints passed at order p q w v (Err (faults.Station fault)) old new h index ends refused is =
+    resting at.now _ q w v old new refused.1.recorder is
+order_prints passed at order p q w v (Err faults.Line) old new h index ends refused is =
+    sent_prints at.now p q w v _ old new h index ends.left.entry ends.left.may_be_sent is
+order_prints passed at order p q w v (Err (faults.Record fault)) old new h index ends refused is =
+    unwritten at.now _ q w v _ fault old new (stamped at.now h) ends.left.refused is
+order_prints passed at order p q w v (Err faults.Memory) old new h index (inl ends) refused is =
+    resting at.now _ q w v old new ends.1.recorder is
+order_prints passed at order p q w v (Err faults.Memory) old new h index (inr ends) refused is =
+    resting at.now _ q w v old new ends.2.recorder is
 
-pub repeat_prints : {L : Type 0} (passed : L → PassedOver) (now : ℕ) (p q : StationAtLine (TracingLine L)) (w v : WriterState)
-    (done : Result (Unit {0}) AtLineFault) (old new : Printing) → now < 2 ^ 64 → q.index ≡ p.index
-    → RepeatsAt (telling passed) now p w q v done
-    → PrintsSent q v.entries now w.entries (length (datagrams_sent p.line)) old new → PrintsAll w v old new
-repeat_prints passed now p q w v (Ok u) old new h index (true, ends) is =
-    sent_prints now p q w v _ old new h index ends.1.goes.entry (inl ends.1.goes.sent_are) is
-repeat_prints passed now p q w v (Ok u) old new h index (false, ends) is = resting now _ q w v old new ends.2.recorder is
-repeat_prints passed now p q w v (Err (faults.Station fault)) old new h index ends is = absurd ends
-repeat_prints passed now p q w v (Err faults.Line) old new h index ends is =
-    sent_prints now p q w v _ old new h index ends.1.left.entry ends.1.left.may_be_sent is
-repeat_prints passed now p q w v (Err (faults.Record fault)) old new h index ends is =
-    unwritten now _ q w v _ fault old new (stamped now h) ends.1.left.refused is
-repeat_prints passed now p q w v (Err faults.Memory) old new h index ends is = resting now _ q w v old new ends.2.recorder is
+pub repeat_prints : {L : Type 0} (passed : L → PassedOver) (at : Moment) (p q : StationAtLine (TracingLine L)) (w v : WriterState)
+    (done : Result (Unit {0}) AtLineFault) (old new : Printing) → at.now < 2 ^ 64 → q.index ≡ p.index
+    → RepeatsAt (telling passed) at p w q v done
+    → PrintsSent q v.entries at.now w.entries (length (datagrams_sent p.line)) old new → PrintsAll w v old new
+repeat_prints passed at p q w v (Ok u) old new h index (true, ends) is =
+    sent_prints at.now p q w v _ old new h index ends.1.goes.entry (inl ends.1.goes.sent_are) is
+repeat_prints passed at p q w v (Ok u) old new h index (false, ends) is = resting at.now _ q w v old new ends.2.recorder is
+repeat_prints passed at p q w v (Err (faults.Station fault)) old new h index ends is = absurd ends
+repeat_prints passed at p q w v (Err faults.Line) old new h index ends is =
+    sent_prints at.now p q w v _ old new h index ends.1.left.entry ends.1.left.may_be_sent is
+repeat_prints passed at p q w v (Err (faults.Record fault)) old new h index ends is =
+    unwritten at.now _ q w v _ fault old new (stamped at.now h) ends.1.left.refused is
+repeat_prints passed at p q w v (Err faults.Memory) old new h index ends is = resting at.now _ q w v old new ends.2.recorder is
 
 -- the rows stay of one setting
 setting_of : (a b : PlainRecording) → a ≡ b → a.setting ≡ b.setting

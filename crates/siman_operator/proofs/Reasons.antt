@@ -26,6 +26,7 @@ reasons_long : (front line : List ℕ) (done : Result (Unit {0}) Rejection) (rea
 reasons_long front line (Ok x) reason held long told = told
 reasons_long front line (Err undone.BadLine) reason held long told = reason_long front line reason held long told
 reasons_long front line (Err undone.UnknownStation) reason held long told = told
+reasons_long front line (Err undone.SystemClock) reason held long told = told
 reasons_long front line (Err (undone.Station fault)) reason held long told = told
 reasons_long front line (Err undone.Line) reason held long told = told
 reasons_long front line (Err undone.Record) reason held long told = told

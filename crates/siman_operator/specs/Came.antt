@@ -12,7 +12,7 @@ use Rattle.siman_operator.specs.declared.printing.PrintFault.{PrintFault}
 use Rattle.siman_operator.specs.declared.printing.PrintFault.TheVariants as prints
 use Rattle.siman_operator.specs.Posts.{is_rejected, is_unremembered, is_over}
 use Rattle.siman_operator.specs.declared.came.Came.{Came}
-use Rattle.siman_operator.specs.Explanation.{bad_text, alone_text, station_text, lost_text}
+use Rattle.siman_operator.specs.Explanation.{bad_text, alone_text, system_clock_text, station_text, lost_text}
 use Rattle.siman_operator.specs.Receiver.{nobody_text}
 
 -- What failed.
@@ -73,6 +73,7 @@ result_line number name = at_line number ++ named name
 abbrev pub why_text : (number : ℕ) → Came → Rejection → List ℕ
 why_text number came undone.BadLine = result_line number (codes "bad-line") ++ bad_text came.reason
 why_text number came undone.UnknownStation = result_line number (codes "unknown-station") ++ alone_text came.site came.application
+why_text number came undone.SystemClock = result_line number (codes "system-clock") ++ system_clock_text
 why_text number came (undone.Station fault) = result_line number (station_fault_name fault) ++ station_text fault
 why_text number came undone.Line = []
 why_text number came undone.Record = []

@@ -1,11 +1,12 @@
 -- THE STATION OF A POST: its link logs what goes through it, and the rows of its entries are printed as they are
 -- recorded (profile).
-use Rattle.std.specs.Prelude.{◌≡◌, ℕ, ◌+◌, ◌-◌, ◌^◌, min, ◌==◌, List, length, Option, Some, Result, Ok, Err, ◌++◌}
+use Rattle.std.specs.Prelude.{◌≡◌, ℕ, ◌+◌, ◌-◌, ◌^◌, min, ◌==◌, Bool, ◌&&◌, List, length, Option, Some, Result, Ok, Err, ◌++◌}
 use Rattle.std.specs.Bool.{MatchBool}
 use Rattle.dis_records.specs.declared.address.SiteApplication.{SiteApplication}
 use Rattle.exercise_model.specs.Entry.{Entry, Sent, Received}
 use Rattle.exercise_model.specs.Recording.{PlainRecording}
 use Rattle.exercise_recording.specs.Writer.{WriterState}
+use Rattle.siman_stations.specs.declared.moment.Moment.{Moment}
 use Rattle.siman_stations.specs.declared.turn.Node.{Node}
 use Rattle.siman_lines.specs.declared.fault.ServeFault.{ServeFault}
 use Rattle.siman_lines.specs.declared.served.Served.{Served}
@@ -13,7 +14,9 @@ use Rattle.siman_lines.specs.declared.station_at_line.StationAtLine.{StationAtLi
 use Rattle.siman_lines.specs.AtLines.{Telling, state_at}
 use Rattle.siman_lines.specs.KeptAtLine.{IsWritten, IsKept}
 use Rattle.siman_lines.specs.LineDatagrams.{Datagrams}
-use Rattle.siman_lines.specs.Serving.{ServeEnds}
+use Rattle.siman_lines.specs.Serving.{ServeEndsAt}
+use Rattle.siman_operator.specs.Clocks.{clock_at, is_system, has_due}
+use Rattle.siman_operator.specs.declared.clock.ClockSource.{ClockSource}
 use Rattle.siman_operator.specs.declared.post.Post.{Post}
 use Rattle.siman_operator.specs.declared.printing.PrintFault.{PrintFault}
 use Rattle.siman_operator.specs.declared.tracing_line.TracingLine.{TracingLine}
@@ -63,38 +66,47 @@ abbrev pub dropped_after : ℕ → Result Served ServeFault → ℕ
 dropped_after n (Ok served) = min (n + served.dropped) (2 ^ 64 - 1)
 dropped_after n (Err fault) = n
 
--- THE STATION IS SERVED FOR ONE RECEIVE
-pub record ServesOnce {L : Type 0} (told : Telling L) (now : ℕ) (p : StationAtLine L) (w : WriterState) (q : StationAtLine L) (v : WriterState)
+-- THE STATION IS SERVED FOR ONE RECEIVE at this moment
+pub record ServesOnce {L : Type 0} (told : Telling L) (at : Moment) (p : StationAtLine L) (w : WriterState) (q : StationAtLine L) (v : WriterState)
     (result : Result Served ServeFault) : Type 0 where
-  pub ends : ServeEnds p.index now 1 (state_at told p w) (state_at told q v) result
+  pub ends : ServeEndsAt p.index at 1 (state_at told p w) (state_at told q v) result
   pub index : q.index ≡ p.index
   pub dropped : q.dropped ≡ dropped_after p.dropped result
   pub busy : q.busy ≡ p.busy
 
 -- A POST: its station, its recorder, the recording of the entries whose rows were made, why printing stopped, if it
--- has, its address and the time of its clock
+-- has, its address, its clock and what sets it
 pub record PostData (L : Type 0) : Type 0 where
   pub station : StationAtLine (TracingLine L)
   pub recorder : WriterState
   pub log : PlainRecording
   pub fault : Option PrintFault
   pub address : SiteApplication
-  pub clock : ℕ
+  pub clock : Moment
+  pub source : ClockSource
 
 -- what contracts see of a post
 abbrev pub data_of : {L W : Type 0} → Post L W → PostData L
-data_of p = record { station = p.station; recorder = p.recorder; log = p.printer.log; fault = p.printer.fault; address = p.address; clock = p.clock }
+data_of p = record { station = p.station; recorder = p.recorder; log = p.printer.log; fault = p.printer.fault; address = p.address; clock = p.clock; source = p.source }
 
 -- what a line asks of a session is answered; nothing is printed, if it asks nothing
 abbrev pub AnswersQuestion : {L : Type 0} → (passed : L → PassedOver) → Question → PostData L → (old new : Printing) → Type 0
 AnswersQuestion passed questions.Nothing p old new = PrintsNothing old new
 AnswersQuestion passed questions.Help p old new = MayNote help_rows old new
 AnswersQuestion passed questions.Status p old new =
-    (lost : Option ℕ) × MayNote (status_rows p.address p.station.node p.clock p.recorder.entries p.station.dropped (passed p.station.line.line) lost) old new
+    (lost : Option ℕ) × MayNote (status_rows p.address p.station.node p.clock.now p.recorder.entries p.station.dropped (passed p.station.line.line) lost) old new
 
--- neither the address nor the clock of a post changes
+-- neither the address of a post nor its clock changes
 abbrev pub IsAtSameTime : {L : Type 0} → (old new : PostData L) → Type 0
-IsAtSameTime old new = (new.address ≡ old.address) × (new.clock ≡ old.clock)
+IsAtSameTime old new = (new.address ≡ old.address) × (new.clock ≡ old.clock) × (new.source ≡ old.source)
+
+-- the post where something is taken, given what the system's clock shows
+abbrev pub at_time : {L : Type 0} → (time : ℕ) → PostData L → PostData L
+at_time time p = record p { clock = clock_at p.source time p.clock }
+
+-- WHETHER A POST TICKS BY ITSELF: an order is due by the system's clock
+abbrev pub ticks_at : {L : Type 0} → PostData L → Bool
+ticks_at p = is_system p.source && has_due p.station.node.manager p.clock.now
 
 -- the station of a post, with its recorder and its printing
 pub record PostState (L : Type 0) : Type 0 where

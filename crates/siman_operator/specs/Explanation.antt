@@ -29,6 +29,10 @@ alone_words site application = five (codes "this session plays station ") (decim
 abbrev pub alone_text : (site application : ℕ) → List ℕ
 alone_text site application = second (alone_words site application)
 
+-- no line sets the clock
+abbrev pub system_clock_text : List ℕ
+system_clock_text = second (codes "the clock is the system's (clock=system), and no line sets it")
+
 -- the remedy for a station fault, in words
 abbrev pub station_words : StationFault → List ℕ
 station_words stations.NoSuchEntity = codes "the number of an entity is from 1 to 65533"

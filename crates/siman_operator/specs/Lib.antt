@@ -2,6 +2,7 @@ pub mod Noted
 pub mod Noting
 pub mod Notes
 pub mod Printing
+pub mod Clocks
 pub mod Deeds
 pub mod Obeying
 pub mod Turns
@@ -16,5 +17,6 @@ pub mod Told
 pub mod Coming
 pub mod Sessions
 pub mod Closing
+pub mod ShortForm
 pub mod Scripted
 pub mod Recorded

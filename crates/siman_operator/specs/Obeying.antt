@@ -10,6 +10,10 @@ use Rattle.siman_scripts.specs.declared.command.Command.{Command}
 use Rattle.siman_scripts.specs.declared.command.Command.TheVariants as commands
 use Rattle.siman_scripts.specs.declared.command.StationTask.{StationTask}
 use Rattle.siman_scripts.specs.declared.command.StationTask.TheVariants as tasks
+use Rattle.siman_stations.specs.declared.moment.Moment.{Moment}
+use Rattle.siman_stations.specs.Moments.{moment_of}
+use Rattle.siman_operator.specs.declared.clock.ClockSource.{ClockSource}
+use Rattle.siman_operator.specs.declared.clock.ClockSource.TheVariants as sources
 use Rattle.siman_operator.specs.declared.obeying.Rejection.{Rejection}
 use Rattle.siman_operator.specs.declared.obeying.Rejection.TheVariants as undone
 
@@ -25,33 +29,38 @@ reported_as (Ok x) = Ok x
 reported_as (Err fault) = Err (rejection_of fault)
 
 -- A STATION DOES A TASK, before and after, with its recorder
-abbrev pub DoesTask : {L : Type 0} → Telling L → (now : ℕ) → StationTask → (p : StationAtLine L) → (w : WriterState) → (q : StationAtLine L) → (v : WriterState)
+abbrev pub DoesTask : {L : Type 0} → Telling L → (at : Moment) → StationTask → (p : StationAtLine L) → (w : WriterState) → (q : StationAtLine L) → (v : WriterState)
     → Result (Unit {0}) AtLineFault → Type 0
-DoesTask told now (tasks.Order order) p w q v done = OrdersAt told now order p w q v done
-DoesTask told now tasks.Repeat p w q v done = RepeatsAt told now p w q v done
-DoesTask told now (tasks.Tell e) p w q v done = (q ≡ p) × TellsAt e p w v done
+DoesTask told at (tasks.Order order) p w q v done = OrdersAt told at order p w q v done
+DoesTask told at tasks.Repeat p w q v done = RepeatsAt told at p w q v done
+DoesTask told at (tasks.Tell e) p w q v done = (q ≡ p) × TellsAt e p w v done
 
 -- nothing is done
 abbrev pub Rests : {L : Type 0} → (p : StationAtLine L) → (w : WriterState) → (q : StationAtLine L) → (v : WriterState) → Type 0
 Rests p w q v = (q ≡ p) × (v ≡ w)
 
 -- the station does a task, if the line names its address; another address is unknown
-abbrev pub DoesAsked : {L : Type 0} → Telling L → (own : SiteApplication) → (now : ℕ) → (named : SiteApplication) → StationTask → (p : StationAtLine L) → (w : WriterState)
+abbrev pub DoesAsked : {L : Type 0} → Telling L → (own : SiteApplication) → (at : Moment) → (named : SiteApplication) → StationTask → (p : StationAtLine L) → (w : WriterState)
     → (q : StationAtLine L) → (v : WriterState) → Result (Unit {0}) Rejection → Type 0
-DoesAsked told own now named task p w q v result =
+DoesAsked told own at named task p w q v result =
     ((named ≢ own) × (result ≡ Err undone.UnknownStation) × Rests p w q v)
-    ⊎ ((named ≡ own) × ((done : Result (Unit {0}) AtLineFault) × (result ≡ reported_as done) × DoesTask told now task p w q v done))
+    ⊎ ((named ≡ own) × ((done : Result (Unit {0}) AtLineFault) × (result ≡ reported_as done) × DoesTask told at task p w q v done))
 
--- THE EFFECT OF A LINE with this command at a post, given the time of its clock before and after; memory may run
--- out before anything is done
-abbrev pub ObeysIt : {L : Type 0} → Telling L → (own : SiteApplication) → Option Command → (now later : ℕ) → (p : StationAtLine L) → (w : WriterState)
-    → (q : StationAtLine L) → (v : WriterState) → Result (Unit {0}) Rejection → Type 0
-ObeysIt told own None now later p w q v result = (result ≡ Err undone.BadLine) × (later ≡ now) × Rests p w q v
-ObeysIt told own (Some commands.Nothing) now later p w q v result = (result ≡ Ok tt) × (later ≡ now) × Rests p w q v
-ObeysIt told own (Some (commands.At n)) now later p w q v result = (result ≡ Ok tt) × (later ≡ n) × Rests p w q v
-ObeysIt told own (Some (commands.Asks named task)) now later p w q v result = (later ≡ now) × DoesAsked told own now named task p w q v result
+-- a line sets the clock to this time; it does not, if the clock is the system's
+abbrev pub SetsClock : ClockSource → (time : ℕ) → (at later : Moment) → Result (Unit {0}) Rejection → Type 0
+SetsClock sources.Lines time at later result = (result ≡ Ok tt) × (later ≡ moment_of time)
+SetsClock (sources.System wait) time at later result = (result ≡ Err undone.SystemClock) × (later ≡ at)
 
-abbrev pub Obeys : {L : Type 0} → Telling L → (own : SiteApplication) → Option Command → (now later : ℕ) → (p : StationAtLine L) → (w : WriterState)
+-- THE EFFECT OF A LINE with this command at a post, given its clock before and after; memory may run out before
+-- anything is done
+abbrev pub ObeysIt : {L : Type 0} → Telling L → ClockSource → (own : SiteApplication) → Option Command → (at later : Moment) → (p : StationAtLine L) → (w : WriterState)
     → (q : StationAtLine L) → (v : WriterState) → Result (Unit {0}) Rejection → Type 0
-Obeys told own said now later p w q v result =
-    ObeysIt told own said now later p w q v result ⊎ ((result ≡ Err undone.Memory) × (later ≡ now) × Rests p w q v)
+ObeysIt told source own None at later p w q v result = (result ≡ Err undone.BadLine) × (later ≡ at) × Rests p w q v
+ObeysIt told source own (Some commands.Nothing) at later p w q v result = (result ≡ Ok tt) × (later ≡ at) × Rests p w q v
+ObeysIt told source own (Some (commands.At n)) at later p w q v result = SetsClock source n at later result × Rests p w q v
+ObeysIt told source own (Some (commands.Asks named task)) at later p w q v result = (later ≡ at) × DoesAsked told own at named task p w q v result
+
+abbrev pub Obeys : {L : Type 0} → Telling L → ClockSource → (own : SiteApplication) → Option Command → (at later : Moment) → (p : StationAtLine L) → (w : WriterState)
+    → (q : StationAtLine L) → (v : WriterState) → Result (Unit {0}) Rejection → Type 0
+Obeys told source own said at later p w q v result =
+    ObeysIt told source own said at later p w q v result ⊎ ((result ≡ Err undone.Memory) × (later ≡ at) × Rests p w q v)

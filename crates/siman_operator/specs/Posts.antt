@@ -5,9 +5,11 @@ use Rattle.dis_records.specs.declared.address.SiteApplication.{SiteApplication}
 use Rattle.exercise_model.specs.Recording.{PlainRecording}
 use Rattle.exercise_recording.specs.Writer.{WriterState}
 use Rattle.siman_stations.specs.declared.turn.Node.{Node}
+use Rattle.siman_stations.specs.Moments.{moment_of}
 use Rattle.siman_lines.specs.declared.station_at_line.StationAtLine.{StationAtLine}
 use Rattle.siman_lines.specs.AtLines.{Telling}
 use Rattle.siman_scripts.specs.declared.command.Command.{Command}
+use Rattle.siman_operator.specs.declared.clock.ClockSource.{ClockSource}
 use Rattle.siman_operator.specs.declared.tracing_line.TracingLine.{TracingLine}
 use Rattle.siman_operator.specs.declared.obeying.Rejection.{Rejection}
 use Rattle.siman_operator.specs.declared.obeying.Rejection.TheVariants as undone
@@ -28,8 +30,8 @@ pub record IsAtLink {L : Type 0} (node : Node) (station : StationAtLine (Tracing
   pub dropped : station.dropped ≡ 0
 
 -- A POST IN ITS INITIAL STATE: printing has not failed, and its clock shows 0
-abbrev pub begun_post : {L : Type 0} → (log : PlainRecording) → SiteApplication → StationAtLine (TracingLine L) → WriterState → PostData L
-begun_post log address station w = record { station = station; recorder = w; log = log; fault = None; address = address; clock = 0 }
+abbrev pub begun_post : {L : Type 0} → (log : PlainRecording) → SiteApplication → StationAtLine (TracingLine L) → WriterState → ClockSource → PostData L
+begun_post log address station w source = record { station = station; recorder = w; log = log; fault = None; address = address; clock = moment_of 0; source = source }
 
 -- Results of lines.
 
@@ -64,6 +66,7 @@ no_trouble = record { line = false; memory = false; recorder = false }
 pub record TakesLine {L : Type 0} (told : Telling (TracingLine L)) (said : Option Command) (old new : PostData L) (came : LineResult) : Type 0 where
   pub mid : StationAtLine (TracingLine L)
   pub recorder : WriterState
-  pub obeys : Obeys told old.address said old.clock new.clock old.station old.recorder mid recorder came.done
+  pub obeys : Obeys told old.source old.address said old.clock new.clock old.station old.recorder mid recorder came.done
   pub address : new.address ≡ old.address
+  pub source : new.source ≡ old.source
   pub serves : MatchBool (is_unrecorded came.done) ((came.trouble ≡ no_trouble) × (new.station ≡ mid) × (new.recorder ≡ recorder)) (TakesTurns told new.clock mid recorder new.station new.recorder came.trouble)

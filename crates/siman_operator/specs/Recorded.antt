@@ -55,7 +55,7 @@ abbrev pub Records : {L : Type 0} → (passed : L → PassedOver) → (known : O
     → SessionReport → Type 0
 Records passed known ready file file_after out out_after errors errors_after told =
     RecordsNone (open_setting ready.head) file file_after out out_after errors errors_after told
-    ⊎ ((w : WriterState) × Starts file (open_setting ready.head) w × RecordsBegun ready.stations.items passed known (begun_post ready.log ready.address ready.station w) out out_after errors errors_after file_after told)
+    ⊎ ((w : WriterState) × Starts file (open_setting ready.head) w × RecordsBegun ready.stations.items passed known (begun_post ready.log ready.address ready.station w ready.source) out out_after errors errors_after file_after told)
 
 -- WHAT THE FILE HAS: the text of a recording of some entries and at most one more, or a prefix of it; with status 0
 -- the whole text with these entries. What the station recorded is explained: each prefix of the entries is a run in

@@ -9,6 +9,8 @@ use Rattle.siman_scripts.specs.Script.{ScriptData}
 use Rattle.siman_scripts.specs.Stations.{WorldStationData}
 use Rattle.siman_stations.specs.Holds.{IsNewNode}
 use Rattle.siman_stations.specs.World.{is_world_station}
+use Rattle.siman_operator.specs.Clocks.{wait_by}
+use Rattle.siman_operator.specs.declared.clock.WaitUnit.{WaitUnit}
 use Rattle.siman_operator.specs.declared.scripted.SetUp.{SetUp}
 use Rattle.siman_operator.specs.declared.scripted.SetUpFault.{SetUpFault}
 use Rattle.siman_operator.specs.declared.scripted.SetUpFault.TheVariants as faults
@@ -22,11 +24,16 @@ abbrev pub addresses_of : List WorldStationData → List SiteApplication
 addresses_of ss = map (λ s. s.station.address) ss
 
 -- A CONFIGURED STATION: its recording has no entries, its manager and application are in their initial state, and
--- it has the addresses of all stations of its script
+-- it has the addresses of all stations of its script and the wait of its orders
 pub record IsSetUp (exercise : ℕ) (addresses : List SiteApplication) (s : WorldStationData) (set_up : SetUp) : Type 0 where
   pub head : set_up.head ≡ opened (record { form = First; exercise = exercise; stations = s.station ∷ [] })
   pub node : IsNewNode exercise s set_up.node
   pub stations : set_up.stations.items ≡ addresses
+  pub wait : set_up.wait ≡ s.wait
+
+-- a station whose wait counts this
+abbrev pub waiting_by : WaitUnit → WorldStationData → WorldStationData
+waiting_by unit s = record s { wait = wait_by unit s.wait }
 
 -- a configured station; or a fault: no world can have this station, or memory ran out
 abbrev pub SetsUpOne : (exercise : ℕ) → (addresses : List SiteApplication) → WorldStationData → Result SetUp SetUpFault → Type 0
@@ -35,10 +42,10 @@ SetsUpOne exercise addresses s (Err faults.NotInSetup) = ⊥
 SetsUpOne exercise addresses s (Err faults.Stations) = is_world_station s ≡ false
 SetsUpOne exercise addresses s (Err faults.Memory) = ⊤
 
-abbrev pub SetsUpFound : (exercise : ℕ) → (addresses : List SiteApplication) → Option WorldStationData → Result SetUp SetUpFault → Type 0
-SetsUpFound exercise addresses None result = result ≡ Err faults.NotInSetup
-SetsUpFound exercise addresses (Some s) result = SetsUpOne exercise addresses s result
+abbrev pub SetsUpFound : (exercise : ℕ) → (addresses : List SiteApplication) → WaitUnit → Option WorldStationData → Result SetUp SetUpFault → Type 0
+SetsUpFound exercise addresses unit None result = result ≡ Err faults.NotInSetup
+SetsUpFound exercise addresses unit (Some s) result = SetsUpOne exercise addresses (waiting_by unit s) result
 
--- THE STATION OF A SCRIPT AT AN ADDRESS is set up, if the script has it
-abbrev pub SetsUp : ScriptData → (address : SiteApplication) → Result SetUp SetUpFault → Type 0
-SetsUp script address result = SetsUpFound script.exercise (addresses_of script.stations) (station_at address script.stations) result
+-- THE STATION OF A SCRIPT AT AN ADDRESS is set up, if the script has it, with what its wait counts
+abbrev pub SetsUp : ScriptData → (address : SiteApplication) → WaitUnit → Result SetUp SetUpFault → Type 0
+SetsUp script address unit result = SetsUpFound script.exercise (addresses_of script.stations) unit (station_at address script.stations) result

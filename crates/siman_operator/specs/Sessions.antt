@@ -7,7 +7,10 @@ use Rattle.siman_lines.specs.declared.line.PassedOver.{PassedOver}
 use Rattle.siman_lines.specs.AtLines.{Telling}
 use Rattle.siman_operator.specs.declared.tracing_line.TracingLine.{TracingLine}
 use Rattle.siman_operator.specs.declared.printing.PrintFault.{PrintFault}
-use Rattle.siman_operator.specs.Deeds.{PostData, printed, GoesOn}
+use Rattle.siman_scripts.specs.declared.command.Command.{Command}
+use Rattle.siman_scripts.specs.declared.command.Command.TheVariants as commands
+use Rattle.siman_scripts.specs.declared.command.StationTask.TheVariants as tasks
+use Rattle.siman_operator.specs.Deeds.{PostData, printed, GoesOn, at_time, ticks_at}
 use Rattle.siman_operator.specs.Noting.{telling}
 use Rattle.siman_operator.specs.Posts.{TakesLine, is_over}
 use Rattle.siman_operator.specs.declared.came.Came.{Came}
@@ -31,18 +34,27 @@ abbrev pub print_stop_at : (before after : Option PrintFault) → Option PrintFa
 print_stop_at None after = after
 print_stop_at (Some fault) after = None
 
--- what a post took, and its result: a line of the text; or, between lines, datagrams that had come, as an empty line
--- takes them
+-- what a post took, the time that the system's clock showed then, and the result: a line of the text; or, between
+-- lines, datagrams that had come, as an empty line takes them; or a tick by itself
 pub record Taken : Type 0 where
   pub line : List ℕ
   pub typed : Bool
+  pub ticks : Bool
+  pub time : ℕ
   pub came : Came
 
--- A LINE IS TAKEN as the command that it says, and what comes between lines as an empty one; a bad line has its reason in the result, and an order that no
--- station of the script receives has its receiver there
+-- the command of what is taken: that of the line, or the repeat that the station's own tick asks for
+abbrev pub command_taken : (own : SiteApplication) → (ticks : Bool) → (line : List ℕ) → Option Command
+command_taken own ticks line = if ticks then Some (commands.Asks own tasks.Repeat) else said_by line
+
+-- A LINE IS TAKEN as the command that it says, what comes between lines as an empty one, and a tick exactly where an
+-- order is due by the system's clock; each at the time that the clock shows then. A bad line has its reason in the
+-- result, and an order that no station of the script receives has its receiver there
 pub record TakesOne {L : Type 0} (stations : List SiteApplication) (told : Telling (TracingLine L)) (t : Taken) (old new : PostData L) : Type 0 where
   pub untyped : t.typed ≡ false → t.line ≡ []
-  pub takes : TakesLine told (said_by t.line) old new t.came.line
+  pub own : t.ticks ≡ true → t.typed ≡ false
+  pub ticks : t.ticks ≡ ticks_at old
+  pub takes : TakesLine told (command_taken old.address t.ticks t.line) (at_time t.time old) new t.came.line
   pub print_stop : t.came.print_stop ≡ print_stop_at old.fault new.fault
   pub site : t.came.site ≡ old.address.site
   pub application : t.came.application ≡ old.address.application

@@ -1,6 +1,7 @@
 -- The turns of a post after a line of text (profile). Lists of turns have THE LAST ONE FIRST.
-use Rattle.std.specs.Prelude.{◌≡◌, ◌≤◌, ◌⊎◌, ℕ, Bool, true, false, ◌||◌, not, List, [], ◌∷◌, length, Result, Ok, Err}
+use Rattle.std.specs.Prelude.{◌≡◌, ◌≤◌, ◌⊎◌, Bool, true, false, ◌||◌, not, List, [], ◌∷◌, length, Result, Ok, Err}
 use Rattle.exercise_recording.specs.Writer.{WriterState}
+use Rattle.siman_stations.specs.declared.moment.Moment.{Moment}
 use Rattle.siman_lines.specs.declared.fault.ServeFault.{ServeFault}
 use Rattle.siman_lines.specs.declared.fault.ServeFault.TheVariants as faults
 use Rattle.siman_lines.specs.declared.served.Served.{Served}
@@ -59,10 +60,10 @@ pub record RecordedPost (L : Type 0) : Type 0 where
   pub recorder : WriterState
 
 -- turns with these results, one after the other
-abbrev pub Take : {L : Type 0} → Telling L → (now : ℕ) → List Turn → (old new : RecordedPost L) → Type 0
-Take told now [] old new = new ≡ old
-Take {L} told now (t ∷ ts) old new =
-    (mid : RecordedPost L) × Take told now ts old mid × ServesOnce told now mid.station mid.recorder new.station new.recorder t
+abbrev pub Take : {L : Type 0} → Telling L → (at : Moment) → List Turn → (old new : RecordedPost L) → Type 0
+Take told at [] old new = new ≡ old
+Take {L} told at (t ∷ ts) old new =
+    (mid : RecordedPost L) × Take told at ts old mid × ServesOnce told at mid.station mid.recorder new.station new.recorder t
 
 -- the turns end with the first that no other follows, or with the greatest number of them
 abbrev pub AreAllTurns : List Turn → Type 0
@@ -71,10 +72,10 @@ AreAllTurns (t ∷ ts) = AreFollowed ts × ((is_followed t ≡ false) ⊎ (lengt
 
 -- A POST IS SERVED, turn after turn, until a receive finds nothing or fails, or an entry is not recorded, with at
 -- most 65,536 receives; with what failed
-pub record TakesTurns {L : Type 0} (told : Telling L) (now : ℕ) (p : StationAtLine L) (w : WriterState) (q : StationAtLine L) (v : WriterState)
+pub record TakesTurns {L : Type 0} (told : Telling L) (at : Moment) (p : StationAtLine L) (w : WriterState) (q : StationAtLine L) (v : WriterState)
     (trouble : Trouble) : Type 0 where
   pub turns : List Turn
   pub most : length turns ≤ MOST_TURNS
-  pub made : let old : RecordedPost L = record { station = p; recorder = w } in let new : RecordedPost L = record { station = q; recorder = v } in Take told now turns old new
+  pub made : let old : RecordedPost L = record { station = p; recorder = w } in let new : RecordedPost L = record { station = q; recorder = v } in Take told at turns old new
   pub all : AreAllTurns turns
   pub failed : trouble ≡ trouble_in turns

@@ -6,7 +6,7 @@ ghost use Rattle.siman_operator.specs.Explanation.{second_line};
 ghost use Rattle.siman_operator.specs.Receiver.{nobody_text};
 ghost use Rattle.siman_operator.specs.Came.{station_fault_name, at_line, named, result_line, why_text, refused_text, line_text, memory_text, output_text, shortage_text, rejection_text, failed_text, warned_line, warning_text, result_of, is_lost, is_out_of_memory, is_unwritten, status_of};
 
-use crate::explanation::{of_bad, of_lost, of_other, of_station, put_second};
+use crate::explanation::{of_bad, of_clock, of_lost, of_other, of_station, put_second};
 use crate::reason::BadReason;
 use crate::receiver::put_nobody;
 use crate::{LineResult, PrintFault, Rejection};
@@ -150,6 +150,7 @@ fn put_why_refused<E: Write>(
                 of_other(site, application),
             )
         }
+        Rejection::SystemClock => put_told(errors, number, "system-clock", of_clock()),
         Rejection::Station(fault) => {
             put_told(errors, number, station_fault_name(fault), of_station(fault))
         }

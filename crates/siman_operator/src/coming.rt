@@ -1,16 +1,21 @@
-//! What comes to a session next: a line of its text, or datagrams before the line is whole.
+//! What comes to a session next: a line of its text, or before the line is whole datagrams or a tick.
 
-ghost use Rattle.std.specs.Prelude.{◌≡◌, ◌<◌, ◌-◌, ◌^◌, length, IfOk, Some};
-ghost use Rattle.siman_operator.specs.Coming.{GoesOnBy, size_of, number_by};
+ghost use Rattle.std.specs.Prelude.{◌≡◌, ◌<◌, ◌-◌, ◌^◌, false, length, IfOk, IfSome, Some};
+ghost use Rattle.siman_operator.specs.Coming.{GoesOnBy, size_of, number_by, is_tick};
+ghost use Rattle.siman_operator.specs.Deeds.{data_of, ticks_at};
 
+use crate::post::Post;
 use byte_files::{ReadFailed, fill};
-use siman_lines::Input;
-use std::io::Read;
+use siman_lines::{Input, Line};
+use std::io::{Read, Write};
 
 /// What comes next.
 #[derive(Clone, Copy, Debug)]
 pub(crate) enum Coming {
-    /// Datagrams may have come to the link; the line of the text is not whole yet.
+    /// The station ticks by itself; the line of the text is not whole yet.
+    Tick,
+    /// Datagrams may have come to the link, or the wait has ended; the line of the text is not whole
+    /// yet.
     Datagrams,
     /// A line of the text: so many bytes of it are in the buffer, all of it or as many as fit.
     Line(usize),
@@ -19,13 +24,13 @@ pub(crate) enum Coming {
 }
 
 impl Coming {
-    /// How many bytes of the buffer are to be taken: those of the line, or none of datagrams. `None`
-    /// at the end of the text.
+    /// How many bytes of the buffer are to be taken: those of the line, or else none. `None` at the
+    /// end of the text.
     pub(crate) fn size(self) -> Option<usize>
         ensures { result ≡ size_of self }
     {
         match self {
-            Coming::Datagrams => Some(0),
+            Coming::Tick | Coming::Datagrams => Some(0),
             Coming::Line(size) => Some(size),
             Coming::End => None,
         }
@@ -38,9 +43,27 @@ impl Coming {
     {
         match self {
             Coming::Line(_) => before + 1,
-            Coming::Datagrams | Coming::End => before,
+            Coming::Tick | Coming::Datagrams | Coming::End => before,
         }
     }
+
+    /// Whether it is a tick.
+    pub(crate) fn is_tick(self) -> bool
+        ensures { result ≡ is_tick self }
+    {
+        match self {
+            Coming::Tick => true,
+            Coming::Datagrams | Coming::Line(_) | Coming::End => false,
+        }
+    }
+}
+
+/// What comes next, and what the system's clock shows then.
+#[derive(Clone, Copy, Debug)]
+pub(crate) struct Come {
+    pub coming: Coming,
+    /// Microseconds since 1970.
+    pub time: u64,
 }
 
 /// Reads one byte of a text, if it is ready. `held` is how much the buffer has of the line that has
@@ -53,7 +76,8 @@ fn read_on<R: Read>(
     held: &mut usize,
 ) -> Result<Option<Coming>, ReadFailed>
     requires { 0 < length buffer.old }
-    ensures { IfOk result (GoesOnBy (R.remaining reader.old) (R.remaining reader.new) buffer.old buffer.new held.old held.new) }
+    ensures goes { IfOk result (GoesOnBy (R.remaining reader.old) (R.remaining reader.new) buffer.old buffer.new held.old held.new) }
+    ensures no_tick { IfOk result (λ step. IfSome step (λ coming. is_tick coming ≡ false)) }
 {
     if !ready {
         return Ok(None);
@@ -80,25 +104,59 @@ fn read_on<R: Read>(
     Ok(None)
 }
 
-/// Waits for the next line of a text or for datagrams at a link, whichever comes first. Of a line
-/// that is not whole the buffer has the first `held` bytes, and the next call goes on there.
-pub(crate) fn next_coming<L, R: Input<L>>(
+/// Whether a time has come.
+fn is_reached(time: Option<u64>, now: u64) -> bool {
+    match time {
+        Some(time) => time <= now,
+        None => false,
+    }
+}
+
+/// Waits for the next line of a text, for datagrams at a link, or until the system's clock shows
+/// `until`, whichever comes first. Of a line that is not whole the buffer has the first `held`
+/// bytes, and the next call goes on there.
+fn next_coming<L, R: Input<L>>(
     input: &mut R,
     line: &L,
+    until: Option<u64>,
     buffer: &mut [u8],
     held: &mut usize,
-) -> Result<Coming, ReadFailed>
+) -> Result<Come, ReadFailed>
     requires { 0 < length buffer.old }
-    ensures { IfOk result (λ coming. GoesOnBy (R.remaining input.old) (R.remaining input.new) buffer.old buffer.new held.old held.new (Some coming)) }
+    ensures goes { IfOk result (λ come. GoesOnBy (R.remaining input.old) (R.remaining input.new) buffer.old buffer.new held.old held.new (Some come.coming)) }
+    ensures no_tick { IfOk result (λ come. is_tick come.coming ≡ false) }
 {
     for _ in 0..u64::MAX {
-        let ready = input.wait(line);
+        let ready = input.wait(line, until);
+        let time = ready.time;
         if let Some(coming) = read_on(ready.text, input, buffer, held)? {
-            return Ok(coming);
+            return Ok(Come { coming, time });
         }
-        if ready.datagrams {
-            return Ok(Coming::Datagrams);
+        if ready.datagrams || is_reached(until, time) {
+            let coming = Coming::Datagrams;
+            return Ok(Come { coming, time });
         }
     }
     Err(ReadFailed)
+}
+
+/// What comes next to a post: a tick, if an order is due by the system's clock; or else what it
+/// waits for.
+pub(crate) fn next_step<L: Line + Drop, R: Input<L>, W: Write>(
+    input: &mut R,
+    post: &Post<'_, L, W>,
+    buffer: &mut [u8],
+    held: &mut usize,
+) -> Result<Come, ReadFailed>
+    requires { 0 < length buffer.old }
+    ensures goes { IfOk result (λ come. GoesOnBy (R.remaining input.old) (R.remaining input.new) buffer.old buffer.new held.old held.new (Some come.coming)) }
+    ensures ticks { IfOk result (λ come. is_tick come.coming ≡ ticks_at (data_of post.now)) }
+{
+    if post.ticks() {
+        return Ok(Come {
+            coming: Coming::Tick,
+            time: post.time(),
+        });
+    }
+    next_coming(input, post.link(), post.wait_end(), buffer, held)
 }

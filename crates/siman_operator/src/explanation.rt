@@ -4,7 +4,7 @@ ghost use Rattle.std.specs.Prelude.{◌≡◌, ◌++◌, codes};
 ghost use Rattle.byte_files.specs.Pieces.{placed_text};
 ghost use Rattle.byte_files.specs.Writing.{Writes};
 ghost use Rattle.siman_print.specs.Records.{line_end};
-ghost use Rattle.siman_operator.specs.Explanation.{station_words, second_line, bad_text, alone_text, station_text, lost_text};
+ghost use Rattle.siman_operator.specs.Explanation.{station_words, second_line, bad_text, alone_text, system_clock_text, station_text, lost_text};
 
 use crate::reason::BadReason;
 use byte_files::{
@@ -38,6 +38,13 @@ pub(crate) fn of_other(site: u16, application: u16) -> Option<PlacedText<'static
         TextPiece::Address(site, application),
         TextPiece::Words(" alone"),
     )))
+}
+
+/// Explanation that no line sets the system's clock.
+pub(crate) fn of_clock() -> Option<PlacedText<'static>>
+    ensures { second_line result ≡ system_clock_text }
+{
+    Some(unplaced(words_alone("the clock is the system's (clock=system), and no line sets it")))
 }
 
 /// Remedy for a station fault, in words.

@@ -1,14 +1,16 @@
 //! One station, commanded by lines of text, from the start of its recording to the end: a [`Post`]
 //! is the station at its link, and [`play`] is its session.
 //!
-//! A post has the station, its recorder and its clock. It takes one line of text after the other
+//! A post has the station, its recorder and its clock, which lines set or the system
+//! ([`ClockSource`]); by the system's clock it repeats orders by itself. It takes one line of text
+//! after the other
 //! ([`Post::take_line`]), in the forms of the moves of a script: the station does what the line asks
 //! for, and is then served until no datagram is waiting. Each entry is recorded before its datagram
 //! is sent, and its rows are printed then, as `log` has them but for what only later entries show. [`play`] reads a text line by line, passes each
 //! line to a post, reports every line that failed with its number, and at the end of the text ends
 //! the recording and prints the counts. [`record_session`] is all of it, from the start of the
 //! recording. The crate opens no file and no socket and reads no clock: the caller passes in the
-//! link, the file, the text and both writers.
+//! link, the file, the text, whose waits say the time, and both writers.
 //!
 //! The contract for the layer above: the effect of a line is `TakesLine` (`specs/Posts.antt`,
 //! `Obeying.antt`, `Turns.antt`), of a text `Plays` (`specs/Sessions.antt`, `Came.antt`,
@@ -18,6 +20,7 @@
 #![tactic(auto)]
 
 mod came;
+mod clock;
 mod closing;
 mod coming;
 mod explanation;
@@ -37,11 +40,13 @@ mod session;
 mod session_notes;
 mod session_report;
 mod setting;
+mod short_form;
 mod tracing_line;
 mod turn_printing;
 mod turns;
 
 pub use came::Came;
+pub use clock::{ClockSource, WaitUnit};
 pub use laws::{own_recordings_are_explained, posts_keep_their_recordings};
 pub use obeying::{LineResult, Rejection};
 pub use playing::Stop;
@@ -54,5 +59,6 @@ pub use recorded::{ReadyStation, SessionRecording, attach_station, greet, record
 pub use scripted::{SetUp, SetUpFault, set_up, station_at};
 pub use session::play;
 pub use session_report::SessionReport;
+pub use short_form::is_short_form;
 pub use tracing_line::TracingLine;
 pub use turns::Trouble;

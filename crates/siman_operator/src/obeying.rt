@@ -1,12 +1,17 @@
 //! The effect of a line of text at a post.
 
-ghost use Rattle.std.specs.Prelude.{◌≡◌};
+ghost use Rattle.std.specs.Bool.{MatchBool};
+ghost use Rattle.std.specs.Prelude.{◌≡◌, Some};
 ghost use Rattle.siman_scripts.specs.Command.{command_of};
+ghost use Rattle.siman_scripts.specs.declared.command.Command.TheVariants as commands;
+ghost use Rattle.siman_scripts.specs.declared.command.StationTask.TheVariants as tasks;
 ghost use Rattle.siman_operator.specs.Noting.{telling};
 ghost use Rattle.siman_operator.specs.Deeds.{data_of, printed, IsAtSameTime, GoesOn};
-ghost use Rattle.siman_operator.specs.Obeying.{rejection_of, reported_as, DoesTask, DoesAsked, Obeys};
-ghost use Rattle.siman_operator.specs.Posts.{is_unrecorded, is_over, worst, TakesLine};
+ghost use Rattle.siman_operator.specs.Obeying.{rejection_of, reported_as, DoesTask, DoesAsked, SetsClock, Obeys};
+ghost use Rattle.siman_operator.specs.Posts.{is_unrecorded, is_over, no_trouble, worst, TakesLine};
+ghost use Rattle.siman_operator.specs.Turns.{TakesTurns};
 
+use crate::clock::ClockSource;
 use crate::post::Post;
 use crate::turns::Trouble;
 use dis_records::Address;
@@ -23,6 +28,8 @@ pub enum Rejection {
     BadLine,
     /// It names another station.
     UnknownStation,
+    /// It sets the clock, which is the system's.
+    SystemClock,
     /// The station refuses it, and is unchanged.
     Station(StationFault),
     /// A call of the link failed.
@@ -129,11 +136,52 @@ impl<'s, L: Line + Drop, W: Write> Post<'s, L, W> {
         reported_as(self.do_task(alloc, out, task))
     }
 
+    /// Sets the clock to the time that a line says, if lines set it.
+    fn obey_at<O: Write>(&mut self, alloc: Global, out: &mut O, now: u64) -> Result<(), Rejection>
+        ensures sets { SetsClock self.old.source now self.old.clock self.new.clock result }
+        ensures station { self.new.station ≡ self.old.station }
+        ensures recorder { self.new.recorder ≡ self.old.recorder }
+        ensures address { self.new.address ≡ self.old.address }
+        ensures source { self.new.source ≡ self.old.source }
+        ensures goes { GoesOn (printed (data_of self.old) (O.contents out.old)) (printed (data_of self.new) (O.contents out.new)) }
+    {
+        match self.source {
+            ClockSource::Lines => {
+                self.set_clock(alloc, out, now);
+                Ok(())
+            }
+            ClockSource::System(_) => Err(Rejection::SystemClock),
+        }
+    }
+
+    /// Serves the station behind what was done, unless an entry was not recorded.
+    fn serve_behind<O: Write>(
+        &mut self,
+        alloc: Global,
+        out: &mut O,
+        done: Result<(), Rejection>,
+    ) -> LineResult
+        ensures done { result.done ≡ done }
+        ensures serves { MatchBool (is_unrecorded done) ((result.trouble ≡ no_trouble) × (self.new.station ≡ self.old.station) × (self.new.recorder ≡ self.old.recorder)) (TakesTurns (telling L.passed) self.old.clock self.old.station self.old.recorder self.new.station self.new.recorder result.trouble) }
+        ensures time { IsAtSameTime (data_of self.old) (data_of self.new) }
+        ensures goes { GoesOn (printed (data_of self.old) (O.contents out.old)) (printed (data_of self.new) (O.contents out.new)) }
+    {
+        if is_unrecorded(done) {
+            return LineResult {
+                done,
+                trouble: Trouble::none(),
+            };
+        }
+        let trouble = self.take_turns(alloc, out);
+        LineResult { done, trouble }
+    }
+
     /// Does what a line asks for, given without its line feed: a task of the station, a new time of
     /// its clock, or nothing.
     fn obey<O: Write>(&mut self, alloc: Global, out: &mut O, line: &[u8]) -> Result<(), Rejection>
-        ensures ends { Obeys (telling L.passed) self.old.address (command_of line.now) self.old.clock self.new.clock self.old.station self.old.recorder self.new.station self.new.recorder result }
+        ensures ends { Obeys (telling L.passed) self.old.source self.old.address (command_of line.now) self.old.clock self.new.clock self.old.station self.old.recorder self.new.station self.new.recorder result }
         ensures address { self.new.address ≡ self.old.address }
+        ensures source { self.new.source ≡ self.old.source }
         ensures goes { GoesOn (printed (data_of self.old) (O.contents out.old)) (printed (data_of self.new) (O.contents out.new)) }
     {
         let command = match read_command(alloc, line) {
@@ -143,10 +191,7 @@ impl<'s, L: Line + Drop, W: Write> Post<'s, L, W> {
         };
         match command {
             Command::Nothing => Ok(()),
-            Command::At(now) => {
-                self.set_clock(alloc, out, now);
-                Ok(())
-            }
+            Command::At(now) => self.obey_at(alloc, out, now),
             Command::Asks { address, task } => self.do_asked(alloc, out, address, task),
         }
     }
@@ -162,13 +207,16 @@ impl<'s, L: Line + Drop, W: Write> Post<'s, L, W> {
         ensures goes { GoesOn (printed (data_of self.old) (O.contents out.old)) (printed (data_of self.new) (O.contents out.new)) }
     {
         let done = self.obey(alloc, out, line);
-        if is_unrecorded(done) {
-            return LineResult {
-                done,
-                trouble: Trouble::none(),
-            };
-        }
-        let trouble = self.take_turns(alloc, out);
-        LineResult { done, trouble }
+        self.serve_behind(alloc, out, done)
+    }
+
+    /// Ticks by itself: sends the repeat that is due, as a line `tick` does.
+    pub(crate) fn take_tick<O: Write>(&mut self, alloc: Global, out: &mut O) -> LineResult
+        ensures ends { TakesLine (telling L.passed) (Some (commands.Asks self.old.address tasks.Repeat)) (data_of self.old) (data_of self.new) result }
+        ensures goes { GoesOn (printed (data_of self.old) (O.contents out.old)) (printed (data_of self.new) (O.contents out.new)) }
+    {
+        let own = self.address();
+        let done = self.do_asked(alloc, out, own, StationTask::Repeat);
+        self.serve_behind(alloc, out, done)
     }
 }

@@ -4,11 +4,13 @@ ghost use Rattle.std.specs.Prelude.{◌≡◌, Some};
 ghost use Rattle.siman_lines.specs.AtLines.{OrdersAt, RepeatsAt, TellsAt};
 ghost use Rattle.siman_lines.specs.KeptAtLine.{Keeps};
 ghost use Rattle.siman_operator.specs.Noting.{telling, datagrams_sent};
-ghost use Rattle.siman_operator.specs.Deeds.{data_of, printed, ServesOnce, IsAtSameTime, PrintsCall, GoesOn};
+ghost use Rattle.siman_operator.specs.Deeds.{data_of, printed, ServesOnce, IsAtSameTime, PrintsCall, GoesOn, at_time, ticks_at};
 ghost use Rattle.siman_operator.specs.Posts.{begun_post};
 ghost use Rattle.siman_operator.specs.Printing.{printing_of};
+ghost use Rattle.siman_operator.specs.Clocks.{wait_end};
 ghost use Rattle.siman_operator.specs.Closing.{session_text, PrintsEnd, Closes};
 
+use crate::clock::{ClockSource, has_due};
 use crate::closing::{SocketCounts, print_counts};
 use crate::printing::{EntryPrinter, PrintFault};
 use crate::tracing_line::TracingLine;
@@ -18,22 +20,23 @@ use exercise_log::GrowingLog;
 use exercise_model::EntryView;
 use exercise_recording::RecordingWriter;
 use siman_lines::{
-    AtLineFault, Line, LineTrouble, ServeFault, Served, StationAtLine, order_at, repeat_at, serve,
-    tell_at,
+    AtLineFault, Line, LineTrouble, Moment, ServeFault, Served, StationAtLine, moment_is_in_range,
+    order_at, repeat_at, serve_stamped, tell_at,
 };
 use siman_manager::Order;
 use std::alloc::Global;
 use std::io::Write;
 
 /// One station at its link, which is the only one of its recording, with its recorder, the printer
-/// of its entries, its address in the exercise, and its clock.
+/// of its entries, its address in the exercise, its clock, and what sets it.
 #[derive(Drop)]
 pub struct Post<'s, L: Line + Drop, W: Write> {
     pub(crate) station: StationAtLine<TracingLine<L>>,
     pub(crate) recorder: RecordingWriter<'s, W>,
     pub(crate) printer: EntryPrinter,
     pub(crate) address: Address,
-    pub(crate) clock: u64,
+    pub(crate) clock: Moment,
+    pub(crate) source: ClockSource,
 }
 
 /// Serves a station for one receive, as [`serve`] does, and counts a datagram that it dropped.
@@ -41,9 +44,9 @@ fn serve_counting<L: Line + Drop, W: Write>(
     alloc: Global,
     station: &mut StationAtLine<TracingLine<L>>,
     recorder: &mut RecordingWriter<'_, W>,
-    now: u64,
+    moment: Moment,
 ) -> Result<Served, ServeFault>
-    ensures ends { ServesOnce (telling L.passed) now station.old recorder.old station.new recorder.new result }
+    ensures ends { ServesOnce (telling L.passed) moment station.old recorder.old station.new recorder.new result }
     ensures keeps { Keeps station.old.index station.old.node recorder.old (Some (datagrams_sent station.old.line)) station.new.node recorder.new (Some (datagrams_sent station.new.line)) }
 {
     let StationAtLine {
@@ -53,7 +56,7 @@ fn serve_counting<L: Line + Drop, W: Write>(
         dropped,
         ..
     } = station;
-    match serve(alloc, line, node, recorder, *index, now, 1) {
+    match serve_stamped(alloc, line, node, recorder, *index, moment, 1) {
         Ok(served) => {
             *dropped = dropped.saturating_add(u64::from(served.dropped));
             Ok(served)
@@ -71,15 +74,17 @@ impl<'s, L: Line + Drop, W: Write> Post<'s, L, W> {
         address: Address,
         station: StationAtLine<TracingLine<L>>,
         recorder: RecordingWriter<'s, W>,
+        source: ClockSource,
     ) -> Post<'s, L, W>
-        ensures { data_of result ≡ begun_post log address station recorder.entry }
+        ensures { data_of result ≡ begun_post log address station recorder.entry source }
     {
         Post {
             station,
             recorder,
             printer: EntryPrinter::new(alloc, log),
             address,
-            clock: 0,
+            clock: Moment::relative(0),
+            source,
         }
     }
 
@@ -92,7 +97,7 @@ impl<'s, L: Line + Drop, W: Write> Post<'s, L, W> {
     ) -> Result<(), AtLineFault>
         ensures ends { OrdersAt (telling L.passed) self.old.clock order self.old.station self.old.recorder self.new.station self.new.recorder result }
         ensures time { IsAtSameTime (data_of self.old) (data_of self.new) }
-        ensures prints { PrintsCall self.old.clock self.old.station self.old.recorder self.new.station self.new.recorder (printing_of self.old.printer (O.contents out.old)) (printing_of self.new.printer (O.contents out.new)) }
+        ensures prints { PrintsCall self.old.clock.now self.old.station self.old.recorder self.new.station self.new.recorder (printing_of self.old.printer (O.contents out.old)) (printing_of self.new.printer (O.contents out.new)) }
         ensures goes { GoesOn (printed (data_of self.old) (O.contents out.old)) (printed (data_of self.new) (O.contents out.new)) }
     {
         let Post {
@@ -102,11 +107,12 @@ impl<'s, L: Line + Drop, W: Write> Post<'s, L, W> {
             clock,
             ..
         } = self;
-        let now = *clock;
+        let moment = *clock;
+        moment_is_in_range(moment);
         let entries = recorder.entry_count();
         let sent = station.line.sent_count();
-        let done = order_at(alloc, station, recorder, now, order);
-        print_sent(station, printer, recorder, out, now, entries, sent);
+        let done = order_at(alloc, station, recorder, moment, order);
+        print_sent(station, printer, recorder, out, moment.now, entries, sent);
         done
     }
 
@@ -119,7 +125,7 @@ impl<'s, L: Line + Drop, W: Write> Post<'s, L, W> {
     ) -> Result<(), AtLineFault>
         ensures ends { RepeatsAt (telling L.passed) self.old.clock self.old.station self.old.recorder self.new.station self.new.recorder result }
         ensures time { IsAtSameTime (data_of self.old) (data_of self.new) }
-        ensures prints { PrintsCall self.old.clock self.old.station self.old.recorder self.new.station self.new.recorder (printing_of self.old.printer (O.contents out.old)) (printing_of self.new.printer (O.contents out.new)) }
+        ensures prints { PrintsCall self.old.clock.now self.old.station self.old.recorder self.new.station self.new.recorder (printing_of self.old.printer (O.contents out.old)) (printing_of self.new.printer (O.contents out.new)) }
         ensures goes { GoesOn (printed (data_of self.old) (O.contents out.old)) (printed (data_of self.new) (O.contents out.new)) }
     {
         let Post {
@@ -129,11 +135,12 @@ impl<'s, L: Line + Drop, W: Write> Post<'s, L, W> {
             clock,
             ..
         } = self;
-        let now = *clock;
+        let moment = *clock;
+        moment_is_in_range(moment);
         let entries = recorder.entry_count();
         let sent = station.line.sent_count();
-        let done = repeat_at(alloc, station, recorder, now);
-        print_sent(station, printer, recorder, out, now, entries, sent);
+        let done = repeat_at(alloc, station, recorder, moment);
+        print_sent(station, printer, recorder, out, moment.now, entries, sent);
         done
     }
 
@@ -181,14 +188,15 @@ impl<'s, L: Line + Drop, W: Write> Post<'s, L, W> {
             clock,
             ..
         } = self;
-        let now = *clock;
+        let moment = *clock;
+        moment_is_in_range(moment);
         let before = TurnCounts {
             entries: recorder.entry_count(),
             received: station.line.received_count(),
             sent: station.line.sent_count(),
         };
-        let served = serve_counting(alloc, station, recorder, now);
-        print_turn(station, printer, recorder, out, now, before);
+        let served = serve_counting(alloc, station, recorder, moment);
+        print_turn(station, printer, recorder, out, moment.now, before);
         served
     }
 
@@ -248,6 +256,34 @@ impl<'s, L: Line + Drop, W: Write> Post<'s, L, W> {
         ensures { result ≡ self.now.address }
     {
         self.address
+    }
+
+    /// Time of its clock.
+    pub(crate) fn time(&self) -> u64
+        ensures { result ≡ self.now.clock.now }
+    {
+        self.clock.now
+    }
+
+    /// Whether it ticks by itself: an order is due by the system's clock.
+    pub(crate) fn ticks(&self) -> bool
+        ensures { result ≡ ticks_at (data_of self.now) }
+    {
+        self.source.is_system() && has_due(&self.station.node.manager, self.clock.now)
+    }
+
+    /// Until when it waits for what comes next. `None`: for ever.
+    pub(crate) fn wait_end(&self) -> Option<u64>
+        ensures { result ≡ wait_end self.now.source self.now.station.node.manager }
+    {
+        self.source.wait_end(&self.station.node.manager)
+    }
+
+    /// Sets its clock, given what the system's clock shows.
+    pub(crate) fn see_time(&mut self, time: u64)
+        ensures { data_of self.new ≡ at_time time (data_of self.old) }
+    {
+        self.clock = self.source.at(time, self.clock);
     }
 
     /// Why no further entry is printed. `None` if printing goes on.

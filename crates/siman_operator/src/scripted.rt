@@ -3,8 +3,9 @@
 ghost use Rattle.std.specs.Prelude.{◌≡◌, ◌<◌, length, IfSome, IfOk};
 ghost use Rattle.siman_scripts.specs.Draft.{is_at, index_of};
 ghost use Rattle.siman_operator.specs.declared.scripted.SetUpFault.TheVariants.{Memory};
-ghost use Rattle.siman_operator.specs.Scripted.{station_at, addresses_of, SetsUpOne, SetsUp};
+ghost use Rattle.siman_operator.specs.Scripted.{station_at, addresses_of, waiting_by, SetsUpOne, SetsUp};
 
+use crate::clock::WaitUnit;
 use dis_records::Address;
 use exercise_model::Recording;
 use siman_scripts::{Script, WorldStation};
@@ -20,6 +21,8 @@ pub struct SetUp {
     pub node: Node,
     /// Addresses of all stations of the script.
     pub stations: Vec<Address>,
+    /// Time from the sending of an order until it is due.
+    pub wait: u64,
 }
 
 /// Why a station of a script could not be set up.
@@ -103,6 +106,7 @@ fn set_up_one(
 ) -> Result<SetUp, SetUpFault>
     ensures { SetsUpOne exercise addresses.items station result }
 {
+    let wait = station.wait;
     let mut stations = Vec::new(alloc);
     stations.push(station)?;
     let InitialWorld {
@@ -117,15 +121,30 @@ fn set_up_one(
             head: recording,
             node,
             stations: addresses,
+            wait,
         }),
         None => unreachable!(),
     }
 }
 
-/// Sets up the station of a script with this address, as the lines of the script configure it.
-/// Ignores the moves and consumes the script.
-pub fn set_up(alloc: Global, script: Script, address: Address) -> Result<SetUp, SetUpFault>
-    ensures { SetsUp script address result }
+/// A station whose wait counts this.
+fn waiting_by(unit: WaitUnit, station: WorldStation) -> WorldStation
+    ensures { result ≡ waiting_by unit station }
+{
+    let mut station = station;
+    station.wait = unit.wait(station.wait);
+    station
+}
+
+/// Sets up the station of a script with this address, as the lines of the script configure it; its
+/// wait counts `unit`. Ignores the moves and consumes the script.
+pub fn set_up(
+    alloc: Global,
+    script: Script,
+    address: Address,
+    unit: WaitUnit,
+) -> Result<SetUp, SetUpFault>
+    ensures { SetsUp script address unit result }
 {
     let Script {
         exercise,
@@ -134,7 +153,7 @@ pub fn set_up(alloc: Global, script: Script, address: Address) -> Result<SetUp, 
     } = script;
     let addresses = addresses_of(alloc, &stations);
     match station_at(stations, address) {
-        Some(station) => set_up_one(alloc, exercise, addresses?, station),
+        Some(station) => set_up_one(alloc, exercise, addresses?, waiting_by(unit, station)),
         None => Err(SetUpFault::NotInSetup),
     }
 }

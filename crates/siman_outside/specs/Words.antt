@@ -19,6 +19,7 @@ use Rattle.siman_outside.specs.declared.commands.ImportWords.{ImportWords}
 use Rattle.siman_outside.specs.declared.commands.Listening.{Listening}
 use Rattle.siman_outside.specs.declared.commands.Reading.{Reading}
 use Rattle.siman_outside.specs.declared.commands.Reading.TheVariants.{Whole, Torn}
+use Rattle.siman_outside.specs.declared.commands.StationChoices.{StationChoices}
 use Rattle.siman_outside.specs.declared.commands.StationWords.{StationWords}
 use Rattle.siman_outside.specs.declared.commands.Takes.{Takes}
 use Rattle.siman_outside.specs.declared.commands.Takes.TheVariants as shapes
@@ -28,7 +29,7 @@ use Rattle.siman_outside.specs.Options.{takes_json, takes_prose, takes_force, ta
 use Rattle.siman_outside.specs.ImportWords.{Choices, choices_by, choices_of}
 
 -- the words of a station: a script, the station's address, its recording, its socket and its peers,
--- and whom it hears, and what
+-- and whom it hears, and what, and whether the clock is the system's
 pub record StationAsked : Type 0 where
   pub setup : List ℕ
   pub address : List ℕ
@@ -36,6 +37,7 @@ pub record StationAsked : Type 0 where
   pub bind : List ℕ
   pub peers : List (List ℕ)
   pub listening : Listening
+  pub by_system : Bool
 
 -- the words of an import: a script, the station's address, that of its host, a capture, the recording to make, and
 -- what the words behind it say
@@ -88,6 +90,7 @@ named_by text words = record {
   bind = words.bind.now;
   peers = map text words.peers.now;
   listening = words.listening;
+  by_system = words.by_system;
 }
 
 abbrev pub import_named : ImportWords → ImportAsked
@@ -148,13 +151,23 @@ abbrev pub takes_of : List (List ℕ × Takes) → (name : List ℕ) → Option 
 takes_of [] name = None
 takes_of (row ∷ rows) name = if bytes_eq row.0 name then Some row.1 else takes_of rows name
 
--- THE TABLE OF COMMANDS
-unfoldable pub takes_named : List ℕ → Option Takes
-takes_named = takes_of (
+-- THE TABLE OF COMMANDS, in the order of the help: what the named command takes by its first rows
+unfoldable pub takes_first : List ℕ → Option Takes
+takes_first = takes_of (
     (codes "pdu", shapes.One Pdu) ∷ (codes "pdus", shapes.Nothing Pdus) ∷ (codes "show", shapes.One Show) ∷ (codes "check", shapes.Two Check)
-    ∷ (codes "audit", shapes.Two Audit) ∷ (codes "world", shapes.Two World) ∷ (codes "plan", shapes.Source) ∷ (codes "live", shapes.Two Live) ∷ (codes "station", shapes.Station) ∷ (codes "convert", shapes.Two Convert) ∷ (codes "mend", shapes.Two Mend)
-    ∷ (codes "join", shapes.Pieces) ∷ (codes "import", shapes.Capture) ∷ (codes "export", shapes.Two Export) ∷ (codes "review", shapes.View Review) ∷ (codes "log", shapes.View Log) ∷ (codes "count", shapes.View Count) ∷ (codes "why", shapes.PerhapsTwo)
+    ∷ (codes "audit", shapes.Two Audit) ∷ (codes "world", shapes.Two World) ∷ (codes "plan", shapes.Source) ∷ (codes "live", shapes.Two Live) ∷ (codes "station", shapes.Station)
+    ∷ [])
+
+-- and by the rows behind them
+unfoldable pub takes_further : List ℕ → Option Takes
+takes_further = takes_of (
+    (codes "convert", shapes.Two Convert) ∷ (codes "mend", shapes.Two Mend) ∷ (codes "join", shapes.Pieces) ∷ (codes "import", shapes.Capture)
+    ∷ (codes "export", shapes.Two Export) ∷ (codes "review", shapes.View Review) ∷ (codes "log", shapes.View Log) ∷ (codes "count", shapes.View Count) ∷ (codes "why", shapes.PerhapsTwo)
     ∷ (codes "chart", shapes.Picture) ∷ [])
+
+-- what the named command takes by the table
+unfoldable pub takes_named : List ℕ → Option Takes
+takes_named name = if is_some (takes_first name) then takes_first name else takes_further name
 
 -- a task of a command: exactly the words that it takes, none of them an option
 abbrev pub bare_asked : NoWord → List (List ℕ) → Option Asked
@@ -249,42 +262,49 @@ import_asked force (setup ∷ address ∷ host ∷ capture ∷ recording ∷ wor
     else import_of_words setup address host capture recording force (choices_of words)
 import_asked force words = None
 
-abbrev pub anyone_behind : List (List ℕ) → Option (List (List ℕ) × List ℕ) → List (List ℕ) × Bool
-anyone_behind words None = (words, false)
-anyone_behind words (Some p) = if bytes_eq p.1 (codes "from=any") then (p.0, true) else (words, false)
+-- what no word behind the peers says: the station hears them alone, keeps one protocol family, and lines set its clock
+abbrev pub no_choice : StationChoices
+no_choice = record { listening = record { anyone = false; all = false }; by_system = false }
 
--- the words without `from=any` at the end, and whether it was there
-abbrev pub anyone_apart : List (List ℕ) → List (List ℕ) × Bool
-anyone_apart words = anyone_behind words (last_apart words)
+-- the choices with that of a word, if it is the word of one that they do not have
+abbrev pub with_choice : StationChoices → (word : List ℕ) → Option StationChoices
+with_choice choices word =
+    if bytes_eq word (codes "from=any") && not choices.listening.anyone
+    then Some (record { listening = record { anyone = true; all = choices.listening.all }; by_system = choices.by_system })
+    else if bytes_eq word (codes "keep=all") && not choices.listening.all
+    then Some (record { listening = record { anyone = choices.listening.anyone; all = true }; by_system = choices.by_system })
+    else if bytes_eq word (codes "clock=system") && not choices.by_system then Some (record { listening = choices.listening; by_system = true })
+    else None
 
-abbrev pub all_behind : List (List ℕ) → Option (List (List ℕ) × List ℕ) → List (List ℕ) × Bool
-all_behind words None = (words, false)
-all_behind words (Some p) = if bytes_eq p.1 (codes "keep=all") then (p.0, true) else (words, false)
+-- words and choices, or, if the last word is that of one more choice, the words before it and the choices with it
+abbrev pub choice_of_last : List (List ℕ) × StationChoices → (before : List (List ℕ)) → Option StationChoices → List (List ℕ) × StationChoices
+choice_of_last p before None = p
+choice_of_last p before (Some choices) = (before, choices)
 
--- the words without `keep=all` at the end, and whether it was there
-abbrev pub all_apart : List (List ℕ) → List (List ℕ) × Bool
-all_apart words = all_behind words (last_apart words)
+abbrev pub choice_behind : List (List ℕ) × StationChoices → Option (List (List ℕ) × List ℕ) → List (List ℕ) × StationChoices
+choice_behind p None = p
+choice_behind p (Some q) = choice_of_last p q.0 (with_choice p.1 q.1)
 
--- the words before `from=any`, or without it, and whether `keep=all` is behind it or before it
-abbrev pub listening_behind : (all : Bool) → List (List ℕ) × Bool → List (List ℕ) × Listening
-listening_behind true p = (p.0, record { anyone = p.1; all = true })
-listening_behind false p = ((all_apart p.0).0, record { anyone = p.1; all = (all_apart p.0).1 })
+-- one step: the words without the last one, and the choices with that of this word, if it is the word of one that they do
+-- not have; else both as they are
+unfoldable pub choice_apart : List (List ℕ) × StationChoices → List (List ℕ) × StationChoices
+choice_apart p = choice_behind p (last_apart p.0)
 
--- the words without `from=any` and `keep=all` at the end, in either order, and what these say
-abbrev pub listening_apart : List (List ℕ) → List (List ℕ) × Listening
-listening_apart words = listening_behind (all_apart words).1 (anyone_apart (all_apart words).0)
+-- the words without `from=any`, `keep=all` and `clock=system` at the end, in any order, each once, and what these say
+abbrev pub choices_apart : List (List ℕ) → List (List ℕ) × StationChoices
+choices_apart words = choice_apart (choice_apart (choice_apart (words, no_choice)))
 
 -- the station of these names, if they include a peer
-abbrev pub station_named : Listening → List (List ℕ) → Option Asked
-station_named listening (setup ∷ address ∷ recording ∷ bind ∷ peers) =
+abbrev pub station_named : StationChoices → List (List ℕ) → Option Asked
+station_named choices (setup ∷ address ∷ recording ∷ bind ∷ peers) =
     if length peers == 0 then None
-    else Some (Station (record { setup = setup; address = address; recording = recording; bind = bind; peers = peers; listening = listening }))
-station_named listening words = None
+    else Some (Station (record { setup = setup; address = address; recording = recording; bind = bind; peers = peers; listening = choices.listening; by_system = choices.by_system }))
+station_named choices words = None
 
 -- STATION needs a script, an address, a recording, a socket's address and at least one peer;
--- `from=any` and `keep=all` are allowed at the end, each once
+-- `from=any`, `keep=all` and `clock=system` are allowed at the end, each once
 abbrev pub station_asked : List (List ℕ) → Option Asked
-station_asked words = let p = listening_apart words in if has_option p.0 then None else station_named p.1 p.0
+station_asked words = let p = choices_apart words in if has_option p.0 then None else station_named p.1 p.0
 
 -- the spelling of rows, given how many times `--json` occurs
 abbrev pub spelling_by : (json : ℕ) → Spelling

@@ -1,17 +1,27 @@
 //! Reads words by the table of commands: the task that they ask for.
 
 ghost use Rattle.std.specs.Prelude.{◌≡◌, ◌≤◌, length, map, option_map};
-ghost use Rattle.siman_outside.specs.Words.{asked_by, is_option, takes_of, takes_named, bare_asked, one_asked, two_asked, taken, last_apart, has_option, is_join_word, form_named, form_apart, parts_apart, join_choices_apart, are_names, fewest_pieces, pieces_asked, join_asked, anyone_apart, all_apart, listening_apart, import_asked, station_named, station_asked, view_asked, prose_asked, why_asked, plan_asked, chart_asked};
+ghost use Rattle.siman_outside.specs.Words.{asked_by, is_option, takes_of, takes_named, bare_asked, one_asked, two_asked, taken, last_apart, has_option, is_join_word, form_named, form_apart, parts_apart, join_choices_apart, are_names, fewest_pieces, pieces_asked, join_asked, with_choice, choice_apart, choices_apart, import_asked, station_named, station_asked, view_asked, prose_asked, why_asked, plan_asked, chart_asked};
 
 use crate::commands::{
-    ImportWords, JoinChoices, JoinForm, Listening, NoWord, OneWord, Reading, StationWords, Takes,
-    Task, TwoWords, ViewWord,
+    ImportWords, JoinChoices, JoinForm, Listening, NoWord, OneWord, Reading, StationChoices,
+    StationWords, Takes, Task, TwoWords, ViewWord,
 };
 use crate::import_words::choices_of;
 use crate::rows::CommandRow;
-use crate::table::rows;
+use crate::table::{further_rows, rows};
 use siman_print::Spelling;
 use std::convert::AsStr;
+
+/// What no word behind the peers of a station says: it hears its peers alone, keeps Simulation
+/// Management alone, and lines set its clock.
+const NO_CHOICE: StationChoices = StationChoices {
+    listening: Listening {
+        anyone: false,
+        all: false,
+    },
+    by_system: false,
+};
 
 /// Whether a word is an option: it begins with a hyphen and is longer than one byte.
 pub(crate) fn is_option(word: &str) -> bool
@@ -35,10 +45,14 @@ fn takes_of(mut table: &[CommandRow], name: &str) -> Option<Takes>
 }
 
 /// What the named command takes.
+#[tactic(auto, unfolding(crate::specs::Words::takes_named))]
 pub(crate) fn takes_named(name: &str) -> Option<Takes>
     ensures { result ≡ takes_named name.now }
 {
-    takes_of(rows(), name)
+    match takes_of(rows(), name) {
+        Some(takes) => Some(takes),
+        None => takes_of(further_rows(), name),
+    }
 }
 
 fn no_word<S: AsStr>(command: NoWord, words: &[S]) -> Option<Task<'_, S>>
@@ -225,42 +239,50 @@ fn import_words<S: AsStr>(force: bool, words: &[S]) -> Option<Task<'_, S>>
     }
 }
 
-/// The words without `from=any` at the end, and whether it was there.
-fn anyone_apart<S: AsStr>(words: &[S]) -> (&[S], bool)
-    ensures { (map S.text result.0.now, result.1) ≡ anyone_apart (map S.text words.now) }
+/// The choices with that of a word, if it is the word of one that they do not have.
+fn with_choice(mut choices: StationChoices, word: &str) -> Option<StationChoices>
+    ensures { result ≡ with_choice choices word.now }
+{
+    if word == "from=any" && !choices.listening.anyone {
+        choices.listening.anyone = true;
+    } else if word == "keep=all" && !choices.listening.all {
+        choices.listening.all = true;
+    } else if word == "clock=system" && !choices.by_system {
+        choices.by_system = true;
+    } else {
+        return None;
+    }
+    Some(choices)
+}
+
+/// The words without the last one, and the choices with that of this word, if it is the word of one
+/// that they do not have; else both as they are.
+#[tactic(auto, unfolding(crate::specs::Words::choice_apart))]
+fn choice_apart<S: AsStr>(words: &[S], choices: StationChoices) -> (&[S], StationChoices)
+    ensures { (map S.text result.0.now, result.1) ≡ choice_apart (map S.text words.now, choices) }
 {
     match last_apart(words) {
-        Some((before, last)) if last == "from=any" => (before, true),
-        _ => (words, false),
+        Some((before, last)) => match with_choice(choices, last) {
+            Some(more) => (before, more),
+            None => (words, choices),
+        },
+        None => (words, choices),
     }
 }
 
-/// The words without `keep=all` at the end, and whether it was there.
-fn all_apart<S: AsStr>(words: &[S]) -> (&[S], bool)
-    ensures { (map S.text result.0.now, result.1) ≡ all_apart (map S.text words.now) }
+/// The words without `from=any`, `keep=all` and `clock=system` at the end, in any order, and what
+/// these say.
+fn choices_apart<S: AsStr>(words: &[S]) -> (&[S], StationChoices)
+    ensures { (map S.text result.0.now, result.1) ≡ choices_apart (map S.text words.now) }
 {
-    match last_apart(words) {
-        Some((before, last)) if last == "keep=all" => (before, true),
-        _ => (words, false),
-    }
-}
-
-/// The words without `from=any` and `keep=all` at the end, in either order, and what these say.
-fn listening_apart<S: AsStr>(words: &[S]) -> (&[S], Listening)
-    ensures { (map S.text result.0.now, result.1) ≡ listening_apart (map S.text words.now) }
-{
-    let (before, all_last) = all_apart(words);
-    let (names, anyone) = anyone_apart(before);
-    if all_last {
-        return (names, Listening { anyone, all: true });
-    }
-    let (names, all) = all_apart(names);
-    (names, Listening { anyone, all })
+    let (names, choices) = choice_apart(words, NO_CHOICE);
+    let (names, choices) = choice_apart(names, choices);
+    choice_apart(names, choices)
 }
 
 /// The task of `station`, if the names include at least one peer.
-fn named_station<S: AsStr>(listening: Listening, names: &[S]) -> Option<Task<'_, S>>
-    ensures { option_map (asked_by S.text) result ≡ station_named listening (map S.text names.now) }
+fn named_station<S: AsStr>(choices: StationChoices, names: &[S]) -> Option<Task<'_, S>>
+    ensures { option_map (asked_by S.text) result ≡ station_named choices (map S.text names.now) }
 {
     match names {
         [setup, address, recording, bind, peers @ ..] if !peers.is_empty() => {
@@ -270,7 +292,8 @@ fn named_station<S: AsStr>(listening: Listening, names: &[S]) -> Option<Task<'_,
                 recording: recording.as_str(),
                 bind: bind.as_str(),
                 peers,
-                listening,
+                listening: choices.listening,
+                by_system: choices.by_system,
             }))
         }
         _ => None,
@@ -280,11 +303,11 @@ fn named_station<S: AsStr>(listening: Listening, names: &[S]) -> Option<Task<'_,
 fn station_words<S: AsStr>(words: &[S]) -> Option<Task<'_, S>>
     ensures { option_map (asked_by S.text) result ≡ station_asked (map S.text words.now) }
 {
-    let (names, listening) = listening_apart(words);
+    let (names, choices) = choices_apart(words);
     if has_option(names) {
         return None;
     }
-    named_station(listening, names)
+    named_station(choices, names)
 }
 
 fn view_words<S: AsStr>(

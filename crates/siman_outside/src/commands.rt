@@ -91,6 +91,15 @@ pub struct Listening {
     pub all: bool,
 }
 
+/// What the words behind the peers of a station say.
+#[derive(Clone, Copy)]
+pub struct StationChoices {
+    /// Whom it hears, and what.
+    pub listening: Listening,
+    /// Whether the clock is the system's; otherwise lines set it.
+    pub by_system: bool,
+}
+
 /// The words of `station`.
 #[derive(Drop)]
 pub struct StationWords<'a, S> {
@@ -106,6 +115,8 @@ pub struct StationWords<'a, S> {
     pub peers: &'a [S],
     /// Whom it hears, and what.
     pub listening: Listening,
+    /// Whether the clock is the system's (`clock=system`); otherwise lines set it.
+    pub by_system: bool,
 }
 
 /// The words of `import`.
@@ -176,7 +187,7 @@ pub enum Takes {
     /// is read.
     Capture,
     /// A script, an address, a recording, a socket's address, at least one peer, and perhaps
-    /// `from=any` and `keep=all`.
+    /// `from=any`, `keep=all` and `clock=system`.
     Station,
     /// The file of a recording, and words that choose among the rows.
     View(ViewWord),

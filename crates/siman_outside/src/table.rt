@@ -1,7 +1,7 @@
 //! The table of commands, from which the reading of words, the usage and the help follow.
 
 ghost use Rattle.std.specs.Prelude.{ℕ, List, ◌≡◌, map};
-ghost use Rattle.siman_outside.specs.Words.{takes_of, takes_named};
+ghost use Rattle.siman_outside.specs.Words.{takes_of, takes_first, takes_further};
 
 use crate::commands::{NoWord, OneWord, Takes, TwoWords, ViewWord};
 use crate::rows::{CommandRow, CommandWord, Often};
@@ -34,8 +34,9 @@ const SCRIPT: CommandWord = CommandWord {
     about: "The file of the script",
 };
 
-/// The table of the commands, in the order of the help.
-pub(crate) const ROWS: [CommandRow; 19] = [
+/// The first rows of the table of the commands, in the order of the help. All rows in one constant
+/// are too much for one proof.
+const ROWS: [CommandRow; 9] = [
     CommandRow {
         name: "pdu",
         takes: Takes::One(OneWord::Pdu),
@@ -132,7 +133,7 @@ pub(crate) const ROWS: [CommandRow; 19] = [
     CommandRow {
         name: "station",
         takes: Takes::Station,
-        usage: "siman station <SETUP> <ADDRESS> <REC> <BIND> <PEER>... [from=any] [keep=all]",
+        usage: "siman station <SETUP> <ADDRESS> <REC> <BIND> <PEER>... [from=any] [keep=all] [clock=system]",
         about: "Plays a station of a script over UDP, by the lines of standard input, and writes what it sends, receives and tells",
         example: "Example:\n  siman station exercise.script 1:1 manager.dsrc 10.0.0.1:3000 10.0.0.2:3000 < orders",
         words: &[
@@ -155,10 +156,14 @@ pub(crate) const ROWS: [CommandRow; 19] = [
             CommandWord {
                 name: "PEER",
                 often: Often::OnceOrMore,
-                about: "Where a peer is, or those of a network, IP:PORT. Behind the last one may stand from=any: then others are heard, too; and keep=all: then PDUs of every protocol family are kept",
+                about: "Where a peer is, or those of a network, IP:PORT. Behind the last one may stand from=any: then others are heard, too; keep=all: then PDUs of every protocol family are kept; and clock=system: then the clock is the system's, and orders are repeated by themselves",
             },
         ],
     },
+];
+
+/// The rows behind them, in the order of the help.
+const FURTHER_ROWS: [CommandRow; 10] = [
     CommandRow {
         name: "convert",
         takes: Takes::Two(TwoWords::Convert),
@@ -357,10 +362,18 @@ pub(crate) const ROWS: [CommandRow; 19] = [
     },
 ];
 
-/// The rows of the table of commands, with the contract that callers use.
-#[tactic(auto, unfolding(crate::specs::Words::takes_named))]
+/// The first rows of the table of commands, with the contract that callers use.
+#[tactic(auto, unfolding(crate::specs::Words::takes_first))]
 pub(crate) fn rows() -> &'static [CommandRow]
-    ensures { (name : List ℕ) → takes_of (map (λ row. (row.name.now, row.takes)) result.now) name ≡ takes_named name }
+    ensures { (name : List ℕ) → takes_of (map (λ row. (row.name.now, row.takes)) result.now) name ≡ takes_first name }
 {
     &ROWS
+}
+
+/// The rows behind them, with the contract that callers use.
+#[tactic(auto, unfolding(crate::specs::Words::takes_further))]
+pub(crate) fn further_rows() -> &'static [CommandRow]
+    ensures { (name : List ℕ) → takes_of (map (λ row. (row.name.now, row.takes)) result.now) name ≡ takes_further name }
+{
+    &FURTHER_ROWS
 }

@@ -1,7 +1,7 @@
 //! The usage of the program and its help, as `clap` formats them.
 
 use crate::rows::{CommandRow, CommandWord, Often};
-use crate::table::rows;
+use crate::table::{further_rows, rows};
 use clap::error::ErrorKind;
 use clap::{Arg, ArgAction, Command, Error};
 use std::alloc::{AllocError, Global};
@@ -90,7 +90,7 @@ fn command<'a>(alloc: Global, row: &'static CommandRow) -> Result<Command<'a>, A
 
 fn commands<'a>(alloc: Global) -> Result<Vec<Command<'a>>, AllocError> {
     let mut commands = Vec::new(alloc);
-    for row in rows() {
+    for row in rows().iter().chain(further_rows()) {
         commands.push(command(alloc, row)?)?;
     }
     Ok(commands)
@@ -100,7 +100,7 @@ fn commands<'a>(alloc: Global) -> Result<Vec<Command<'a>>, AllocError> {
 fn ending(alloc: Global) -> Result<String, AllocError> {
     let mut text = String::new(alloc);
     text.push_str(STATUSES)?;
-    for row in rows() {
+    for row in rows().iter().chain(further_rows()) {
         if let Some(example) = row.example.strip_prefix("Example:") {
             text.push_str(example)?;
         }
@@ -155,7 +155,7 @@ fn complaint<S: AsStr>(words: &[S]) -> &'static str {
             if rest.iter().any(|word| word.as_str() == "-") {
                 "standard input has the lines of the station: '-' names no file here"
             } else {
-                "a peer stands before 'from=any' and 'keep=all'"
+                "a peer stands before 'from=any', 'keep=all' and 'clock=system'"
             }
         }
         _ => "these words ask for nothing",

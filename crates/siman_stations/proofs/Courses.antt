@@ -26,13 +26,14 @@ use Rattle.siman_stations.specs.declared.world_fault.WorldFault.TheVariants as w
 use Rattle.siman_stations.specs.World.{WorldData, Course, setting_of, outfit_of, settings_of, sent_in, brought, call_of, put_at, made_by, reply_by, arrival, datagram, repeated_by, entries_by, act_fault, move_fault, first_fault, after_move, course_of}
 use Rattle.siman_stations.specs.WorldLaw.{IsActInRange}
 use Rattle.siman_stations.specs.Sending.{next_repeat}
-use Rattle.siman_stations.specs.StationTurn.{sent_as}
+use Rattle.siman_stations.specs.Moments.{moment_of}
+use Rattle.siman_stations.specs.StationTurn.{stamp_of, sent_as}
 use Rattle.siman_stations.specs.Acts.{sends_of, with_entries, halves_entries}
 use Rattle.siman_stations.specs.declared.moving.StepFault.{StepFault}
 use Rattle.siman_stations.specs.declared.moving.StepFault.TheVariants as step_faults
 use Rattle.siman_stations.specs.Moves.{IsFit, Does, Stays, step_fault, node_fault}
 use Rattle.siman_stations.specs.Holds.{IsNode, Holds, IsAfter, IsStillAfter}
-use Rattle.siman_stations.proofs.Offered.{fit_requests, repeat_is, repeat_own, repeat_told}
+use Rattle.siman_stations.proofs.Offered.{stamp_within, fit_requests, repeat_is, repeat_own, repeat_told}
 use Rattle.siman_stations.proofs.CoursesActs.{AreTold, entries_same, act_same, node_on}
 use Rattle.siman_stations.proofs.Made.{all_made, neither}
 use Rattle.siman_stations.proofs.Stations.{put_other, all_sound}
@@ -179,9 +180,9 @@ short_if None h = tt
 short_if (Some p) h = h p refl
 
 repeat_same : (w : WorldData) (c : Course) (s now : ℕ) (n : Node) → IsNode w s (c.came s) (c.calls s) n → AreRequests (c.calls s)
-    → next_repeat n.manager now ≡ repeated_by w c s now
+    → next_repeat n.manager (moment_of now) ≡ repeated_by w c s now
 repeat_same w c s now n is are =
-    ap (λ (b : Book). next_repeat b now) is.manager ∙ repeat_told (settings_of w s) (c.calls s) are now _
+    ap (λ (b : Book). next_repeat b (moment_of now)) is.manager ∙ repeat_told (settings_of w s) (c.calls s) are now _
 
 pub is_fit : (w : WorldData) (moves : List Move) (kept : World) → IsAfter w moves kept → IsFit kept
 is_fit w moves kept is =
@@ -195,9 +196,9 @@ is_fit w moves kept is =
           let within : s < length w.stations = (let h : s < length kept.nodes.items = slice_get_within kept.nodes.items s n at in
           omega (arith, is.holds.count)) in
           let fit = stands.fit s in
-          short_if (next_repeat n.manager now) (λ p e.
-          (repeat_own (outfit_of w s) (settings_of w s) refl refl (is.world s within) ((course_of w moves).calls s) fit now p
-          (repeat_is (settings_of w s) ((course_of w moves).calls s) now p
+          short_if (next_repeat n.manager (moment_of now)) (λ p e.
+          (repeat_own (outfit_of w s) (settings_of w s) refl refl (is.world s within) ((course_of w moves).calls s) fit (stamp_of now) (stamp_within now) p
+          (repeat_is (settings_of w s) ((course_of w moves).calls s) now (stamp_of now) p
           (sym (repeat_same w (course_of w moves) s now n (is.holds.nodes s n at) (fit_requests ((course_of w moves).calls s) fit)) ∙ e))).order.size);
     }
 

@@ -21,6 +21,7 @@ use Rattle.siman_scripts.specs.declared.act.Act.{Act}
 use Rattle.siman_scripts.specs.declared.act.Act.TheVariants.{Command, Deliver, Tick, Tell}
 use Rattle.siman_stations.specs.declared.turn.Node.{Node}
 use Rattle.siman_stations.specs.declared.world_fault.MoveFault.TheVariants as faults
+use Rattle.siman_stations.specs.Moments.{moment_of}
 use Rattle.siman_stations.specs.StationTurn.{stamp_of, sent_as, reply_due, TakesBoth}
 use Rattle.siman_stations.specs.World.{WorldData, Course, outfit_of, settings_of, sent_in, datagram, brought, call_of, put_at, reply_by, arrival, state_by, entries_by, act_fault}
 use Rattle.siman_stations.specs.declared.station_fault.StationFault.TheVariants as station_faults
@@ -35,9 +36,9 @@ use Rattle.siman_stations.proofs.Stations.{put_own, book_made}
 -- Entries.
 
 made_same : (w : WorldData) (s now : ℕ) (order : Order) (qs : List Pdu) (calls : List Call) (n : Node) → IsNode w s qs calls n
-    → next_order n.manager now order ≡ order_pdu (settings_of w s) (next_id (settings_of w s) (count_made (settings_of w s) calls)) order (stamp_of now)
+    → next_order n.manager (stamp_of now) order ≡ order_pdu (settings_of w s) (next_id (settings_of w s) (count_made (settings_of w s) calls)) order (stamp_of now)
 made_same w s now order qs calls n is =
-    ap (λ (b : Book). next_order b now order) is.manager
+    ap (λ (b : Book). next_order b (stamp_of now) order) is.manager
     ∙ ap (λ (k : ℕ). order_pdu (settings_of w s) (next_id (settings_of w s) k) order (stamp_of now)) (counts (settings_of w s) calls)
 
 reply_same : (w : WorldData) (c : Course) (s now : ℕ) (n : Node) (q : Pdu) → IsNode w s (c.came s) (c.calls s) n
@@ -67,7 +68,7 @@ entries_same w c s now (Command order) sends n is are told same = ap (λ (p : Pd
 entries_same w c s now (Deliver k) sends n is are told same =
     ap (λ (bs : List (List ℕ)). turn_if n.application s now (slice_get bs k)) same ∙ turn_same w c s now n (datagram c k) is
 entries_same w c s now Tick sends n is are told same =
-    ap (λ (b : Book). sent_as s now (next_repeat b now)) is.manager
+    ap (λ (b : Book). sent_as s now (next_repeat b (moment_of now))) is.manager
     ∙ ap (λ (p : Option Pdu). sent_as s now p) (repeat_told (settings_of w s) (c.calls s) are now (stamp_of now))
 entries_same w c s now (Tell e) sends n is are told same =
     ap (λ (y : EntityState). Told s e y ∷ [])
@@ -89,7 +90,7 @@ tell_same false = refl
 pub act_same : (w : WorldData) (c : Course) (s now : ℕ) (act : Act) (sends : List (List ℕ)) (n : Node) → IsNode w s (c.came s) (c.calls s) n
     → sends ≡ sent_in c.entries → halves_fault sends n now act ≡ act_fault w c s now act
 act_same w c s now (Command order) sends n is same =
-    ap (λ (b : Book). as_move (order_fault b now order)) is.manager
+    ap (λ (b : Book). as_move (order_fault b (stamp_of now) order)) is.manager
     ∙ (order_same (is_request_body order.body) (refusal (settings_of w s) (length (kept (settings_of w s) (c.calls s))) order (stamp_of now))
     ∙ ap (λ (k : ℕ). if is_request_body order.body then option_map faults.Order
     (refusal (settings_of w s) k order (stamp_of now)) else Some faults.NotARequest) (counts (settings_of w s) (c.calls s)))
@@ -100,7 +101,7 @@ act_same w c s now (Tell e) sends n is same = tell_same (is_entity e)
 -- The halves after an act.
 
 made_on : (w : WorldData) (s now : ℕ) (order : Order) (qs : List Pdu) (calls : List Call) (before after : Node) → IsNode w s qs calls before
-    → refusal (settings_of w s) (count_made (settings_of w s) calls) order (stamp_of now) ≡ None → after ≡ after_order before now order
+    → refusal (settings_of w s) (count_made (settings_of w s) calls) order (stamp_of now) ≡ None → after ≡ after_order before (moment_of now) order
     → IsNode w s qs (Requested order now (stamp_of now) ∷ calls) after
 made_on w s now order qs calls before after is can goes =
     let none : refusal (settings_of w s) (length (kept (settings_of w s) calls)) order (stamp_of now) ≡ None =
@@ -130,7 +131,7 @@ came_on w c s (Some q) before after is goes =
     (took_on w s q (c.came s) (c.calls s) before after is goes))
 
 ticked_on : (w : WorldData) (s now : ℕ) (qs : List Pdu) (calls : List Call) (before after : Node) → IsNode w s qs calls before
-    → after ≡ after_tick before now → IsNode w s qs (Ticked now (stamp_of now) ∷ calls) after
+    → after ≡ after_tick before (moment_of now) → IsNode w s qs (Ticked now (stamp_of now) ∷ calls) after
 ticked_on w s now qs calls before after is goes = record {
   outfit = ap (λ (n : Node). n.application.outfit) goes ∙ is.outfit;
   came_is = ap (λ (n : Node). came n.application) goes ∙ is.came_is;

@@ -22,11 +22,10 @@ use Rattle.siman_manager.specs.Answers.{taken, refusal_of, with_orders, ticked}
 use Rattle.siman_manager.specs.Book.{Book, after_take, after_request, with_order, order_pdu, next_id, refusal, repeated, with_stamp}
 use Rattle.siman_manager.specs.Calls.{Call, Requested, Came, Ticked, kept, Life, count_made}
 use Rattle.siman_manager.proofs.Offered.{counts}
-use Rattle.siman_stations.specs.StationTurn.{stamp_of}
-use Rattle.siman_stations.specs.Sending.{IsOrderInRange, next_repeat}
+use Rattle.siman_stations.specs.Sending.{IsOrderInRange}
 use Rattle.siman_stations.specs.Orders.{AreFit, IsOfLife, SendOwnOrders, ready_after}
 use Rattle.siman_stations.specs.Halves.{received_in, HalvesFollow}
-use Rattle.siman_stations.proofs.Orders.{stamp_within, fit_requests, IsOwnRequest, text_is_order, IsOwnOrder, made_own, IsRepeat, repeat_is, repeat_own}
+use Rattle.siman_stations.proofs.Orders.{fit_requests, IsOwnRequest, text_is_order, IsOwnOrder, made_own, IsRepeat, repeat_is, repeat_own}
 use Rattle.siman_stations.proofs.Requests.{reply_answering, reply_own, reply_read, of_life_on, kept_on, made_life, repeated_life, sent_kept, answer_kept}
 use Rattle.siman_stations.proofs.Repeats.{repeat_told}
 
@@ -211,91 +210,91 @@ halves_send s a ds k new log closed call p is goes order status of = record {
 }
 
 -- the order that is made next
-goes_order : (k : Book) (calls : List Call) (order : Order) (now : ℕ) → k.orders ≡ kept k.settings calls → AreFit calls
-    → is_request_body order.body ≡ true → refusal_of k order (stamp_of now) ≡ None → IsOrderInRange order
-    → Goes k calls (Requested order now (stamp_of now)) (with_orders k (with_order k.settings order now (stamp_of now) k.orders))
-goes_order k calls order now are fit request none range = record {
+goes_order : (k : Book) (calls : List Call) (order : Order) (now stamp : ℕ) → stamp < 2 ^ 32 → k.orders ≡ kept k.settings calls → AreFit calls
+    → is_request_body order.body ≡ true → refusal_of k order stamp ≡ None → IsOrderInRange order
+    → Goes k calls (Requested order now stamp) (with_orders k (with_order k.settings order now stamp k.orders))
+goes_order k calls order now stamp fits are fit request none range = record {
   settings = refl;
-  orders = ap (λ (os : List MadeOrder). with_order k.settings order now (stamp_of now) os) are
-      ∙ ap (λ r. after_request r k.settings order now (stamp_of now) (kept k.settings calls))
-      (sym (ap (λ (os : List MadeOrder). refusal k.settings (length os) order (stamp_of now)) (sym are) ∙ none));
-  fit = (record { request = request; range = range; stamp_is = stamp_within now }, fit);
+  orders = ap (λ (os : List MadeOrder). with_order k.settings order now stamp os) are
+      ∙ ap (λ r. after_request r k.settings order now stamp (kept k.settings calls))
+      (sym (ap (λ (os : List MadeOrder). refusal k.settings (length os) order stamp) (sym are) ∙ none));
+  fit = (record { request = request; range = range; stamp_is = fits }, fit);
   none = refl;
 }
 
 count_is : (k : Book) (calls : List Call) → k.orders ≡ kept k.settings calls → length k.orders ≡ count_made k.settings calls
 count_is k calls are = ap length are ∙ counts k.settings calls
 
-pub halves_order : {wants : Type 0} (s : ℕ) (a : AppProfile) (ds : List Pdu) (k : Book) (log : History) (closed : Type 0) (order : Order) (now : ℕ)
+pub halves_order : {wants : Type 0} (s : ℕ) (a : AppProfile) (ds : List Pdu) (k : Book) (log : History) (closed : Type 0) (order : Order) (now stamp : ℕ) → stamp < 2 ^ 32
     → HalvesFollow wants s a ds k log closed
     → k.settings.exercise ≡ a.exercise → k.settings.address ≡ a.station.address
-    → is_request_body order.body ≡ true → refusal_of k order (stamp_of now) ≡ None → IsOrderInRange order
-    → HalvesFollow wants s a ds (with_orders k (with_order k.settings order now (stamp_of now) k.orders))
-    (Send s (pdu_text (order_pdu k.settings (next_id k.settings (length k.orders)) order (stamp_of now))) ∷ log) closed
-halves_order s a ds k log closed order now is x at request none range =
-    halves_send s a ds k _ log closed (Requested order now (stamp_of now)) p is (goes_order k is.calls order now is.manager is.fit request none range)
+    → is_request_body order.body ≡ true → refusal_of k order stamp ≡ None → IsOrderInRange order
+    → HalvesFollow wants s a ds (with_orders k (with_order k.settings order now stamp k.orders))
+    (Send s (pdu_text (order_pdu k.settings (next_id k.settings (length k.orders)) order stamp)) ∷ log) closed
+halves_order s a ds k log closed order now stamp fits is x at request none range =
+    halves_send s a ds k _ log closed (Requested order now stamp) p is (goes_order k is.calls order now stamp fits is.manager is.fit request none range)
     own.order (zero_is_carried p refl) of where
       n : ℕ
       n = length k.orders
 
       p : Pdu
-      p = order_pdu k.settings (next_id k.settings n) order (stamp_of now)
+      p = order_pdu k.settings (next_id k.settings n) order stamp
 
       own : IsOwnOrder a k.settings p
-      own = made_own a k.settings x at is.own_log.outfit n order (stamp_of now) (record { request = request; range = range; stamp_is = stamp_within now }) none
+      own = made_own a k.settings x at is.own_log.outfit n order stamp (record { request = request; range = range; stamp_is = fits }) none
 
-      of : IsOfLife k.settings (Requested order now (stamp_of now) ∷ is.calls) p
-      of = subst (λ (m : ℕ). IsOfLife k.settings (Requested order now (stamp_of now) ∷ is.calls) (order_pdu k.settings (next_id k.settings m) order
-          (stamp_of now)))
+      of : IsOfLife k.settings (Requested order now stamp ∷ is.calls) p
+      of = subst (λ (m : ℕ). IsOfLife k.settings (Requested order now stamp ∷ is.calls) (order_pdu k.settings (next_id k.settings m) order
+          stamp))
           (sym (count_is k is.calls is.manager))
-          (made_life k.settings is.calls order now (stamp_of now)
-          (subst (λ (m : ℕ). refusal k.settings m order (stamp_of now) ≡ None) (count_is k is.calls is.manager) none))
+          (made_life k.settings is.calls order now stamp
+          (subst (λ (m : ℕ). refusal k.settings m order stamp ≡ None) (count_is k is.calls is.manager) none))
 
 -- it is made and not written
-pub halves_withhold : {wants : Type 0} (s : ℕ) (a : AppProfile) (ds : List Pdu) (k : Book) (log : History) (closed : Type 0) (order : Order) (now : ℕ)
+pub halves_withhold : {wants : Type 0} (s : ℕ) (a : AppProfile) (ds : List Pdu) (k : Book) (log : History) (closed : Type 0) (order : Order) (now stamp : ℕ) → stamp < 2 ^ 32
     → HalvesFollow wants s a ds k log closed
-    → is_request_body order.body ≡ true → refusal_of k order (stamp_of now) ≡ None → IsOrderInRange order
-    → HalvesFollow wants s a ds (with_orders k (with_order k.settings order now (stamp_of now) k.orders)) log closed
-halves_withhold s a ds k log closed order now is request none range =
-    halves_call s a ds k _ log closed (Requested order now (stamp_of now)) is (goes_order k is.calls order now is.manager is.fit request none range)
+    → is_request_body order.body ≡ true → refusal_of k order stamp ≡ None → IsOrderInRange order
+    → HalvesFollow wants s a ds (with_orders k (with_order k.settings order now stamp k.orders)) log closed
+halves_withhold s a ds k log closed order now stamp fits is request none range =
+    halves_call s a ds k _ log closed (Requested order now stamp) is (goes_order k is.calls order now stamp fits is.manager is.fit request none range)
 
 -- Repeats.
 
-goes_tick : (k : Book) (calls : List Call) (now : ℕ) → k.orders ≡ kept k.settings calls → AreFit calls
-    → Goes k calls (Ticked now (stamp_of now)) (ticked k now (stamp_of now))
-goes_tick k calls now are fit = record {
+goes_tick : (k : Book) (calls : List Call) (now stamp : ℕ) → k.orders ≡ kept k.settings calls → AreFit calls
+    → Goes k calls (Ticked now stamp) (ticked k now stamp)
+goes_tick k calls now stamp are fit = record {
   settings = refl;
-  orders = ap (λ (os : List MadeOrder). (ticked (record { settings = k.settings; orders = os }) now (stamp_of now)).orders) are;
+  orders = ap (λ (os : List MadeOrder). (ticked (record { settings = k.settings; orders = os }) now stamp).orders) are;
   fit = fit;
   none = refl;
 }
 
-pub halves_tick : {wants : Type 0} (s : ℕ) (a : AppProfile) (ds : List Pdu) (k : Book) (log : History) (closed : Type 0) (now : ℕ) → HalvesFollow wants s a ds k log closed
-    → HalvesFollow wants s a ds (ticked k now (stamp_of now)) log closed
-halves_tick s a ds k log closed now is = halves_call s a ds k _ log closed (Ticked now (stamp_of now)) is (goes_tick k is.calls now is.manager is.fit)
+pub halves_tick : {wants : Type 0} (s : ℕ) (a : AppProfile) (ds : List Pdu) (k : Book) (log : History) (closed : Type 0) (now stamp : ℕ) → HalvesFollow wants s a ds k log closed
+    → HalvesFollow wants s a ds (ticked k now stamp) log closed
+halves_tick s a ds k log closed now stamp is = halves_call s a ds k _ log closed (Ticked now stamp) is (goes_tick k is.calls now stamp is.manager is.fit)
 
-repeat_by : (st : Settings) (calls : List Call) (now : ℕ) (p : Pdu) → AreFit calls → repeated st now (stamp_of now) (kept st calls) ≡ Some p
-    → option_map (λ (l : Life). with_stamp (stamp_of now) l.order) (ready_after st calls now) ≡ Some p
-repeat_by st calls now p fit e = sym (repeat_told st calls (fit_requests calls fit) now (stamp_of now)) ∙ e
+repeat_by : (st : Settings) (calls : List Call) (now stamp : ℕ) (p : Pdu) → AreFit calls → repeated st now stamp (kept st calls) ≡ Some p
+    → option_map (λ (l : Life). with_stamp stamp l.order) (ready_after st calls now) ≡ Some p
+repeat_by st calls now stamp p fit e = sym (repeat_told st calls (fit_requests calls fit) now stamp) ∙ e
 
-pub halves_repeat : {wants : Type 0} (s : ℕ) (a : AppProfile) (ds : List Pdu) (k : Book) (log : History) (closed : Type 0) (now : ℕ) (p : Pdu)
+pub halves_repeat : {wants : Type 0} (s : ℕ) (a : AppProfile) (ds : List Pdu) (k : Book) (log : History) (closed : Type 0) (now stamp : ℕ) → stamp < 2 ^ 32 → (p : Pdu)
     → HalvesFollow wants s a ds k log closed
-    → k.settings.exercise ≡ a.exercise → k.settings.address ≡ a.station.address → next_repeat k now ≡ Some p
-    → HalvesFollow wants s a ds (ticked k now (stamp_of now)) (Send s (pdu_text p) ∷ log) closed
-halves_repeat s a ds k log closed now p is x at due =
-    halves_send s a ds k _ log closed (Ticked now (stamp_of now)) p is (goes_tick k is.calls now is.manager is.fit) own.order
+    → k.settings.exercise ≡ a.exercise → k.settings.address ≡ a.station.address → repeated k.settings now stamp k.orders ≡ Some p
+    → HalvesFollow wants s a ds (ticked k now stamp) (Send s (pdu_text p) ∷ log) closed
+halves_repeat s a ds k log closed now stamp fits p is x at due =
+    halves_send s a ds k _ log closed (Ticked now stamp) p is (goes_tick k is.calls now stamp is.manager is.fit) own.order
     (zero_is_carried p own.status) of where
-      told : option_map (λ (l : Life). with_stamp (stamp_of now) l.order) (ready_after k.settings is.calls now) ≡ Some p
-      told = repeat_by k.settings is.calls now p is.fit (ap (λ (os : List MadeOrder). repeated k.settings now (stamp_of now) os) (sym is.manager) ∙ due)
+      told : option_map (λ (l : Life). with_stamp stamp l.order) (ready_after k.settings is.calls now) ≡ Some p
+      told = repeat_by k.settings is.calls now stamp p is.fit (ap (λ (os : List MadeOrder). repeated k.settings now stamp os) (sym is.manager) ∙ due)
 
-      repeat : IsRepeat k.settings is.calls (stamp_of now) p
-      repeat = repeat_is k.settings is.calls now p told
+      repeat : IsRepeat k.settings is.calls stamp p
+      repeat = repeat_is k.settings is.calls now stamp p told
 
       own : IsOwnOrder a k.settings p
-      own = repeat_own a k.settings x at is.own_log.outfit is.calls is.fit now p repeat
+      own = repeat_own a k.settings x at is.own_log.outfit is.calls is.fit stamp fits p repeat
 
-      of : IsOfLife k.settings (Ticked now (stamp_of now) ∷ is.calls) p
-      of = of_life_on k.settings is.calls (Ticked now (stamp_of now)) p (repeated_life k.settings is.calls (stamp_of now) p repeat)
+      of : IsOfLife k.settings (Ticked now stamp ∷ is.calls) p
+      of = of_life_on k.settings is.calls (Ticked now stamp) p (repeated_life k.settings is.calls stamp p repeat)
 
 -- Beginnings, and what no step changes.
 

@@ -192,14 +192,14 @@ of_place : (st : Settings) (past : List Call) (stamp : ℕ) (p : Pdu) (o : Optio
 of_place st past stamp p None e = absurd cc
 of_place st past stamp p (Some k) e = of_life st past stamp p k (life st past k) refl e
 
-pub repeat_is : (st : Settings) (past : List Call) (now : ℕ) (p : Pdu)
-    → option_map (λ (l : Life). with_stamp (stamp_of now) l.order) (ready_after st past now) ≡ Some p → IsRepeat st past (stamp_of now) p
-repeat_is st past now p e = of_place st past (stamp_of now) p (first_below (λ k. passes (is_ready_at st now) (life st past k)) (count_made st past)) e
+pub repeat_is : (st : Settings) (past : List Call) (now stamp : ℕ) (p : Pdu)
+    → option_map (λ (l : Life). with_stamp stamp l.order) (ready_after st past now) ≡ Some p → IsRepeat st past stamp p
+repeat_is st past now stamp p e = of_place st past stamp p (first_below (λ k. passes (is_ready_at st now) (life st past k)) (count_made st past)) e
 
 -- it is an order with another timestamp
 pub repeat_own : (a : AppProfile) (st : Settings) → st.exercise ≡ a.exercise → st.address ≡ a.station.address → IsProfileInRange a → (past : List Call) → AreFit past
-    → (now : ℕ) (p : Pdu) → IsRepeat st past (stamp_of now) p → IsOwnOrder a st p
-repeat_own a st x at own past fit now p is =
+    → (stamp : ℕ) → stamp < 2 ^ 32 → (p : Pdu) → IsRepeat st past stamp p → IsOwnOrder a st p
+repeat_own a st x at own past fit stamp fits p is =
     let first = lives_as (IsOwnOrder a st) st (made_own a st x at own) past fit is.number is.life_is is.there in
     subst (IsOwnOrder a st) is.sent_is (record {
       order = record {
@@ -207,7 +207,7 @@ repeat_own a st x at own past fit now p is =
         request = first.order.request;
         ranges = record {
           exercise = first.order.ranges.exercise;
-          stamp = stamp_within now;
+          stamp = fits;
           status = first.order.ranges.status;
           origin = first.order.ranges.origin;
           target = first.order.ranges.target;

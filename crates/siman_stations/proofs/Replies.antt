@@ -11,7 +11,8 @@ use Rattle.siman_pdus.specs.Spelling.{pdu_text}
 use Rattle.exercise_model.specs.Entry.{Entry, Sent}
 use Rattle.exercise_model.specs.Recording.{PlainRecording, with_entry}
 use Rattle.siman_application.specs.Application.{ApplicationData, Takes}
-use Rattle.siman_stations.specs.StationTurn.{stamp_of, sent_as, reply_due, RecordsAll, IsUnsent}
+use Rattle.siman_stations.specs.declared.moment.Moment.{Moment}
+use Rattle.siman_stations.specs.StationTurn.{sent_as, reply_due, RecordsAll, IsUnsent}
 
 -- no entry is that of no reply
 pub none_recorded : {R : Type 0} (records : R → Entry → R → Type 0) (s now : ℕ) (due : Option Pdu) (old : R) → false ≡ is_some due
@@ -24,20 +25,20 @@ pub nothing_said : (P : Pdu → Type 0) (due : Option Pdu) → false ≡ is_some
 nothing_said P None h = tt
 nothing_said P (Some p) h = cc
 
-unsent_if : {R F : Type 0} (refuses : R → Entry → F → R → Type 0) (s now : ℕ) (q : Pdu) (fault : F) (old new : R) (before after : ApplicationData) (due : Option Pdu) (sent : List ℕ)
-    → reply_due before (Some q) (stamp_of now) ≡ due → true ≡ is_some due → IfSome due (λ p. sent ≡ pdu_text p) → length sent ≤ LARGEST_DATAGRAM
-    → refuses old (Sent s now sent) fault new → Takes before q after → IsUnsent refuses s now q fault old new before after
-unsent_if refuses s now q fault old new before after None sent e h t z r k = cc
-unsent_if refuses s now q fault old new before after (Some p) sent e h t z r k =
-    record { answer = p; due = e; size = subst (λ (b : List ℕ). length b ≤ LARGEST_DATAGRAM) t z; refused = subst (λ (b : List ℕ). refuses old (Sent s now b) fault new) t r; application = k }
+unsent_if : {R F : Type 0} (refuses : R → Entry → F → R → Type 0) (s : ℕ) (at : Moment) (q : Pdu) (fault : F) (old new : R) (before after : ApplicationData) (due : Option Pdu) (sent : List ℕ)
+    → reply_due before (Some q) at.stamp ≡ due → true ≡ is_some due → IfSome due (λ p. sent ≡ pdu_text p) → length sent ≤ LARGEST_DATAGRAM
+    → refuses old (Sent s at.now sent) fault new → Takes before q after → IsUnsent refuses s at q fault old new before after
+unsent_if refuses s at q fault old new before after None sent e h t z r k = cc
+unsent_if refuses s at q fault old new before after (Some p) sent e h t z r k =
+    record { answer = p; due = e; size = subst (λ (b : List ℕ). length b ≤ LARGEST_DATAGRAM) t z; refused = subst (λ (b : List ℕ). refuses old (Sent s at.now b) fault new) t r; application = k }
 
 -- a reply that is due, with this timestamp and text, and was not recorded
-pub unsent : {R F : Type 0} (refuses : R → Entry → F → R → Type 0) (s now : ℕ) (q : Pdu) (fault : F) (old new : R) (before after : ApplicationData) (stamp : ℕ) (text sent : List ℕ)
-    → stamp ≡ stamp_of now → sent ≡ text → true ≡ is_some (reply_due before (Some q) stamp)
-    → IfSome (reply_due before (Some q) stamp) (λ p. text ≡ pdu_text p) → length text ≤ LARGEST_DATAGRAM → refuses old (Sent s now sent) fault new → Takes before q after
-    → IsUnsent refuses s now q fault old new before after
-unsent refuses s now q fault old new before after stamp text sent at same h t z r k =
-    unsent_if refuses s now q fault old new before after (reply_due before (Some q) stamp) sent (ap (λ (n : ℕ). reply_due before (Some q) n) (sym at)) h (subst (λ (b : List ℕ). IfSome (reply_due before (Some q) stamp) (λ p. b ≡ pdu_text p)) (sym same) t) (subst (λ (b : List ℕ). length b ≤ LARGEST_DATAGRAM) (sym same) z) r k
+pub unsent : {R F : Type 0} (refuses : R → Entry → F → R → Type 0) (s : ℕ) (at : Moment) (q : Pdu) (fault : F) (old new : R) (before after : ApplicationData) (text sent : List ℕ)
+    → sent ≡ text → true ≡ is_some (reply_due before (Some q) at.stamp)
+    → IfSome (reply_due before (Some q) at.stamp) (λ p. text ≡ pdu_text p) → length text ≤ LARGEST_DATAGRAM → refuses old (Sent s at.now sent) fault new → Takes before q after
+    → IsUnsent refuses s at q fault old new before after
+unsent refuses s at q fault old new before after text sent same h t z r k =
+    unsent_if refuses s at q fault old new before after (reply_due before (Some q) at.stamp) sent refl h (subst (λ (b : List ℕ). IfSome (reply_due before (Some q) at.stamp) (λ p. b ≡ pdu_text p)) (sym same) t) (subst (λ (b : List ℕ). length b ≤ LARGEST_DATAGRAM) (sym same) z) r k
 
 -- what is said of the reply to a PDU is said of the reply to the datagram that is read as it
 pub said_of_reading : (a : ApplicationData) (bytes : List ℕ) (q : Pdu) (stamp : ℕ) (P : Pdu → Type 0) (r : Result Pdu PduFault) → r ≡ Ok q

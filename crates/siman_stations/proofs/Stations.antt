@@ -33,6 +33,7 @@ use Rattle.siman_stations.specs.Deeds.{DeedsHaveNoCause, ReceivesSent}
 use Rattle.siman_stations.specs.Halves.{HalvesFollow}
 use Rattle.siman_stations.specs.Orders.{AreFit}
 use Rattle.siman_stations.specs.Sending.{IsOrderInRange, next_repeat}
+use Rattle.siman_stations.specs.Moments.{moment_of}
 use Rattle.siman_stations.specs.StationTurn.{stamp_of, sent_as, AreOf}
 use Rattle.siman_stations.proofs.Offered.{stamp_within, fit_requests, repeat_told, past-one, past-none, past-first, past-sent, past-came, log-own, log-other, own_sent, halves_begun, halves_take, halves_pass, halves_tell, halves_order, halves_tick, halves_repeat, deeds_stand, state_follows, all_run, SendsBytes, sends_bytes, bytes_first, bytes_both, was_bytes}
 use Rattle.siman_stations.specs.World.{WorldData, Course, setting_of, no_station, station_of, outfit_of, settings_of, sent_in, datagram, brought, call_of, made_by, reply_by, arrival, repeated_by, state_by, entries_by, put_at, act_fault, after_move, course_of}
@@ -128,7 +129,7 @@ order_follows w c s now order log can range is =
     ap (λ (n : ℕ). refusal st n order (stamp_of now)) (counts st calls) ∙ parts.1 in
     let first : HalvesFollow ⊥ s (outfit_of w s) (distinct (outfit_of w s) (c.came s)) (with_orders (book_of w s calls) (with_order st order now (stamp_of now) (kept st calls)))
     (sent_after s (Some (order_pdu st (next_id st (length (kept st calls))) order (stamp_of now))) log) ⊥ =
-    halves_order s (outfit_of w s) (distinct (outfit_of w s) (c.came s)) (book_of w s calls) log ⊥ order now is refl refl parts.0 none range in
+    halves_order s (outfit_of w s) (distinct (outfit_of w s) (c.came s)) (book_of w s calls) log ⊥ order now (stamp_of now) (stamp_within now) is refl refl parts.0 none range in
     subst (Follows w s (c.came s) (Requested order now (stamp_of now) ∷ calls)) (sym (past-sent s now (Some (made_by w c s now order)) log))
     (subst (λ (n : ℕ). Follows w s (c.came s) (Requested order now (stamp_of now) ∷ calls)
     (sent_after s (Some (order_pdu st (next_id st n) order (stamp_of now))) log)) (counts st calls)
@@ -154,14 +155,14 @@ arrival_follows : (w : WorldData) (c : Course) (s now : ℕ) (o : Option (List �
 arrival_follows w c s now None log bytes is = subst (λ (h : History). Follows w s (c.came s) (c.calls s) (h ++ log)) (sym past-none) is
 arrival_follows w c s now (Some b) log bytes is = came_follows w c s now b (reading b) log (bytes b refl) refl is
 
-repeat_follows : (w : WorldData) (c : Course) (s now : ℕ) (log : History) (o : Option Pdu) → next_repeat (book_of w s (c.calls s)) now ≡ o
+repeat_follows : (w : WorldData) (c : Course) (s now : ℕ) (log : History) (o : Option Pdu) → next_repeat (book_of w s (c.calls s)) (moment_of now) ≡ o
     → Follows w s (c.came s) (c.calls s) log → Follows w s (c.came s) (Ticked now (stamp_of now) ∷ c.calls s) (past (sent_as s now o) ++ log)
 repeat_follows w c s now log None e is =
     subst (λ (h : History). Follows w s (c.came s) (Ticked now (stamp_of now) ∷ c.calls s) (h ++ log)) (sym past-none)
-    (halves_tick s (outfit_of w s) (distinct (outfit_of w s) (c.came s)) (book_of w s (c.calls s)) log ⊥ now is)
+    (halves_tick s (outfit_of w s) (distinct (outfit_of w s) (c.came s)) (book_of w s (c.calls s)) log ⊥ now (stamp_of now) is)
 repeat_follows w c s now log (Some p) e is =
     subst (Follows w s (c.came s) (Ticked now (stamp_of now) ∷ c.calls s)) (sym (past-sent s now (Some p) log))
-    (halves_repeat s (outfit_of w s) (distinct (outfit_of w s) (c.came s)) (book_of w s (c.calls s)) log ⊥ now p is refl refl e)
+    (halves_repeat s (outfit_of w s) (distinct (outfit_of w s) (c.came s)) (book_of w s (c.calls s)) log ⊥ now (stamp_of now) (stamp_within now) p is refl refl e)
 
 -- the state by the log is that of the application
 pub state_is : (w : WorldData) (c : Course) (s : ℕ) → Follows w s (c.came s) (c.calls s) (log_at s (past c.entries)) → (e : ℕ)

@@ -16,9 +16,11 @@ use Rattle.exercise_model.specs.Entry.{Entry, Sent, Received, is_entry}
 use Rattle.exercise_model.specs.Recording.{PlainRecording, with_entry, push_refusal, unless_memory}
 use Rattle.siman_application.specs.Application.{ApplicationData}
 use Rattle.siman_stations.specs.declared.journal.Journal.{Journal}
+use Rattle.siman_stations.specs.declared.moment.Moment.{Moment}
 use Rattle.siman_stations.specs.declared.turn.Node.{Node}
 use Rattle.siman_stations.specs.declared.turn.TurnFault.{TurnFault}
 use Rattle.siman_stations.specs.declared.turn.TurnFault.TheVariants as faults
+use Rattle.siman_stations.specs.Moments.{moment_of}
 use Rattle.siman_stations.specs.Recording.{KeepsOut}
 use Rattle.siman_stations.specs.StationTurn.{sent_as, turn_entries, RecordsAll, TakesBoth, FailsTurn}
 use Rattle.siman_stations.specs.Acts.{Writes, HasRoom, LacksMemory, sends_of, with_entries, turn_if}
@@ -74,9 +76,11 @@ datagram_at sends k v b below is same =
     (slice_get-get_or sends k v below ∙ ap Some (sym is)) ∙ ap Some (sym same))
 
 -- what is told of a datagram is told of the one of its number
-pub writes_at : (a : ApplicationData) (s now : ℕ) (b : List ℕ) (o : Option (List ℕ)) (old new : Journal) → o ≡ Some b → Writes (turn_entries a s now b) old new
-    → Writes (turn_if a s now o) old new
-writes_at a s now b o old new is w = subst (λ (x : Option (List ℕ)). Writes (turn_if a s now x) old new) (sym is) w
+pub writes_at : (a : ApplicationData) (s now : ℕ) (at : Moment) (b : List ℕ) (o : Option (List ℕ)) (old new : Journal) → at ≡ moment_of now → o ≡ Some b
+    → Writes (turn_entries a s at b) old new → Writes (turn_if a s now o) old new
+writes_at a s now at b o old new moment is w =
+    subst (λ (x : Option (List ℕ)). Writes (turn_if a s now x) old new) (sym is)
+    (subst (λ (x : Moment). Writes (turn_entries a s x b) old new) moment w)
 
 pub takes_at : (b : List ℕ) (o : Option (List ℕ)) (old new : Node) → o ≡ Some b → TakesBoth (reading b) old new → TakesBoth (option_and_then reading o) old new
 takes_at b o old new is t = subst (λ (x : Option (List ℕ)). TakesBoth (option_and_then reading x) old new) (sym is) t
@@ -114,16 +118,16 @@ sent_fits s now b e r next room short is =
     (room_none (with_entry r e) (Sent s now b) (fits_short s (length r.setting.stations) b room.station short)
     (room_below (length (r.entries ++ e ∷ [])) below))
 
-fails_turn : (fault : LogFault) (s now : ℕ) (b : List ℕ) (old new : PlainRecording) (before after : Node) → HasRoom s old → length b ≤ LARGEST_DATAGRAM
-    → FailsTurn takes KeepsOut s now b (faults.Record fault) old new before after → unless_memory fault ≡ None
-fails_turn fault s now b old new before after room short (inl h) = taken_when fault old (Received s now b) (received_fits s now b old room short) new h.refused
-fails_turn fault s now b old new before after room short (inr h) =
-    taken_when fault h.next (Sent s now (pdu_text h.unsent.answer))
-    (sent_fits s now (pdu_text h.unsent.answer) (Received s now b) old h.next room h.unsent.size h.received) new h.unsent.refused
+fails_turn : (fault : LogFault) (s : ℕ) (at : Moment) (b : List ℕ) (old new : PlainRecording) (before after : Node) → HasRoom s old → length b ≤ LARGEST_DATAGRAM
+    → FailsTurn takes KeepsOut s at b (faults.Record fault) old new before after → unless_memory fault ≡ None
+fails_turn fault s at b old new before after room short (inl h) = taken_when fault old (Received s at.now b) (received_fits s at.now b old room short) new h.refused
+fails_turn fault s at b old new before after room short (inr h) =
+    taken_when fault h.next (Sent s at.now (pdu_text h.unsent.answer))
+    (sent_fits s at.now (pdu_text h.unsent.answer) (Received s at.now b) old h.next room h.unsent.size h.received) new h.unsent.refused
 
 -- a turn that has room lacks nothing but memory
-pub turn_lacks : (fault : TurnFault LogFault) (s now : ℕ) (b : List ℕ) (old new : PlainRecording) (before after : Node) → HasRoom s old
+pub turn_lacks : (fault : TurnFault LogFault) (s : ℕ) (at : Moment) (b : List ℕ) (old new : PlainRecording) (before after : Node) → HasRoom s old
     → length b ≤ LARGEST_DATAGRAM
-    → FailsTurn takes KeepsOut s now b fault old new before after → LacksMemory fault
-turn_lacks (faults.Record fault) s now b old new before after room short h = fails_turn fault s now b old new before after room short h
-turn_lacks faults.Memory s now b old new before after room short h = tt
+    → FailsTurn takes KeepsOut s at b fault old new before after → LacksMemory fault
+turn_lacks (faults.Record fault) s at b old new before after room short h = fails_turn fault s at b old new before after room short h
+turn_lacks faults.Memory s at b old new before after room short h = tt

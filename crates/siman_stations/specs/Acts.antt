@@ -26,8 +26,9 @@ use Rattle.siman_stations.specs.declared.moving.StepFault.TheVariants as step_fa
 use Rattle.siman_stations.specs.declared.station_fault.StationFault.{StationFault}
 use Rattle.siman_stations.specs.declared.station_fault.StationFault.TheVariants as station_faults
 use Rattle.siman_stations.specs.Asked.{order_fault, tell_fault}
+use Rattle.siman_stations.specs.Moments.{moment_of}
 use Rattle.siman_stations.specs.Sending.{next_order, after_order, next_repeat, after_tick}
-use Rattle.siman_stations.specs.StationTurn.{sent_as, turn_entries, TakesBoth}
+use Rattle.siman_stations.specs.StationTurn.{stamp_of, sent_as, turn_entries, TakesBoth}
 use Rattle.siman_stations.specs.World.{sent_in}
 
 -- The journal.
@@ -68,29 +69,29 @@ send_fault sends k = if nat_lt k (length sends) then None else Some faults.NoSuc
 -- the entries of a received datagram, if there is such a datagram
 abbrev pub turn_if : ApplicationData → ℕ → ℕ → Option (List ℕ) → List Entry
 turn_if a s now None = []
-turn_if a s now (Some b) = turn_entries a s now b
+turn_if a s now (Some b) = turn_entries a s (moment_of now) b
 
 -- An act.
 
 -- why an act is not done, after these datagrams were sent
 abbrev pub halves_fault : List (List ℕ) → Node → ℕ → Act → Option MoveFault
-halves_fault sends n now (Command order) = as_move (order_fault n.manager now order)
+halves_fault sends n now (Command order) = as_move (order_fault n.manager (stamp_of now) order)
 halves_fault sends n now (Deliver k) = send_fault sends k
 halves_fault sends n now Tick = None
 halves_fault sends n now (Tell e) = as_move (tell_fault e)
 
 -- the entries that an act makes
 abbrev pub halves_entries : List (List ℕ) → Node → ℕ → ℕ → Act → List Entry
-halves_entries sends n s now (Command order) = sent_as s now (Some (next_order n.manager now order))
+halves_entries sends n s now (Command order) = sent_as s now (Some (next_order n.manager (stamp_of now) order))
 halves_entries sends n s now (Deliver k) = turn_if n.application s now (slice_get sends k)
-halves_entries sends n s now Tick = sent_as s now (next_repeat n.manager now)
+halves_entries sends n s now Tick = sent_as s now (next_repeat n.manager (moment_of now))
 halves_entries sends n s now (Tell e) = Told s e (state_over n.application.outfit (came n.application) e) ∷ []
 
 -- the effect of an act on manager and application
 abbrev pub Goes : List (List ℕ) → ℕ → Act → Node → Node → Type 0
-Goes sends now (Command order) old new = new ≡ after_order old now order
+Goes sends now (Command order) old new = new ≡ after_order old (moment_of now) order
 Goes sends now (Deliver k) old new = TakesBoth (option_and_then reading (slice_get sends k)) old new
-Goes sends now Tick old new = new ≡ after_tick old now
+Goes sends now Tick old new = new ≡ after_tick old (moment_of now)
 Goes sends now (Tell e) old new = new ≡ old
 
 -- a fault of a move is the reason against it; any other is lack of memory
@@ -119,4 +120,4 @@ AreShort sends = (k : ℕ) (b : List ℕ) → slice_get sends k ≡ Some b → l
 
 -- a repeat that is due is not too long
 abbrev pub RepeatsShort : Book → Type 0
-RepeatsShort b = (now : ℕ) → IfSome (next_repeat b now) (λ p. pdu_size p ≤ LARGEST_DATAGRAM)
+RepeatsShort b = (now : ℕ) → IfSome (next_repeat b (moment_of now)) (λ p. pdu_size p ≤ LARGEST_DATAGRAM)

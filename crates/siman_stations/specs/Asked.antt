@@ -7,11 +7,10 @@ use Rattle.siman_manager.specs.Answers.{refusal_of}
 use Rattle.siman_manager.specs.Book.{Book}
 use Rattle.siman_stations.specs.declared.station_fault.StationFault.{StationFault}
 use Rattle.siman_stations.specs.declared.station_fault.StationFault.TheVariants as faults
-use Rattle.siman_stations.specs.StationTurn.{stamp_of}
 
--- why an order is not made
+-- why an order is not made with this timestamp
 abbrev pub order_fault : Book → ℕ → Order → Option StationFault
-order_fault b now order = if is_request_body order.body then option_map faults.Order (refusal_of b order (stamp_of now)) else Some faults.NotARequest
+order_fault b stamp order = if is_request_body order.body then option_map faults.Order (refusal_of b order stamp) else Some faults.NotARequest
 
 -- why a state is not told
 abbrev pub tell_fault : ℕ → Option StationFault

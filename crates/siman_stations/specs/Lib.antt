@@ -1,5 +1,6 @@
 pub mod Recording
 pub mod StationTurn
+pub mod Moments
 pub mod Sending
 pub mod Orders
 pub mod Halves

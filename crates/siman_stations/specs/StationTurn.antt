@@ -10,6 +10,7 @@ use Rattle.exercise_model.specs.History.{event_of, station_of}
 use Rattle.siman_application.specs.Play.{reply_after}
 use Rattle.siman_application.specs.Application.{ApplicationData, Takes, came}
 use Rattle.siman_manager.specs.Answers.{taken}
+use Rattle.siman_stations.specs.declared.moment.Moment.{Moment}
 use Rattle.siman_stations.specs.declared.turn.Node.{Node}
 use Rattle.siman_stations.specs.declared.turn.TurnFault.{TurnFault}
 use Rattle.siman_stations.specs.declared.turn.TurnFault.TheVariants as faults
@@ -44,23 +45,23 @@ TakesBoth None old new = new ≡ old
 TakesBoth (Some q) old new = Takes old.application q new.application × (new.manager ≡ taken old.manager q)
 
 -- THE ENTRIES OF A TURN: the datagram is received, and the reply is sent, if one is due
-abbrev pub turn_entries : ApplicationData → ℕ → ℕ → List ℕ → List Entry
-turn_entries a s now b = Received s now b ∷ sent_as s now (reply_due a (reading b) (stamp_of now))
+abbrev pub turn_entries : ApplicationData → ℕ → Moment → List ℕ → List Entry
+turn_entries a s at b = Received s at.now b ∷ sent_as s at.now (reply_due a (reading b) at.stamp)
 
 -- An answer.
 
 -- the application took the PDU, and the reply that is due, which a datagram can carry, was not recorded
-pub record IsUnsent {R F : Type 0} (refuses : R → Entry → F → R → Type 0) (s now : ℕ) (q : Pdu) (fault : F) (old new : R) (before after : ApplicationData) : Type 0 where
+pub record IsUnsent {R F : Type 0} (refuses : R → Entry → F → R → Type 0) (s : ℕ) (at : Moment) (q : Pdu) (fault : F) (old new : R) (before after : ApplicationData) : Type 0 where
   pub answer : Pdu
-  pub due : reply_due before (Some q) (stamp_of now) ≡ Some answer
+  pub due : reply_due before (Some q) at.stamp ≡ Some answer
   pub size : length (pdu_text answer) ≤ LARGEST_DATAGRAM
-  pub refused : refuses old (Sent s now (pdu_text answer)) fault new
+  pub refused : refuses old (Sent s at.now (pdu_text answer)) fault new
   pub application : Takes before q after
 
 -- the effect of a fault: after lack of memory all is unchanged
-abbrev pub FailsAnswer : {R F : Type 0} → (R → Entry → F → R → Type 0) → ℕ → ℕ → Pdu → TurnFault F → R → R → ApplicationData → ApplicationData → Type 0
-FailsAnswer refuses s now q (faults.Record fault) old new before after = IsUnsent refuses s now q fault old new before after
-FailsAnswer refuses s now q faults.Memory old new before after = (new ≡ old) × (after ≡ before)
+abbrev pub FailsAnswer : {R F : Type 0} → (R → Entry → F → R → Type 0) → ℕ → Moment → Pdu → TurnFault F → R → R → ApplicationData → ApplicationData → Type 0
+FailsAnswer refuses s at q (faults.Record fault) old new before after = IsUnsent refuses s at q fault old new before after
+FailsAnswer refuses s at q faults.Memory old new before after = (new ≡ old) × (after ≡ before)
 
 -- A turn.
 
@@ -71,18 +72,18 @@ pub record IsUnheard {R F : Type 0} (refuses : R → Entry → F → R → Type 
 
 -- the datagram was recorded, and the application took its PDU; the reply was not recorded, and the manager is
 -- unchanged
-pub record IsUnanswered {R F : Type 0} (records : R → Entry → R → Type 0) (refuses : R → Entry → F → R → Type 0) (s now : ℕ) (b : List ℕ) (fault : F) (old new : R) (before after : Node) : Type 0 where
+pub record IsUnanswered {R F : Type 0} (records : R → Entry → R → Type 0) (refuses : R → Entry → F → R → Type 0) (s : ℕ) (at : Moment) (b : List ℕ) (fault : F) (old new : R) (before after : Node) : Type 0 where
   pub next : R
   pub pdu : Pdu
-  pub received : records old (Received s now b) next
+  pub received : records old (Received s at.now b) next
   pub read : reading b ≡ Some pdu
-  pub unsent : IsUnsent refuses s now pdu fault next new before.application after.application
+  pub unsent : IsUnsent refuses s at pdu fault next new before.application after.application
   pub manager : after.manager ≡ before.manager
 
 -- the effect of a fault: after lack of memory the datagram is recorded, and the station is unchanged, so that a
 -- later copy is answered
-abbrev pub FailsTurn : {R F : Type 0} → (R → Entry → R → Type 0) → (R → Entry → F → R → Type 0) → ℕ → ℕ → List ℕ → TurnFault F → R → R → Node → Node
+abbrev pub FailsTurn : {R F : Type 0} → (R → Entry → R → Type 0) → (R → Entry → F → R → Type 0) → ℕ → Moment → List ℕ → TurnFault F → R → R → Node → Node
     → Type 0
-FailsTurn records refuses s now b (faults.Record fault) old new before after =
-    IsUnheard refuses s now b fault old new before after ⊎ IsUnanswered records refuses s now b fault old new before after
-FailsTurn records refuses s now b faults.Memory old new before after = RecordsAll records (Received s now b ∷ []) old new × (after ≡ before)
+FailsTurn records refuses s at b (faults.Record fault) old new before after =
+    IsUnheard refuses s at.now b fault old new before after ⊎ IsUnanswered records refuses s at b fault old new before after
+FailsTurn records refuses s at b faults.Memory old new before after = RecordsAll records (Received s at.now b ∷ []) old new × (after ≡ before)

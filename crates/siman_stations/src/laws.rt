@@ -23,7 +23,7 @@ ghost use Rattle.siman_manager.specs.Book.{Book, with_order};
 ghost use Rattle.siman_stations.specs.Deeds.{DeedsHaveNoCause, ReceivesSent, RequestsAreOrdered};
 ghost use Rattle.siman_stations.specs.Halves.{HalvesFollow};
 ghost use Rattle.siman_stations.specs.Sending.{IsOrderInRange, next_order, next_repeat};
-ghost use Rattle.siman_stations.specs.StationTurn.{stamp_of};
+ghost use Rattle.siman_stations.specs.declared.moment.Moment.{Moment};
 
 /// Application and manager of a station follow from its log: initially, and after each step of the
 /// station. `wants` says whether it may run out of memory, and `closed` whether no further entry
@@ -40,14 +40,14 @@ pub fn halves_follow_logs()
     ensures passes { (wants : Bool) (s : ℕ) (a : AppProfile) (ds : List Pdu) (k : Book) (log : History) (closed : Bool) (b : List ℕ)
         → (reading b ≡ None) ⊎ (wants ≡ true) → HalvesFollow (wants ≡ true) s a ds k log (closed ≡ true) → HalvesFollow (wants ≡ true) s a ds k (Get s b ∷ log) (closed ≡ true) }
     // An order is made, and sent.
-    ensures orders { (wants : Bool) (s : ℕ) (a : AppProfile) (ds : List Pdu) (k : Book) (log : History) (closed : Bool) (order : Order) (now : ℕ)
+    ensures orders { (wants : Bool) (s : ℕ) (a : AppProfile) (ds : List Pdu) (k : Book) (log : History) (closed : Bool) (order : Order) (at : Moment)
         → HalvesFollow (wants ≡ true) s a ds k log (closed ≡ true) → k.settings.exercise ≡ a.exercise → k.settings.address ≡ a.station.address
-        → is_request_body order.body ≡ true → refusal_of k order (stamp_of now) ≡ None → IsOrderInRange order
-        → HalvesFollow (wants ≡ true) s a ds (with_orders k (with_order k.settings order now (stamp_of now) k.orders)) (Send s (pdu_text (next_order k now order)) ∷ log) (closed ≡ true) }
+        → is_request_body order.body ≡ true → refusal_of k order at.stamp ≡ None → IsOrderInRange order → at.stamp < 2 ^ 32
+        → HalvesFollow (wants ≡ true) s a ds (with_orders k (with_order k.settings order at.now at.stamp k.orders)) (Send s (pdu_text (next_order k at.stamp order)) ∷ log) (closed ≡ true) }
     // A repeat is due, and sent.
-    ensures repeats { (wants : Bool) (s : ℕ) (a : AppProfile) (ds : List Pdu) (k : Book) (log : History) (closed : Bool) (now : ℕ) (p : Pdu)
-        → HalvesFollow (wants ≡ true) s a ds k log (closed ≡ true) → k.settings.exercise ≡ a.exercise → k.settings.address ≡ a.station.address → next_repeat k now ≡ Some p
-        → HalvesFollow (wants ≡ true) s a ds (ticked k now (stamp_of now)) (Send s (pdu_text p) ∷ log) (closed ≡ true) }
+    ensures repeats { (wants : Bool) (s : ℕ) (a : AppProfile) (ds : List Pdu) (k : Book) (log : History) (closed : Bool) (at : Moment) (p : Pdu)
+        → HalvesFollow (wants ≡ true) s a ds k log (closed ≡ true) → k.settings.exercise ≡ a.exercise → k.settings.address ≡ a.station.address → next_repeat k at ≡ Some p → at.stamp < 2 ^ 32
+        → HalvesFollow (wants ≡ true) s a ds (ticked k at.now at.stamp) (Send s (pdu_text p) ∷ log) (closed ≡ true) }
     // The state of an entity is told, as the application has it.
     ensures tells { (wants : Bool) (s : ℕ) (a : AppProfile) (ds : List Pdu) (k : Book) (log : History) (closed : Bool) (e : ℕ)
         → (is : HalvesFollow (wants ≡ true) s a ds k log (closed ≡ true)) → MissNone is.turns → HalvesFollow (wants ≡ true) s a ds k (Tell s e (state_over a ds e) ∷ log) (closed ≡ true) }

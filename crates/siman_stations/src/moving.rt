@@ -11,13 +11,14 @@ ghost use Rattle.siman_application.specs.Application.{came};
 ghost use Rattle.siman_stations.specs.Asked.{order_fault, tell_fault};
 ghost use Rattle.siman_stations.specs.Sending.{next_order, after_order, next_repeat, after_tick};
 ghost use Rattle.siman_stations.specs.Acts.{HasRoom, Writes, RepeatsShort, AreShort, Gives, LacksMemory, Keeps, at_move, Goes, send_fault, as_move, sends_of, turn_if, halves_fault, halves_entries};
-ghost use Rattle.siman_stations.specs.StationTurn.{sent_as, TakesBoth};
+ghost use Rattle.siman_stations.specs.Moments.{moment_of};
+ghost use Rattle.siman_stations.specs.StationTurn.{stamp_of, sent_as, TakesBoth};
 ghost use Rattle.siman_stations.specs.Sending.{IsOrderInRange};
 ghost use Rattle.siman_stations.specs.WorldLaw.{IsActInRange};
 
 use crate::journal::Journal;
 use crate::world_fault::{MoveFault, WorldFault};
-use crate::{Node, OrderTextFault, TurnFault, order_text, repeat_text, take_turn};
+use crate::{Moment, Node, OrderTextFault, TurnFault, order_text, repeat_text, take_turn};
 use exercise_model::{LogFault, is_entity};
 use siman_manager::{Order, OrderFault};
 use siman_pdus::EncodeFault;
@@ -58,18 +59,18 @@ impl From<AllocError> for StepFault {
 
 /// Makes an order, and writes its PDU into `text`.
 fn make_order(node: &mut Node, now: u64, order: Order, text: &mut Vec<u8>) -> Result<(), StepFault>
-    ensures node { OnOk result (node.new ≡ after_order node.old now order) }
-    ensures text { OnOk result (text.new.items ≡ pdu_text (next_order node.old.manager now order)) }
+    ensures node { OnOk result (node.new ≡ after_order node.old (moment_of now) order) }
+    ensures text { OnOk result (text.new.items ≡ pdu_text (next_order node.old.manager (stamp_of now) order)) }
     ensures size { OnOk result (length text.new.items ≤ LARGEST_DATAGRAM) }
-    ensures made { OnOk result (as_move (order_fault node.old.manager now order) ≡ None) }
+    ensures made { OnOk result (as_move (order_fault node.old.manager (stamp_of now) order) ≡ None) }
     ensures in_range { OnOk result (IsOrderInRange order) }
-    ensures fault { IfErr result (Gives (as_move (order_fault node.old.manager now order))) }
+    ensures fault { IfErr result (Gives (as_move (order_fault node.old.manager (stamp_of now) order))) }
     ensures kept { IfErr result (λ fault. (fault ≡ StepFault.Memory) ⊎ (node.new ≡ node.old)) }
 {
     if !order.body.is_request() {
         return Err(StepFault::Move(MoveFault::NotARequest));
     }
-    match order_text(node, now, order, text) {
+    match order_text(node, Moment::relative(now), order, text) {
         Ok(_) => Ok(()),
         Err(OrderTextFault::Order(OrderFault::Memory) | OrderTextFault::Memory) => {
             Err(StepFault::Memory)
@@ -81,12 +82,12 @@ fn make_order(node: &mut Node, now: u64, order: Order, text: &mut Vec<u8>) -> Re
 /// Writes the repeat that is due into `text`, if any. Returns whether one is due.
 fn make_repeat(node: &mut Node, now: u64, text: &mut Vec<u8>) -> Result<bool, AllocError>
     requires { RepeatsShort node.old.manager }
-    ensures node { OnOk result (node.new ≡ after_tick node.old now) }
-    ensures due { IfOk result (λ due. due ≡ is_some (next_repeat node.old.manager now)) }
-    ensures text { OnOk result (IfSome (next_repeat node.old.manager now) (λ p. text.new.items ≡ pdu_text p)) }
+    ensures node { OnOk result (node.new ≡ after_tick node.old (moment_of now)) }
+    ensures due { IfOk result (λ due. due ≡ is_some (next_repeat node.old.manager (moment_of now))) }
+    ensures text { OnOk result (IfSome (next_repeat node.old.manager (moment_of now)) (λ p. text.new.items ≡ pdu_text p)) }
     ensures size { IfOk result (λ due. due ≡ true → length text.new.items ≤ LARGEST_DATAGRAM) }
 {
-    match repeat_text(node, now, text) {
+    match repeat_text(node, Moment::relative(now), text) {
         Ok(due) => Ok(due),
         Err(EncodeFault::Memory) => Err(AllocError),
         Err(EncodeFault::TooLong) => unreachable!(),
@@ -103,11 +104,11 @@ fn command(
     order: Order,
 ) -> Result<(), StepFault>
     requires { HasRoom station journal.old.recording }
-    ensures entries { OnOk result (Writes (sent_as station now (Some (next_order node.old.manager now order))) journal.old journal.new) }
-    ensures halves { OnOk result (node.new ≡ after_order node.old now order) }
-    ensures made { OnOk result (as_move (order_fault node.old.manager now order) ≡ None) }
+    ensures entries { OnOk result (Writes (sent_as station now (Some (next_order node.old.manager (stamp_of now) order))) journal.old journal.new) }
+    ensures halves { OnOk result (node.new ≡ after_order node.old (moment_of now) order) }
+    ensures made { OnOk result (as_move (order_fault node.old.manager (stamp_of now) order) ≡ None) }
     ensures in_range { OnOk result (IsOrderInRange order) }
-    ensures fault { IfErr result (Gives (as_move (order_fault node.old.manager now order))) }
+    ensures fault { IfErr result (Gives (as_move (order_fault node.old.manager (stamp_of now) order))) }
     ensures kept { IfErr result (Keeps journal.old node.old journal.new node.new) }
 {
     make_order(node, now, order, &mut journal.text)?;
@@ -125,8 +126,8 @@ fn tick(
 ) -> Result<(), AllocError>
     requires room { HasRoom station journal.old.recording }
     requires short { RepeatsShort node.old.manager }
-    ensures entries { OnOk result (Writes (sent_as station now (next_repeat node.old.manager now)) journal.old journal.new) }
-    ensures halves { OnOk result (node.new ≡ after_tick node.old now) }
+    ensures entries { OnOk result (Writes (sent_as station now (next_repeat node.old.manager (moment_of now))) journal.old journal.new) }
+    ensures halves { OnOk result (node.new ≡ after_tick node.old (moment_of now)) }
 {
     if make_repeat(node, now, &mut journal.text)? {
         journal.send(alloc, station, now)?;
@@ -171,7 +172,7 @@ fn deliver(
         &mut journal.recording,
         node,
         station,
-        now,
+        Moment::relative(now),
         &journal.sends[number],
         &mut journal.text,
     );

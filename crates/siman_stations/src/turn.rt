@@ -5,8 +5,9 @@ ghost use Rattle.dis_records.specs.declared.header.TheConstants.{LARGEST_DATAGRA
 ghost use Rattle.siman_pdus.specs.Reading.{reading};
 ghost use Rattle.siman_pdus.specs.Spelling.{pdu_text};
 ghost use Rattle.siman_application.specs.Application.{Leaves, Takes};
-ghost use Rattle.siman_stations.specs.StationTurn.{stamp_of, sent_as, reply_due, RecordsAll, TakesBoth, turn_entries, FailsAnswer, FailsTurn};
+ghost use Rattle.siman_stations.specs.StationTurn.{sent_as, reply_due, RecordsAll, TakesBoth, turn_entries, FailsAnswer, FailsTurn};
 
+use crate::moment::Moment;
 use crate::recorder::Recorder;
 use dis_records::LARGEST_DATAGRAM;
 use siman_application::{AppFault, Application};
@@ -30,14 +31,6 @@ pub enum TurnFault<F> {
     Record(F),
     /// Memory ran out.
     Memory,
-}
-
-/// Timestamp of what is sent at this time of the clock: the time past the hour is its lower 31
-/// bits, relative.
-pub fn stamp_of(now: u64) -> u32
-    ensures { result ≡ stamp_of now }
-{
-    2 * (now % 0x8000_0000) as u32
 }
 
 /// Writes the reply to a PDU into `text`, if one is due. Returns whether one is.
@@ -70,23 +63,23 @@ fn answer<R: Recorder>(
     recorder: &mut R,
     application: &mut Application,
     station: u16,
-    now: u64,
+    moment: Moment,
     pdu: &Pdu,
     text: &mut Vec<u8>,
 ) -> Result<bool, TurnFault<R::Fault>>
-    ensures entries { OnOk result (RecordsAll R.records (sent_as station now (reply_due application.old (Some pdu.now) (stamp_of now))) recorder.old recorder.new) }
+    ensures entries { OnOk result (RecordsAll R.records (sent_as station moment.now (reply_due application.old (Some pdu.now) moment.stamp)) recorder.old recorder.new) }
     ensures takes { OnOk result (Takes application.old pdu.now application.new) }
-    ensures due { IfOk result (λ due. due ≡ is_some (reply_due application.old (Some pdu.now) (stamp_of now))) }
-    ensures text { OnOk result (IfSome (reply_due application.old (Some pdu.now) (stamp_of now)) (λ p. text.new.items ≡ pdu_text p)) }
-    ensures err { IfErr result (λ fault. FailsAnswer R.refuses station now pdu.now fault recorder.old recorder.new application.old application.new) }
+    ensures due { IfOk result (λ due. due ≡ is_some (reply_due application.old (Some pdu.now) moment.stamp)) }
+    ensures text { OnOk result (IfSome (reply_due application.old (Some pdu.now) moment.stamp) (λ p. text.new.items ≡ pdu_text p)) }
+    ensures err { IfErr result (λ fault. FailsAnswer R.refuses station moment pdu.now fault recorder.old recorder.new application.old application.new) }
 {
     // The memory is reserved before the application acts.
     text.clear();
     if text.reserve(LARGEST_DATAGRAM).is_err() {
         return Err(TurnFault::Memory);
     }
-    match reply(application, pdu, stamp_of(now), text) {
-        Ok(true) => match recorder.record_sent(alloc, station, now, text) {
+    match reply(application, pdu, moment.stamp, text) {
+        Ok(true) => match recorder.record_sent(alloc, station, moment.now, text) {
             Ok(()) => Ok(true),
             Err(fault) => Err(TurnFault::Record(fault)),
         },
@@ -105,23 +98,23 @@ pub fn take_turn<R: Recorder>(
     recorder: &mut R,
     node: &mut Node,
     station: u16,
-    now: u64,
+    moment: Moment,
     bytes: &[u8],
     text: &mut Vec<u8>,
 ) -> Result<bool, TurnFault<R::Fault>>
-    ensures entries { OnOk result (RecordsAll R.records (turn_entries node.old.application station now bytes.now) recorder.old recorder.new) }
+    ensures entries { OnOk result (RecordsAll R.records (turn_entries node.old.application station moment bytes.now) recorder.old recorder.new) }
     ensures halves { OnOk result (TakesBoth (reading bytes.now) node.old node.new) }
-    ensures due { IfOk result (λ due. due ≡ is_some (reply_due node.old.application (reading bytes.now) (stamp_of now))) }
-    ensures text { OnOk result (IfSome (reply_due node.old.application (reading bytes.now) (stamp_of now)) (λ p. text.new.items ≡ pdu_text p)) }
-    ensures err { IfErr result (λ fault. FailsTurn R.records R.refuses station now bytes.now fault recorder.old recorder.new node.old node.new) }
+    ensures due { IfOk result (λ due. due ≡ is_some (reply_due node.old.application (reading bytes.now) moment.stamp)) }
+    ensures text { OnOk result (IfSome (reply_due node.old.application (reading bytes.now) moment.stamp) (λ p. text.new.items ≡ pdu_text p)) }
+    ensures err { IfErr result (λ fault. FailsTurn R.records R.refuses station moment bytes.now fault recorder.old recorder.new node.old node.new) }
 {
-    if let Err(fault) = recorder.record_received(alloc, station, now, bytes) {
+    if let Err(fault) = recorder.record_received(alloc, station, moment.now, bytes) {
         return Err(TurnFault::Record(fault));
     }
     match decode(alloc, bytes) {
         Ok(pdu) => {
             let application = &mut node.application;
-            let answered = answer(alloc, recorder, application, station, now, &pdu, text)?;
+            let answered = answer(alloc, recorder, application, station, moment, &pdu, text)?;
             let _ = node.manager.take(&pdu);
             Ok(answered)
         }

@@ -37,6 +37,8 @@ mod managers;
 #[cfg(test)]
 mod mending;
 #[cfg(test)]
+mod moments;
+#[cfg(test)]
 mod pdus;
 #[cfg(test)]
 mod reasons;

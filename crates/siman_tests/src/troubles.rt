@@ -6,7 +6,7 @@ ghost use Rattle.siman_operator.specs.declared.reading.TheConstants.{LONGEST_LIN
 
 use dis_records::Address;
 use siman_lines::{LineCall, LineTrouble, MemoryLine, put_line_trouble};
-use siman_operator::{LONGEST_LINE, attach_station, record_session, set_up};
+use siman_operator::{LONGEST_LINE, WaitUnit, attach_station, record_session, set_up};
 use siman_scripts::read_script;
 use siman_trials::{Calls, WELL, read_from, write_to};
 use std::alloc::{AllocError, Global};
@@ -114,9 +114,9 @@ fn room_of(alloc: Global) -> Result<Vec<u8>, AllocError>
 fn reported_by(alloc: Global, calls: Calls) -> Option<Vec<u8>> {
     let address = Address::new(1, 1)?;
     let script = read_script(alloc, SCRIPT.as_bytes()).ok()?;
-    let station = set_up(alloc, script, address).ok()?;
+    let station = set_up(alloc, script, address, WaitUnit::AsSaid).ok()?;
     let line = MemoryLine::new(alloc, Vec::new(alloc), None);
-    let ready = attach_station(alloc, station, address, line).ok()?;
+    let ready = attach_station(alloc, station, address, line, false).ok()?;
     let Ok(mut room) = room_of(alloc) else {
         drop(ready);
         return None;

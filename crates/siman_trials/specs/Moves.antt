@@ -8,20 +8,21 @@ use Rattle.siman_lines.specs.declared.fault.AtLineFault.{AtLineFault}
 use Rattle.siman_lines.specs.declared.station_at_line.StationAtLine.{StationAtLine}
 use Rattle.siman_lines.specs.AtLines.{Telling, AtLines, KeepsCounts, LeavesRefused, OrdersAt, RepeatsAt, TellsAt, One, RoundsEnd}
 use Rattle.siman_lines.specs.Steps.{Each, Stops}
+use Rattle.siman_stations.specs.Moments.{moment_of}
 use Rattle.siman_trials.specs.declared.performed.LinkMoveFault.{LinkMoveFault}
 use Rattle.siman_trials.specs.declared.performed.LinkMoveFault.TheVariants.{NoSuchStation, AtLine}
 
 -- EFFECT OF AN ACT of a station at its link, before and after, with its recorder: it issues the order, sends the repeat that is due, or records the state; a delivery does nothing. An order and a repeat leave the counts of what was left out as they were; where the station refuses an order or a state, all else is as it was too.
 abbrev pub ActsAt : {L : Type 0} → Telling L → (now : ℕ) → Act → (done : Result (Unit {0}) AtLineFault) → (p : StationAtLine L) → (w : WriterState)
     → (q : StationAtLine L) → (v : WriterState) → Type 0
-ActsAt told now (Command order) done p w q v = KeepsCounts p q × OrdersAt told now order p w q v done × IfErr done (LeavesRefused told p w q v)
+ActsAt told now (Command order) done p w q v = KeepsCounts p q × OrdersAt told (moment_of now) order p w q v done × IfErr done (LeavesRefused told p w q v)
 ActsAt told now (Deliver k) done p w q v = (done ≡ Ok tt) × (q ≡ p) × (v ≡ w)
-ActsAt told now Tick done p w q v = KeepsCounts p q × RepeatsAt told now p w q v done
+ActsAt told now Tick done p w q v = KeepsCounts p q × RepeatsAt told (moment_of now) p w q v done
 ActsAt told now (Tell e) done p w q v = (q ≡ p) × TellsAt e p w v done × IfErr done (LeavesRefused told p w q v)
 
 -- FOUR ROUNDS, each serving each station once, in order, for at most 64 receives.
 abbrev pub ServesFour : {L : Type 0} → Telling L → (now : ℕ) → AtLines L → AtLines L → Result (Unit {0}) AtLineFault → Type 0
-ServesFour told now old new done = RoundsEnd told now 4 64 old new done
+ServesFour told now old new done = RoundsEnd told (moment_of now) 4 64 old new done
 
 -- A MOVE IS MADE: its station carries out its act, the others are unchanged, and then four rounds serve all stations.
 pub record IsMade {L : Type 0} (told : Telling L) (step : Move) (old new : AtLines L) : Type 0 where

@@ -33,22 +33,32 @@ pub struct Given<'a> {
     given: usize,
     /// Numbers of bytes behind which datagrams come before the next byte, rising.
     pauses: &'a [usize],
+    /// Numbers of bytes behind which the clock shows another time, rising, each with that time.
+    times: &'a [(usize, u64)],
 }
 
 /// Reader of these bytes, with limited calls.
 pub fn read_from(left: &[u8], calls: Calls) -> Given<'_> {
-    read_with_pauses(left, calls, &[])
+    read_with_waits(left, calls, &[], &[])
 }
 
 /// Reader of these bytes, with limited calls. A wait behind a number of bytes that is in `pauses`,
-/// in rising order, finds datagrams first, once for each time that it is there.
-pub fn read_with_pauses<'a>(left: &'a [u8], calls: Calls, pauses: &'a [usize]) -> Given<'a> {
+/// in rising order, finds datagrams first, once for each time that it is there. The clock shows the
+/// time of the last number in `times`, in rising order, of which so many bytes were given, and 0
+/// before the first.
+pub fn read_with_waits<'a>(
+    left: &'a [u8],
+    calls: Calls,
+    pauses: &'a [usize],
+    times: &'a [(usize, u64)],
+) -> Given<'a> {
     Given {
         left,
         calls,
         made: 0,
         given: 0,
         pauses,
+        times,
     }
 }
 
@@ -70,20 +80,36 @@ impl Read for Given<'_> {
     }
 }
 
+impl Given<'_> {
+    /// What the clock shows.
+    fn time(&self) -> u64 {
+        let mut time = 0;
+        for (behind, shown) in self.times {
+            if *behind <= self.given {
+                time = *shown;
+            }
+        }
+        time
+    }
+}
+
 impl<L> Input<L> for Given<'_> {
-    fn wait(&mut self, _line: &L) -> Ready {
+    fn wait(&mut self, _line: &L, _until: Option<u64>) -> Ready {
+        let time = self.time();
         if let [first, rest @ ..] = self.pauses {
             if *first <= self.given {
                 self.pauses = rest;
                 return Ready {
                     text: false,
                     datagrams: true,
+                    time,
                 };
             }
         }
         Ready {
             text: true,
             datagrams: false,
+            time,
         }
     }
 }

@@ -28,6 +28,9 @@ pub struct Case {
     pub input: Stream,
     /// Numbers of bytes of `input` behind which datagrams come before the next byte.
     pub input_pauses: Vec<usize>,
+    /// Numbers of bytes of `input` behind which the clock shows another time, each with that time,
+    /// in microseconds since 1970.
+    pub input_times: Vec<(usize, u64)>,
     pub out: Stream,
     pub errors: Stream,
     /// Expected second line of the fault, if `is_reason` is set.
@@ -81,6 +84,7 @@ impl Drop for Case {
             files: _files,
             input: _input,
             input_pauses: _input_pauses,
+            input_times: _input_times,
             out: _out,
             errors: _errors,
             reason: _reason,
@@ -117,6 +121,7 @@ pub fn begin_case(alloc: Global, name: String, files: Vec<File>) -> Case {
         files,
         input: empty(alloc),
         input_pauses: Vec::new(alloc),
+        input_times: Vec::new(alloc),
         out: empty(alloc),
         errors: empty(alloc),
         reason: empty(alloc),
@@ -333,6 +338,16 @@ impl Case {
         }
     }
 
+    /// Adds a time that the clock shows behind the bytes of the input so far. Returns false if the
+    /// input is not what lines fill.
+    fn show_time(&mut self, time: u64) -> io::Result<bool> {
+        if !matches!(self.part, CasePart::Input) {
+            return Ok(false);
+        }
+        self.input_times.push((self.input.bytes.len(), time))?;
+        Ok(true)
+    }
+
     /// Takes a line that adds an item to the case, or begins the next case.
     fn enter(&mut self, line: CaseLine<'_>) -> Result<(), AllocError> {
         match line.says {
@@ -364,6 +379,7 @@ impl Case {
             Says::Text | Says::Piece | Says::Times | Says::Each | Says::Hex | Says::Calls => {
                 self.fill(line)
             }
+            Says::Time => self.show_time(line.last),
             _ => {
                 self.set(line);
                 self.enter(line)?;

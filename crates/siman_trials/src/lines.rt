@@ -60,6 +60,7 @@ pub(crate) enum Says {
     LineFails,
     Call(Asked),
     Pause,
+    Time,
     EachCallFails,
     EachByteFails,
 }
@@ -75,7 +76,7 @@ pub(crate) struct CaseLine<'a> {
 }
 
 /// Each word with its meaning, the count of its numbers, and whether a text may follow them.
-static WORDS: [(&str, Says, usize, bool); 42] = [
+static WORDS: [(&str, Says, usize, bool); 43] = [
     ("case", Says::Case, 0, true),
     ("words", Says::Words, 0, true),
     (
@@ -131,6 +132,7 @@ static WORDS: [(&str, Says, usize, bool); 42] = [
     ("datum", Says::Call(Asked::Datum), 1, false),
     ("given-up", Says::Call(Asked::GivenUp), 0, false),
     ("pause", Says::Pause, 0, false),
+    ("time", Says::Time, 1, false),
     ("each-call-fails", Says::EachCallFails, 1, false),
     ("each-byte-fails", Says::EachByteFails, 0, false),
 ];

@@ -8,6 +8,7 @@ ghost use Rattle.siman_trials.specs.Moves.{ActsAt, MoveEnds, MovesEnd};
 use exercise_recording::RecordingWriter;
 use siman_lines::{AtLineFault, Line, StationAtLine, order_at, repeat_at, serve_rounds, tell_at};
 use siman_scripts::{Act, Move};
+use siman_stations::Moment;
 use std::alloc::Global;
 use std::io::Write;
 
@@ -50,10 +51,11 @@ fn act_at<L: Line + Drop, W: Write>(
     ensures index { station.new.index ≡ station.old.index }
     ensures keeps { Keeps station.old.index station.old.node recorder.old (L.sent station.old.line) station.new.node recorder.new (L.sent station.new.line) }
 {
+    let moment = Moment::relative(now);
     match act {
-        Act::Command(order) => order_at(alloc, station, recorder, now, order),
+        Act::Command(order) => order_at(alloc, station, recorder, moment, order),
         Act::Deliver(_) => Ok(()),
-        Act::Tick => repeat_at(alloc, station, recorder, now),
+        Act::Tick => repeat_at(alloc, station, recorder, moment),
         Act::Tell(entity) => tell_at(station, recorder, entity),
     }
 }
@@ -80,7 +82,8 @@ fn make_move<L: Line + Drop, W: Write>(
         return Err(LinkMoveFault::NoSuchStation);
     }
     act_at(alloc, &mut stations[number], recorder, now, act)?;
-    serve_rounds(alloc, stations, recorder, now, ROUNDS, TURNS)?;
+    let moment = Moment::relative(now);
+    serve_rounds(alloc, stations, recorder, moment, ROUNDS, TURNS)?;
     Ok(())
 }
 

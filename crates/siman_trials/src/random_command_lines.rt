@@ -91,6 +91,7 @@ const WORDS: [&str; WORD_COUNT] = [
     "to=x",
     "from=any",
     "keep=all",
+    "clock=system",
     "2:3",
     "1:1",
     "0:1",
@@ -109,10 +110,10 @@ const WORDS: [&str; WORD_COUNT] = [
 ];
 
 /// Largest number of words in a command line.
-const MOST: usize = 10;
+const MOST: usize = 11;
 
 /// Number of words.
-const WORD_COUNT: usize = 101;
+const WORD_COUNT: usize = 102;
 
 /// Number of command lines.
 const LINE_COUNT: usize = 36;
@@ -183,6 +184,7 @@ const LINES: [&[&str]; LINE_COUNT] = [
         "127.0.0.1:3002",
         "from=any",
         "keep=all",
+        "clock=system",
     ],
 ];
 

@@ -16,6 +16,8 @@ use Rattle.siman_stations.specs.declared.world_fault.MoveFault.{MoveFault}
 use Rattle.siman_stations.specs.declared.world_fault.MoveFault.TheVariants as moves
 use Rattle.siman_stations.specs.Asked.{order_fault, tell_fault}
 use Rattle.siman_stations.specs.Acts.{of_station, as_move}
+use Rattle.siman_stations.specs.Moments.{moment_of}
+use Rattle.siman_stations.specs.StationTurn.{stamp_of}
 use Rattle.siman_outside.specs.declared.fault.Fault.{Fault}
 use Rattle.siman_outside.specs.declared.fault.Fault.TheVariants as faults
 use Rattle.siman_outside.specs.declared.fault.Fault.TheVariants.{LineFailed, Output, Memory}
@@ -25,7 +27,7 @@ use Rattle.siman_exercise_commands.specs.declared.live.moves.LiveMoveFault.TheVa
 
 -- WHY A STATION CANNOT DO AN ACT at its link: as in a world, except that a delivery does nothing
 abbrev pub live_fault : Node → ℕ → Act → Option MoveFault
-live_fault n now (Command order) = as_move (order_fault n.manager now order)
+live_fault n now (Command order) = as_move (order_fault n.manager (stamp_of now) order)
 live_fault n now (Deliver k) = None
 live_fault n now Tick = None
 live_fault n now (Tell e) = as_move (tell_fault e)
@@ -73,9 +75,9 @@ of_done (Err fault) = Err (of_line fault)
 -- refuses the act, nothing does.
 abbrev pub ActsAt : {L : Type 0} → Telling L → (now : ℕ) → Act → (done : Result (Unit {0}) AtLineFault) → (p : StationAtLine L) → (w : WriterState)
     → (q : StationAtLine L) → (v : WriterState) → Type 0
-ActsAt told now (Command order) done p w q v = KeepsCounts p q × OrdersAt told now order p w q v done × IfErr done (LeavesRefused told p w q v)
+ActsAt told now (Command order) done p w q v = KeepsCounts p q × OrdersAt told (moment_of now) order p w q v done × IfErr done (LeavesRefused told p w q v)
 ActsAt told now (Deliver k) done p w q v = (done ≡ Ok tt) × (q ≡ p) × (v ≡ w)
-ActsAt told now Tick done p w q v = KeepsCounts p q × RepeatsAt told now p w q v done
+ActsAt told now Tick done p w q v = KeepsCounts p q × RepeatsAt told (moment_of now) p w q v done
 ActsAt told now (Tell e) done p w q v = (q ≡ p) × TellsAt e p w v done × IfErr done (LeavesRefused told p w q v)
 
 -- the result of an act at a link: it was done there, or the fault has the name of the one there
@@ -89,7 +91,7 @@ reason_against a step = move_fault a.recorder.entries (option_map (λ p. p.node)
 
 -- FOUR ROUNDS, in each of which each station is served once, in their order, for at most 64 receives
 abbrev pub ServesFour : {L : Type 0} → Telling L → (now : ℕ) → AtLines L → AtLines L → Result (Unit {0}) AtLineFault → Type 0
-ServesFour told now old new done = RoundsEnd told now 4 64 old new done
+ServesFour told now old new done = RoundsEnd told (moment_of now) 4 64 old new done
 
 -- A MOVE IS MADE: its station does its act, the others do not change, and then all are served in four rounds
 pub record IsMade {L : Type 0} (told : Telling L) (now station : ℕ) (act : Act) (old new : AtLines L) : Type 0 where

@@ -18,7 +18,7 @@ use siman_lines::{
 };
 use siman_outside::{Fault, ShortText, short_text};
 use siman_scripts::{Act, Move};
-use siman_stations::{MoveFault, Node};
+use siman_stations::{Moment, MoveFault, Node};
 use std::alloc::Global;
 use std::io::Write;
 
@@ -112,10 +112,11 @@ fn act_at<L: Line + Drop, W: Write>(
     ensures index { station.new.index ≡ station.old.index }
     ensures keeps { Keeps station.old.index station.old.node recorder.old (L.sent station.old.line) station.new.node recorder.new (L.sent station.new.line) }
 {
+    let moment = Moment::relative(now);
     match act {
-        Act::Command(order) => of_station(order_at(alloc, station, recorder, now, order)),
+        Act::Command(order) => of_station(order_at(alloc, station, recorder, moment, order)),
         Act::Deliver(_) => Ok(()),
-        Act::Tick => of_station(repeat_at(alloc, station, recorder, now)),
+        Act::Tick => of_station(repeat_at(alloc, station, recorder, moment)),
         Act::Tell(entity) => of_station(tell_at(station, recorder, entity)),
     }
 }
@@ -179,7 +180,8 @@ fn judge_and_make<L: Line + Drop, W: Write>(
         now,
         act,
     )?;
-    of_station(serve_rounds(alloc, stations, recorder, now, ROUNDS, TURNS))
+    let moment = Moment::relative(now);
+    of_station(serve_rounds(alloc, stations, recorder, moment, ROUNDS, TURNS))
 }
 
 /// Makes moves in their order, up to the first that cannot be made.

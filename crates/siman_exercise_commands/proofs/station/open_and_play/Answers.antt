@@ -21,7 +21,7 @@ returns-in-Ok-attach_station g c =
       bound ∷ rest.0,
       adds_then _ _ _ (bound ∷ []) rest.0 (rw c.deref.ensures.value at c.in-Ok.ensures.done) rest.1,
       (λ holds. All-cons (WasHeld holds) bound rest.0 tt (rest.2 holds)),
-      (refl, refl, refl, inr (had.ready, had.ensures.head, had.ensures.log, had.ensures.station, had.ensures.address, had.ensures.stations, rest.3)),
+      (refl, refl, refl, inr (had.ready, had.ensures.head, had.ensures.log, had.ensures.station, had.ensures.address, had.ensures.stations, had.ensures.source, rest.3)),
     )
 
 pub returns-in-Err-attach_station : goal.returns-in-Err-attach_station

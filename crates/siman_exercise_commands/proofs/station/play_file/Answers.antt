@@ -10,7 +10,7 @@ use Rattle.siman_exercise_commands.proofs.Stood.{of_text}
 use Rattle.siman_exercise_commands.proofs.station.play_file.Goals as goal
 
 pub play_set_up-requires-clause-set_up : goal.play_set_up-requires-clause-set_up
-play_set_up-requires-clause-set_up g c = of_text _ _ c.in-Ok-set_up_file.set_up c.in-Ok-set_up_file.ensures
+play_set_up-requires-clause-set_up g c = of_text _ _ _ c.in-Ok-set_up_file.set_up c.in-Ok-set_up_file.ensures
 
 pub returns-in-Ok-set_up_file : goal.returns-in-Ok-set_up_file
 returns-in-Ok-set_up_file g c =

@@ -13,4 +13,4 @@ invariant-loop-number g l =
     } in
     let old : AtLines g.row.L.Denot = record { stations = l.fn.stations.items; recorder = l.fn.recorder } in
     let new : AtLines g.row.L.Denot = record { stations = l.stations.items; recorder = l.recorder } in
-    Each (One (ServedAt told l.fn.now l.fn.turns)) l.number old new × Follows told old new
+    Each (One (ServedAt told l.fn.moment l.fn.turns)) l.number old new × Follows told old new

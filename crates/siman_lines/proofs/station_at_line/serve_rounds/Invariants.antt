@@ -13,4 +13,4 @@ invariant-loop g l =
     } in
     let old : AtLines g.row.L.Denot = record { stations = l.fn.stations.items; recorder = l.fn.recorder } in
     let new : AtLines g.row.L.Denot = record { stations = l.stations.items; recorder = l.recorder } in
-    Each (λ number. Round told l.fn.now l.fn.turns) l.counter old new × Follows told old new
+    Each (λ number. Round told l.fn.moment l.fn.turns) l.counter old new × Follows told old new

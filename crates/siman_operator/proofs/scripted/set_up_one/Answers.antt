@@ -19,4 +19,5 @@ returns c =
           only_node c.args.exercise c.args.station c.in-Ok.beginning.nodes.items c.pop.new.self.items c.in-Some.node
           (subst (λ (ss : List WorldStationData). AreNewNodes c.args.exercise ss c.in-Ok.beginning.nodes.items) alone c.in-Ok.ensures.nodes) c.in-Some.ensures.items;
       stations = refl;
+      wait = ap (λ (s : WorldStationData). s.wait) c.station.view_is;
     }

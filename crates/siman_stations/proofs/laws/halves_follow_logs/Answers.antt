@@ -12,10 +12,10 @@ pub returns-clause-passes : goal.returns-clause-passes
 returns-clause-passes c = λ wants s a ds k log closed b why is. halves_pass s a ds k log (closed ≡ true) b why is
 
 pub returns-clause-orders : goal.returns-clause-orders
-returns-clause-orders c = λ wants s a ds k log closed order now is x at request none range. halves_order s a ds k log (closed ≡ true) order now is x at request none range
+returns-clause-orders c = λ wants s a ds k log closed order at is x address request none range fits. halves_order s a ds k log (closed ≡ true) order at.now at.stamp fits is x address request none range
 
 pub returns-clause-repeats : goal.returns-clause-repeats
-returns-clause-repeats c = λ wants s a ds k log closed now p is x at due. halves_repeat s a ds k log (closed ≡ true) now p is x at due
+returns-clause-repeats c = λ wants s a ds k log closed at p is x address due fits. halves_repeat s a ds k log (closed ≡ true) at.now at.stamp fits p is x address due
 
 pub returns-clause-tells : goal.returns-clause-tells
 returns-clause-tells c = λ wants s a ds k log closed e is none. halves_tell s a ds k log (closed ≡ true) e _ is none refl

@@ -1,6 +1,6 @@
 use Rattle.std.proofs.Common.{◌≡◌, true, false, is_some, refl, sym, ◌∙◌, arith}
 use Rattle.siman_pdus.specs.Reading.{reading}
-use Rattle.siman_stations.specs.StationTurn.{stamp_of, reply_due}
+use Rattle.siman_stations.specs.StationTurn.{reply_due}
 use Rattle.siman_stations.proofs.Writings.{writes_reply, writes_none, datagram_at, writes_at, takes_at, turn_lacks}
 use Rattle.siman_stations.proofs.moving.deliver.Goals as goal
 use Rattle.std.proofs.lemmas.Grind.{common_steps}
@@ -9,7 +9,7 @@ pub of_turn-requires : goal.of_turn-requires
 of_turn-requires c =
     let b = c.deref.result.now in
     let at = datagram_at c.args.journal.now.sends.items c.args.number c.index.result.now b (omega arith) c.index.ensures c.deref.ensures.value in
-    turn_lacks c.in-Err.fault c.args.station c.args.now b c.args.journal.now.recording c.take_turn-turn.new.recorder c.args.node.now
+    turn_lacks c.in-Err.fault c.args.station c.relative.result b c.args.journal.now.recording c.take_turn-turn.new.recorder c.args.node.now
     c.take_turn-turn.new.node c.requires.room (c.requires.short c.args.number b at) c.in-Err.ensures.err
 
 pub returns-in_ok-number-in-Ok-true-clause-entries : goal.returns-in_ok-number-in-Ok-true-clause-entries
@@ -18,10 +18,10 @@ returns-in_ok-number-in-Ok-true-clause-entries c =
     let s = c.args.station in
     let old = c.args.journal.now in
     let at = datagram_at old.sends.items c.args.number c.index.result.now b (omega arith) c.index.ensures c.deref.ensures.value in
-    let due = reply_due c.args.node.now.application (reading b) (stamp_of c.args.now) in
+    let due = reply_due c.args.node.now.application (reading b) c.relative.result.stamp in
     let some : is_some due ≡ true = sym c.in-Ok-true.ensures.due ∙ c.in-Ok-true.field-0-test in
-    writes_at c.args.node.now.application s c.args.now b _ old c.number.new.self at
-    (writes_reply s c.args.now b due c.take_turn-turn.new.text.items c.take_turn-turn.new.recorder old c.number.new.self c.in-Ok-true.ensures.entries
+    writes_at c.args.node.now.application s c.args.now c.relative.result b _ old c.number.new.self c.relative.ensures at
+    (writes_reply s c.relative.result.now b due c.take_turn-turn.new.text.items c.take_turn-turn.new.recorder old c.number.new.self c.in-Ok-true.ensures.entries
     some c.in-Ok-true.ensures.text c.number.ensures.recording c.in_ok-number-in-Ok-true.ensures.sends)
 
 pub returns-in_ok-number-in-Ok-true-clause-halves : goal.returns-in_ok-number-in-Ok-true-clause-halves
@@ -36,10 +36,10 @@ returns-in-Ok-false-clause-entries c =
     let s = c.args.station in
     let old = c.args.journal.now in
     let at = datagram_at old.sends.items c.args.number c.index.result.now b (omega arith) c.index.ensures c.deref.ensures.value in
-    let due = reply_due c.args.node.now.application (reading b) (stamp_of c.args.now) in
+    let due = reply_due c.args.node.now.application (reading b) c.relative.result.stamp in
     let none : is_some due ≡ false = sym c.in-Ok-false.ensures.due ∙ c.in-Ok-false.field-0-test in
-    writes_at c.args.node.now.application s c.args.now b _ old _ at
-    (writes_none s c.args.now b due old (record { recording = c.take_turn-turn.new.recorder; sends = old.sends; text = c.take_turn-turn.new.text })
+    writes_at c.args.node.now.application s c.args.now c.relative.result b _ old _ c.relative.ensures at
+    (writes_none s c.relative.result.now b due old (record { recording = c.take_turn-turn.new.recorder; sends = old.sends; text = c.take_turn-turn.new.text })
     c.in-Ok-false.ensures.entries none refl)
 
 pub returns-in-Ok-false-clause-halves : goal.returns-in-Ok-false-clause-halves

@@ -1,7 +1,6 @@
-use Rattle.siman_stations.specs.StationTurn.{stamp_of}
 use Rattle.siman_stations.proofs.Replies.{said_of_reading}
 use Rattle.siman_stations.proofs.turn.take_turn.Goals as goal
 
 pub returns-in_ok-answered-in-Ok-clause-text : goal.returns-in_ok-answered-in-Ok-clause-text
 returns-in_ok-answered-in-Ok-clause-text g c =
-    said_of_reading c.args.node.now.application c.args.bytes.now c.in-Ok.pdu (stamp_of c.args.now) _ c.decode.result c.in-Ok.is c.decode.ensures.reads c.in_ok-answered-in-Ok.ensures.text
+    said_of_reading c.args.node.now.application c.args.bytes.now c.in-Ok.pdu c.args.moment.stamp _ c.decode.result c.in-Ok.is c.decode.ensures.reads c.in_ok-answered-in-Ok.ensures.text

@@ -4,10 +4,10 @@ use Rattle.siman_lines.proofs.Offered.{keeps_nothing}
 use Rattle.siman_trials.proofs.performed.act_at.Goals as goal
 
 pub returns-in-Command-clause-does : goal.returns-in-Command-clause-does
-returns-in-Command-clause-does g c = rw c.in-Command.is (c.order_at.ensures.counts, c.order_at.ensures.ends, c.order_at.ensures.refused)
+returns-in-Command-clause-does g c = rw c.in-Command.is (c.order_at.ensures.counts, rw c.relative-moment.ensures at c.order_at.ensures.ends, c.order_at.ensures.refused)
 
 pub returns-in-Tick-clause-does : goal.returns-in-Tick-clause-does
-returns-in-Tick-clause-does g c = rw c.in-Tick.is (c.repeat_at.ensures.counts, c.repeat_at.ensures.ends)
+returns-in-Tick-clause-does g c = rw c.in-Tick.is (c.repeat_at.ensures.counts, rw c.relative-moment.ensures at c.repeat_at.ensures.ends)
 
 pub returns-in-Tell-clause-does : goal.returns-in-Tell-clause-does
 returns-in-Tell-clause-does g c = rw c.in-Tell.is (refl, c.tell_at.ensures.ends, c.tell_at.ensures.refused)

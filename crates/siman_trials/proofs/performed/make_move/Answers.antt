@@ -27,7 +27,7 @@ returns-in_err-serve_rounds-clause-ends g c =
     at_fault (MoveEnds _ c.args.step _ _) (AtLine c.in_err-serve_rounds.field-0.0) c.from_residual-in_err-serve_rounds.result
     c.from_residual-in_err-serve_rounds.ensures.1
     (unserved _ c.args.step c.from-number.result c.in_err-serve_rounds.field-0.0 c.args.stations.now.items c.args.recorder.now _ p _ _ c.from-number.ensures there
-    c.in_ok-act_at.ensures.does c.in_err-serve_rounds.ensures.ends)
+    c.in_ok-act_at.ensures.does (rw c.relative-moment.ensures at c.in_err-serve_rounds.ensures.ends))
 
 pub returns-in_err-serve_rounds-clause-follows : goal.returns-in_err-serve_rounds-clause-follows
 returns-in_err-serve_rounds-clause-follows g c =
@@ -41,7 +41,7 @@ returns-clause-ends g c =
     let p = c.index_mut.result.now in
     let there = stands_at c.args.stations.now.items c.from-number.result p (omega arith) c.index_mut.ensures.value in
     served _ c.args.step c.from-number.result c.args.stations.now.items c.args.recorder.now _ p _ _ c.from-number.ensures there c.in_ok-act_at.ensures.does
-    c.in_ok-serve_rounds.ensures.ends
+    (rw c.relative-moment.ensures at c.in_ok-serve_rounds.ensures.ends)
 
 pub returns-clause-follows : goal.returns-clause-follows
 returns-clause-follows g c =

@@ -52,7 +52,7 @@ returns-clause-ends g c =
     let p = c.index_mut.result.now in
     let there = stands_at c.args.stations.now.items c.from-2.result c.args.step.station p (omega arith) c.from-2.ensures c.index_mut.ensures.value in
     served _ c.args.step c.from-2.result c.args.stations.now.items c.args.recorder.now _ p _ _ c.of_station.result c.serve_rounds.result c.from-2.ensures there
-    c.in_ok-act_at.ensures.does c.serve_rounds.ensures.ends c.of_station.ensures.named
+    c.in_ok-act_at.ensures.does (rw c.relative-moment.ensures at c.serve_rounds.ensures.ends) c.of_station.ensures.named
 
 pub returns-then-from-len-clause-fault : goal.returns-then-from-len-clause-fault
 returns-then-from-len-clause-fault g c = grind (arith, elements)

@@ -11,4 +11,4 @@ pub returns-in-Nothing-clause-goes : goal.returns-in-Nothing-clause-goes
 returns-in-Nothing-clause-goes g c = goes_none _
 
 pub returns-in-At-clause-goes : goal.returns-in-At-clause-goes
-returns-in-At-clause-goes g c = c.set_clock.ensures.goes
+returns-in-At-clause-goes g c = c.obey_at.ensures.goes

@@ -1,4 +1,3 @@
-use Rattle.std.proofs.Common.{arith}
 use Rattle.siman_operator.specs.Noting.{datagrams_sent}
 use Rattle.siman_operator.specs.Printing.{printing_of}
 use Rattle.siman_operator.proofs.Going.{keeps_all}
@@ -7,23 +6,23 @@ use Rattle.siman_operator.proofs.post.Post.order.Goals as goal
 
 pub returns-clause-prints : goal.returns-clause-prints
 returns-clause-prints g c =
-    at_counts c.order_at-done.new.station c.order_at-done.new.recorder.entries c.args.self.now.clock c.entry_count-entries.result c.sent_count-sent.result _ _
+    at_counts c.order_at-done.new.station c.order_at-done.new.recorder.entries c.args.self.now.clock.now c.entry_count-entries.result c.sent_count-sent.result _ _
     (printing_of c.args.self.now.printer (g.O.Write.contents c.args.out.now)) (printing_of c.print_sent.new.printer (g.O.Write.contents c.print_sent.new.out))
     c.entry_count-entries.ensures.entries c.sent_count-sent.ensures c.print_sent.ensures
 
 pub returns-clause-goes : goal.returns-clause-goes
 returns-clause-goes g c = record {
   index = c.order_at-done.ensures.index;
-  setting = sent_setting c.order_at-done.new.station c.order_at-done.new.recorder.entries c.args.self.now.clock c.entry_count-entries.result c.sent_count-sent.result _ _ c.print_sent.ensures;
+  setting = sent_setting c.order_at-done.new.station c.order_at-done.new.recorder.entries c.args.self.now.clock.now c.entry_count-entries.result c.sent_count-sent.result _ _ c.print_sent.ensures;
   keeps =
       keeps_all c.args.self.now.station.index c.args.self.now.station.node c.args.self.now.recorder (datagrams_sent c.args.self.now.station.line) c.order_at-done.new.station.node c.order_at-done.new.recorder
       (datagrams_sent c.order_at-done.new.station.line) c.order_at-done.ensures.keeps;
   prints =
       order_prints g.L.Line.passed c.args.self.now.clock c.args.order c.args.self.now.station c.order_at-done.new.station c.args.self.now.recorder c.order_at-done.new.recorder
       c.order_at-done.result (printing_of c.args.self.now.printer (g.O.Write.contents c.args.out.now))
-      (printing_of c.print_sent.new.printer (g.O.Write.contents c.print_sent.new.out)) (omega arith) c.order_at-done.ensures.index
+      (printing_of c.print_sent.new.printer (g.O.Write.contents c.print_sent.new.out)) c.moment_is_in_range.ensures.now c.order_at-done.ensures.index
       c.order_at-done.ensures.ends c.order_at-done.ensures.refused
-      (at_counts c.order_at-done.new.station c.order_at-done.new.recorder.entries c.args.self.now.clock c.entry_count-entries.result c.sent_count-sent.result _ _
+      (at_counts c.order_at-done.new.station c.order_at-done.new.recorder.entries c.args.self.now.clock.now c.entry_count-entries.result c.sent_count-sent.result _ _
       (printing_of c.args.self.now.printer (g.O.Write.contents c.args.out.now)) (printing_of c.print_sent.new.printer (g.O.Write.contents c.print_sent.new.out))
       c.entry_count-entries.ensures.entries c.sent_count-sent.ensures c.print_sent.ensures);
 }

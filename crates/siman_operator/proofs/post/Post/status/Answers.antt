@@ -10,8 +10,8 @@ use Rattle.siman_operator.proofs.post.Post.status.Goals as goal
 pub returns : goal.returns
 returns g c =
     let p = c.args.self.now in
-    let row = status_row p.clock p.recorder.entries (length p.station.node.manager.orders) p.station.dropped (g.L.Line.passed p.station.line.line) c.lost.result in (
+    let row = status_row p.clock.now p.recorder.entries (length p.station.node.manager.orders) p.station.dropped (g.L.Line.passed p.station.line.line) c.lost.result in (
       c.lost.result,
-      joined string_bytes c.status_text.result (line_spelled Text row) (standing_rows p.station.node.manager p.clock) (entity_rows p.address p.station.node.application)
+      joined string_bytes c.status_text.result (line_spelled Text row) (standing_rows p.station.node.manager p.clock.now) (entity_rows p.address p.station.node.application)
           (rw (c.entry_count.ensures.entries, c.passed.ensures) at c.status_text.ensures),
     )

@@ -6,7 +6,8 @@ FILE is ../crates/siman_cases/data/stations.cases if none is given. Of each case
 what is on its link and in its file, its status and the first lines of its faults are compared; `--write` writes the first
 three anew. What the waits for its input find is said by `pause` and `time N` in it. What fails there is given as the case
 has it: a call of the link by its number; a byte of what is printed by `calls 1 N other` or `nothing`, where the N-th is
-not; of the file by the bytes that are left. The last line is `N tried, M wrong`, with status 1 where something is wrong.
+not; of the file by the bytes that are left, and that it is not settled on the disk by a `file NAME.unsettled`. The last
+line is `N tried, M wrong`, with status 1 where something is wrong.
 """
 import sys
 from pathlib import Path
@@ -277,6 +278,10 @@ class Case:
             behind.append(word)
         return behind
 
+    def is_unsettled(self):
+        """Whether its recording is not settled on the disk at the end, which is told behind all else."""
+        return self.words[3] + ".unsettled" in self.files
+
     def status(self):
         return int(self.said.get("status", 0))
 
@@ -289,10 +294,12 @@ class Case:
         if self.words[3] in self.shut:
             return greets, [], None, self.part("errors")[0], self.status()
         if post.most_left is not None and post.most_left < len(post.left()[0]):
-            return greets, [], [self.part("left")[0]], b"output: write\n", 2
+            return greets, [], [self.part("left")[0]], b"output: write\n" * (1 + self.is_unsettled()), 2
         is_cut = self.input_calls is not None and self.input_calls[2] == "other"
         post.play(self.input[: int(self.input_calls[1]) - 1] if is_cut else self.input, self.waits_of_input, is_cut)
         out = post.all_printed()
+        if self.is_unsettled():
+            post.tell_unwritten()
         left = post.left()
         if post.most_left is not None:
             left = [b"".join(left)[: post.most_left]]

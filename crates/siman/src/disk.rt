@@ -52,6 +52,21 @@ impl MadeFile {
     }
 }
 
+impl MadeFile {
+    /// Syncs a regular file; a device or a pipe has no disk to settle on. Records the error, if no
+    /// write failed before.
+    fn settle(&mut self) -> io::Result<()> {
+        if !self.file.metadata()?.is_file() {
+            return Ok(());
+        }
+        let settled = self.file.sync_all();
+        if self.failed.is_none() {
+            self.keep(&settled);
+        }
+        settled
+    }
+}
+
 impl Write for MadeFile {
     fn write(&mut self, buf: &[u8]) -> io::Result<usize> {
         let written = self.file.write(buf);
@@ -313,10 +328,11 @@ impl Outside for Disk<'_> {
         self.keep(SystemCall::Make, created)
     }
 
-    fn close(&mut self, file: MadeFile) {
+    fn close(&mut self, file: MadeFile) -> io::Result<()> {
+        let mut file = file;
+        let settled = file.settle();
         self.keep_writes(&file);
-        // A device or a pipe has no disk to settle on, and answers so.
-        let _ = file.file.sync_all();
+        settled
     }
 
     fn known(&self) -> Known {

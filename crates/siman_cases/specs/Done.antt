@@ -37,7 +37,8 @@ deed_of (done.LookedFor name taken) = LooksFor (letters_of name) taken
 deed_of (done.Created name failed) = Creates (letters_of name) (found_of failed)
 deed_of (done.Lined stations had) = Lines stations had
 deed_of (done.Bound bind peers listening had) = Binds bind (endpoints_of peers) listening had
-deed_of done.Left = Leaves None
+deed_of done.Left = Leaves None (Ok tt)
+deed_of (done.Unsettled kind) = Leaves None (Err kind)
 
 abbrev pub deeds_of : Log Done (Unit {0}) → List Deed
 deeds_of l = map (λ p. deed_of p.0) l.items

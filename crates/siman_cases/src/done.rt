@@ -36,6 +36,8 @@ pub(crate) enum Done {
     /// says. The result is success or the error.
     Bound(Endpoint, Endpoints, Listening, Result<(), ErrorKind>),
     Left,
+    /// A created file was left, and not settled on the disk, with this error.
+    Unsettled(ErrorKind),
 }
 
 /// The letters of a name.

@@ -32,6 +32,8 @@ pub(crate) struct Shelf<'a> {
     opened: Option<&'a File>,
     /// Whether a file appears under the name of the one that is being made, so that saving fails.
     appears: bool,
+    /// Whether the file that is created cannot be settled on the disk.
+    unsettled: bool,
     /// What a fault is explained by.
     known: Known,
     /// Number of files that were opened.
@@ -47,6 +49,9 @@ pub(crate) struct Shelf<'a> {
 /// Suffix that a case adds to the name of a file that appears only while one is made there.
 const LATER: &str = ".later";
 
+/// Suffix that a case adds to the name of a file that is created and then cannot be settled.
+const UNSETTLED: &str = ".unsettled";
+
 /// A shelf with the files of a case, before any request.
 pub(crate) fn filled(alloc: Global, case: &Case, makes: Calls, line_fails: Option<u64>) -> Shelf<'_>
     ensures { deeds_of result.done ≡ [] }
@@ -59,6 +64,7 @@ pub(crate) fn filled(alloc: Global, case: &Case, makes: Calls, line_fails: Optio
         peer: None,
         opened: None,
         appears: false,
+        unsettled: false,
         known: Known::nothing(),
         count: 0,
         asked: String::new(alloc),
@@ -144,6 +150,15 @@ impl<'a> Shelf<'a> {
     fn appears_at(&self, name: &str) -> io::Result<bool> {
         let later = format!(in self.alloc; "{name}{LATER}")?;
         Ok(self.stands(&later).is_some())
+    }
+
+    /// Begins to create a file under this name.
+    fn begin_created(&mut self, name: &str) -> io::Result<Written>
+        ensures { deeds_of self.new.done ≡ deeds_of self.old.done }
+    {
+        let unsettled = format!(in self.alloc; "{name}{UNSETTLED}")?;
+        self.unsettled = self.stands(&unsettled).is_some();
+        self.begin(name)
     }
 
     /// Begins to make a file that takes this name in the end. With `force` it may replace another
@@ -263,15 +278,22 @@ impl<'a> Outside for Shelf<'a> {
     }
 
     fn create(&mut self, name: &str) -> io::Result<Written> {
-        let answer = self.begin(name);
+        let answer = self.begin_created(name);
         self.keep(SystemCall::Make, &answer);
         self.note(Done::Created(letters(name), failure(&answer)));
         answer
     }
 
-    fn close(&mut self, file: Written) {
+    fn close(&mut self, file: Written) -> io::Result<()> {
         self.left = Some(file.bytes);
+        if self.unsettled {
+            let answer = Err(io::Error::from(ErrorKind::Other));
+            self.keep(SystemCall::Write, &answer);
+            self.note(Done::Unsettled(ErrorKind::Other));
+            return answer;
+        }
         self.note(Done::Left);
+        Ok(())
     }
 
     fn known(&self) -> Known {

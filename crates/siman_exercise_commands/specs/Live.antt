@@ -18,7 +18,7 @@ use Rattle.siman_outside.specs.declared.move_refusal.MoveRefusal.{MoveRefusal}
 use Rattle.siman_scripts.specs.MoveLine.{line_of_move}
 use Rattle.std.specs.declared.io.ErrorKind.{ErrorKind}
 use Rattle.std.specs.declared.io.ErrorKind.TheVariants.{AlreadyExists, OutOfMemory}
-use Rattle.siman_outside.specs.Outside.{Has, Stream, Outcome, Deed, LooksFor, Lines, Creates, Leaves}
+use Rattle.siman_outside.specs.Outside.{Has, Stream, Outcome, Deed, Saved, LooksFor, Lines, Creates, Leaves}
 use Rattle.siman_outside.specs.Ending.{Ends, fault_in, IsFaultOf}
 use Rattle.siman_outside.specs.Making.{Answered}
 use Rattle.siman_outside.specs.Opening.{WorksOn}
@@ -69,12 +69,19 @@ IsCreationFault kind fault =
     ((kind ≡ OutOfMemory) × (fault ≡ Memory)) ⊎ ((kind ≡ AlreadyExists) × (fault ≡ Exists))
     ⊎ ((kind ≢ OutOfMemory) × (kind ≢ AlreadyExists) × (fault ≡ Output))
 
+-- the answer, if the file was settled on the disk; else a failed write, unless there was a fault before
+abbrev pub settled_as : Saved → Answered → Answered
+settled_as (Ok x) lived = lived
+settled_as (Err kind) (Ok status) = Err Output
+settled_as (Err kind) (Err fault) = Err fault
+
 -- A FILE IS CREATED, in which the stations record what they do, and is closed
 abbrev pub CreatesLived : {L : Type 0} → Telling L → SettingData → List Move → List (StationAtLine L) → (name : List ℕ) → List Deed → Answered → Stream → Type 0
 CreatesLived told w moves posts name (Creates made (Err kind) ∷ []) answered out =
     (made ≡ name) × Keeps out.old out.new × ((fault : Fault) × IsCreationFault kind fault × (answered ≡ Err fault))
-CreatesLived told w moves posts name (Creates made (Ok fresh) ∷ Leaves left ∷ []) answered out =
-    (made ≡ name) × (let file : Stream = record { old = fresh; new = left } in Lives told w moves posts file answered out)
+CreatesLived told w moves posts name (Creates made (Ok fresh) ∷ Leaves left settled ∷ []) answered out =
+    (made ≡ name)
+    × ((lived : Answered) × (let file : Stream = record { old = fresh; new = left } in Lives told w moves posts file lived out) × (answered ≡ settled_as settled lived))
 CreatesLived told w moves posts name deeds answered out = ⊥
 
 -- no file is created, and nothing is printed

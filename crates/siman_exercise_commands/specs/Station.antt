@@ -1,6 +1,6 @@
 -- What `station` does with a script and its words, and how it ends (profile).
 use Rattle.siman_lines.specs.declared.line.PassedOver.{PassedOver}
-use Rattle.std.specs.Prelude.{◌≡◌, ◌⊎◌, ⊤, ℕ, ◌+◌, Bool, true, false, List, [], ◌∷◌, ◌++◌, length, map, codes, is_some, Option, Some, None, Result, Ok, Err, Vec, if◌then◌else◌}
+use Rattle.std.specs.Prelude.{◌≡◌, ◌⊎◌, ⊤, ℕ, ◌+◌, Bool, true, false, List, [], ◌∷◌, ◌++◌, length, map, max, codes, is_some, Option, Some, None, Result, Ok, Err, Vec, if◌then◌else◌}
 use Rattle.std.specs.declared.alloc.Global.{Global}
 use Rattle.std.specs.Io.KnownBytes.{Keeps}
 use Rattle.dis_records.specs.declared.address.SiteApplication.{SiteApplication}
@@ -29,6 +29,7 @@ use Rattle.siman_operator.specs.declared.printing.PrintFault.TheVariants as prin
 use Rattle.siman_print.specs.Spelled.{lines_spelled}
 use Rattle.siman_print.specs.declared.spelling.Spelling.TheVariants.{Text}
 use Rattle.siman_operator.specs.Scripted.{IsSetUp, SetsUp}
+use Rattle.siman_operator.specs.Told.{WritesMore, closed_status, closed_text}
 use Rattle.siman_outside.specs.Words.{StationAsked}
 use Rattle.siman_outside.specs.declared.endpoint.Endpoint.{Endpoint}
 use Rattle.siman_outside.specs.declared.fault.Ended.{Ended}
@@ -38,7 +39,7 @@ use Rattle.siman_exercise_commands.specs.declared.station.Placed.{Placed}
 use Rattle.siman_outside.specs.Ending.{Ends, IsFaultOf, fault_text}
 use Rattle.siman_outside.specs.Endpoints.{endpoint_of}
 use Rattle.siman_outside.specs.Opening.{IsOpenFault}
-use Rattle.siman_outside.specs.Outside.{Has, Stream, Outcome, Deed, Opens, Reads, LooksFor, Binds, Creates, Leaves}
+use Rattle.siman_outside.specs.Outside.{Has, Stream, Outcome, Deed, Saved, Opens, Reads, LooksFor, Binds, Creates, Leaves}
 use Rattle.siman_exercise_commands.specs.Live.{IsCreationFault}
 use Rattle.siman_exercise_commands.specs.Explained.{Scripted, TextRead, text_read, GivesReason}
 use Rattle.std.specs.Result.{result_err}
@@ -139,14 +140,25 @@ Played = Result SessionReport Fault
 abbrev pub PlaysNone : Fault → List Deed → Played → Streams → Type 0
 PlaysNone fault deeds played s = (deeds ≡ []) × (played ≡ Err fault) × Keeps s.out.old s.out.new × Keeps s.errors.old s.errors.new
 
+-- a file that was not settled on the disk is a failed write
+abbrev pub closed_by : Saved → Result (Unit {0}) PrintFault
+closed_by (Ok x) = Ok tt
+closed_by (Err kind) = Err prints.Write
+
+-- where the file was not settled on the disk, that is reported behind the report of the session
+abbrev pub ReportsSettled : Saved → (told after : SessionReport) → (old new : Option (List ℕ)) → Type 0
+ReportsSettled settled told after old new =
+    (after.status ≡ max told.status (closed_status (closed_by settled))) × WritesMore told.written after.written old new (closed_text (closed_by settled))
+
 -- A FILE IS CREATED, in which the station records what it does with the lines of standard input, and is closed
 abbrev pub CreatesPlayed : {L : Type 0} → (passed : L → PassedOver) → ReadyStation L → (name : List ℕ) → (input : Option (List ℕ)) → List Deed → Played → Streams → Type 0
 CreatesPlayed passed ready name input (Creates made (Err kind) ∷ []) played s =
     (made ≡ name) × ((fault : Fault) × IsCreationFault kind fault × PlaysNone fault [] played s)
-CreatesPlayed passed ready name input (Creates made (Ok fresh) ∷ Leaves left ∷ []) played s =
+CreatesPlayed passed ready name input (Creates made (Ok fresh) ∷ Leaves left settled ∷ []) played s =
     (made ≡ name)
-    × ((told : SessionReport) × (played ≡ Ok told) × Records passed input ready fresh left s.out.old s.out.new s.errors.old s.errors.new told
-    × IsLeft (open_setting ready.head) ready.station.node.application.outfit told.status fresh left)
+    × ((told : SessionReport) × (errors : Option (List ℕ)) × Records passed input ready fresh left s.out.old s.out.new s.errors.old errors told
+    × IsLeft (open_setting ready.head) ready.station.node.application.outfit told.status fresh left
+    × ((after : SessionReport) × (played ≡ Ok after) × ReportsSettled settled told after errors s.errors.new))
 CreatesPlayed passed ready name input deeds played s = ⊥
 
 -- the fault of a session whose first notes could not be printed

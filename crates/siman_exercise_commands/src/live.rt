@@ -7,9 +7,9 @@ ghost use Rattle.exercise_model.specs.Setting.{IsSetting};
 ghost use Rattle.siman_lines.specs.AtLines.{Telling, AreFresh};
 ghost use Rattle.siman_outside.specs.Opening.{WorksOn};
 ghost use Rattle.siman_exercise_commands.specs.Explained.{text_read, GivesReason};
-ghost use Rattle.siman_exercise_commands.specs.Live.{Begins, BeginsText, BeginsFile, IsCreationFault, CreatesLived, LivesAtLines, LivesBegun, IsPlaced, LivesText, is_created, incomplete_recording, EndsLive};
+ghost use Rattle.siman_exercise_commands.specs.Live.{Begins, BeginsText, BeginsFile, IsCreationFault, settled_as, CreatesLived, LivesAtLines, LivesBegun, IsPlaced, LivesText, is_created, incomplete_recording, EndsLive};
 ghost use Rattle.siman_exercise_commands.specs.Live.Lived.{AreNew};
-ghost use Rattle.siman_outside.specs.Outside.{outcome_of, Adds, Has, Did, DidMake, stream};
+ghost use Rattle.siman_outside.specs.Outside.{outcome_of, Adds, Has, Did, DidMake, save_result, stream};
 
 mod moves;
 mod recorded;
@@ -134,6 +134,20 @@ fn fault_before_file(fault: Fault<'_>) -> Lived<'_>
     }
 }
 
+/// The answer, if the file was settled on the disk; else a failed write, unless there was a fault
+/// before.
+fn settled_as(
+    closed: &io::Result<()>,
+    answered: Result<u8, Fault<'static>>,
+) -> Result<u8, Fault<'static>>
+    ensures { result ≡ settled_as (save_result closed.now) answered.entry }
+{
+    match answered {
+        Ok(_) if closed.is_err() => Err(Fault::Output),
+        answered => answered,
+    }
+}
+
 /// Creates the file of a recording, makes the moves, records them in it, and prints the row of
 /// counts. The stations are in their initial state.
 fn create_live<O: Links, W: Write>(
@@ -156,9 +170,8 @@ fn create_live<O: Links, W: Write>(
             let recorded = record_moves(alloc, head, &mut stations, moves, file);
             let LiveRecording { entries, file } = recorded;
             let answered = put_live_row(alloc, entries, left_out(&stations), out);
-            outside.close(file);
             Lived {
-                answered,
+                answered: settled_as(&outside.close(file), answered),
                 created: true,
                 trouble: trouble_of(alloc, &stations),
             }

@@ -2,7 +2,7 @@
 //! input.
 
 ghost use Rattle.std.specs.Prelude.{◌≡◌, ◌+◌, length, None, Ok, map};
-ghost use Rattle.siman_outside.specs.Outside.{outcome_of, Did, DidMake, stream};
+ghost use Rattle.siman_outside.specs.Outside.{outcome_of, Did, DidMake, save_result, stream};
 ghost use Rattle.siman_scripts.specs.Script.{script_at};
 ghost use Rattle.siman_operator.specs.declared.reading.TheConstants.{LONGEST_LINE};
 ghost use Rattle.siman_operator.specs.Clocks.{unit_by};
@@ -10,7 +10,7 @@ ghost use Rattle.siman_operator.specs.Recorded.{IsReady};
 ghost use Rattle.siman_operator.specs.ShortForm.{is_short_form};
 ghost use Rattle.siman_outside.specs.Words.{named_by};
 ghost use Rattle.siman_exercise_commands.specs.Explained.{TextRead, text_read, GivesReason};
-ghost use Rattle.siman_exercise_commands.specs.Station.{of_set_up, Streams, FindsAddress, FindsEndpoint, FindsEndpoints, Places, SetsUpText, SetsUpFile, IsOfScript, CreatesPlayed, of_print, GreetsAndCreates, IsAttached, HasLine, PlaysSetUp, PlaysFile, EndsPlayed, EndsStation};
+ghost use Rattle.siman_exercise_commands.specs.Station.{of_set_up, Streams, FindsAddress, FindsEndpoint, FindsEndpoints, Places, SetsUpText, SetsUpFile, IsOfScript, closed_by, CreatesPlayed, of_print, GreetsAndCreates, IsAttached, HasLine, PlaysSetUp, PlaysFile, EndsPlayed, EndsStation};
 
 use crate::explained::refused;
 use crate::links::Links;
@@ -27,6 +27,7 @@ use siman_outside::{
 };
 use siman_scripts::{LARGEST_SCRIPT, Script, address_of, read_script};
 use std::alloc::Global;
+use std::io;
 use std::io::{Read, Write};
 
 /// Address of a station, endpoint of its socket, endpoints of its peers, name of its recording, and
@@ -160,6 +161,16 @@ fn set_up_file<R: Read + Drop>(
     set_up_text(alloc, &text, address, by_system)
 }
 
+/// A file that was not settled on the disk, as a failed write.
+fn closed_by(closed: &io::Result<()>) -> Result<(), PrintFault>
+    ensures { result ≡ closed_by (save_result closed.now) }
+{
+    match closed {
+        Ok(()) => Ok(()),
+        Err(_) => Err(PrintFault::Write),
+    }
+}
+
 /// Creates the file of a recording, and plays a station at its link by the lines of a reader,
 /// recorded in that file.
 fn create_played<O: Links, R: Input<O::Line>, W: Write, E: Write>(
@@ -182,8 +193,8 @@ fn create_played<O: Links, R: Input<O::Line>, W: Write, E: Write>(
             let room = &mut placed.room;
             let recorded = record_session(alloc, ready, file, input, room, out, errors);
             let SessionRecording { told, file } = recorded;
-            outside.close(file);
-            Ok(told)
+            let closed = closed_by(&outside.close(file));
+            Ok(told.and_closed(errors, closed))
         }
         Err(error) => {
             drop(ready);

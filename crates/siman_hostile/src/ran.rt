@@ -90,8 +90,9 @@ impl<'a> Outside for MemoryFiles<'a> {
         Ok(write_to(self.alloc, WELL))
     }
 
-    fn close(&mut self, file: Written) {
+    fn close(&mut self, file: Written) -> io::Result<()> {
         self.left = Some(file.bytes);
+        Ok(())
     }
 
     fn known(&self) -> Known {

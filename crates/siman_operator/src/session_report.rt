@@ -54,8 +54,9 @@ impl SessionReport {
         }
     }
 
-    /// Reports a recording without an end, or counts that were not printed.
-    pub(crate) fn and_closed<E: Write>(
+    /// Reports a recording without an end or not settled on the disk, or counts that were not
+    /// printed.
+    pub fn and_closed<E: Write>(
         self,
         errors: &mut E,
         closed: Result<(), PrintFault>,

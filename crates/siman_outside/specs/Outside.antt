@@ -89,9 +89,9 @@ pub data Deed : Type 0 where
   Lines : (stations : ℕ) → Result ℕ ErrorKind → Deed
   -- A call asked for a link whose socket is bound to `bind` and which sends to these peers and hears whom and what it is to hear; it succeeded, or this is the error.
   Binds : (bind : Endpoint) → (peers : List Endpoint) → Listening → Saved → Deed
-  -- A file was created under a name; it was left with these bytes, if they are known.
+  -- A file was created under a name; it was left with these bytes, if they are known, and they are settled on the disk, or not.
   Creates : (name : List ℕ) → Found → Deed
-  Leaves : Option (List ℕ) → Deed
+  Leaves : Option (List ℕ) → Saved → Deed
 
 -- The calls are appended to the calls before, if those are known.
 abbrev pub Adds : Option (List Deed) → Option (List Deed) → List Deed → Type 0

@@ -77,9 +77,10 @@ pub trait Outside {
         ensures done { Adds (deeds self.old) (deeds self.new) (Creates name.now (found_by Self.Made.contents result) ∷ []) }
         ensures fresh { IsFresh (found_by Self.Made.contents result) };
 
-    /// Closes a created file, and leaves it as it is.
-    fn close(&mut self, file: Self::Made)
-        ensures done { Adds (deeds self.old) (deeds self.new) (Leaves (Self.Made.contents file) ∷ []) };
+    /// Closes a created file, and leaves it as it is. Fails if a regular file may not outlast a power
+    /// loss.
+    fn close(&mut self, file: Self::Made) -> io::Result<()>
+        ensures done { Adds (deeds self.old) (deeds self.new) (Leaves (Self.Made.contents file) (save_result result) ∷ []) };
 
     /// Details of the calls so far that explain a fault. No contract speaks of them: they are the
     /// system's own reports.

@@ -15,15 +15,19 @@ returns-in-Ok g c = (
   (
     (
       refl,
-      record {
-        after = c.record_moves-recorded.new.stations.items;
-        entries = c.record_moves-recorded.result.entries;
-        records = c.record_moves-recorded.ensures.records;
-        recorded = c.record_moves-recorded.ensures.recorded;
-        tells =
-            subst (λ (left : LeftOut). PutsLiveRow c.record_moves-recorded.result.entries left c.put_live_row-answered.result (record { old = g.W.Write.contents c.args.out.now; new = g.W.Write.contents c.put_live_row-answered.new.out }))
-            (c.left_out.ensures ∙ ap (left_out_by g.O.Line.Line.passed) c.deref.ensures.value) c.put_live_row-answered.ensures;
-      },
+      (
+        c.put_live_row-answered.result,
+        record {
+          after = c.record_moves-recorded.new.stations.items;
+          entries = c.record_moves-recorded.result.entries;
+          records = c.record_moves-recorded.ensures.records;
+          recorded = c.record_moves-recorded.ensures.recorded;
+          tells =
+              subst (λ (left : LeftOut). PutsLiveRow c.record_moves-recorded.result.entries left c.put_live_row-answered.result (record { old = g.W.Write.contents c.args.out.now; new = g.W.Write.contents c.put_live_row-answered.new.out }))
+              (c.left_out.ensures ∙ ap (left_out_by g.O.Line.Line.passed) c.deref.ensures.value) c.put_live_row-answered.ensures;
+        },
+        c.settled_as.ensures,
+      ),
     ),
     refl,
   ),

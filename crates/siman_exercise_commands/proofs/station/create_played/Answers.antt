@@ -12,7 +12,23 @@ returns-in-Ok g c = (
   _,
   adds_then _ _ _ _ _ c.in-Ok.ensures.done c.close.ensures.done,
   (λ holds. all_two (WasHeld holds) _ _ c.in-Ok.ensures.fresh tt),
-  (refl, (_, refl, c.record_session-recorded.ensures.records, c.record_session-recorded.ensures.left c.requires.ready)),
+  (
+    refl,
+    (
+      _,
+      _,
+      c.record_session-recorded.ensures.records,
+      c.record_session-recorded.ensures.left c.requires.ready,
+      (
+        c.and_closed.result,
+        refl,
+        (
+          rw c.closed_by-closed.ensures at c.and_closed.ensures.status,
+          rw c.closed_by-closed.ensures at c.and_closed.ensures.told,
+        ),
+      ),
+    ),
+  ),
 )
 
 pub returns : goal.returns

@@ -25,7 +25,7 @@ pub(crate) struct SocketCounts {
 }
 
 /// A number, or a missing value.
-fn number_value(number: Option<u64>) -> Value<'static>
+pub(crate) fn number_value(number: Option<u64>) -> Value<'static>
     ensures { value_of result ≡ option_value Number number }
 {
     match number {

@@ -2,13 +2,12 @@
 
 ghost use Rattle.std.specs.Prelude.{◌≡◌, ◌++◌, IfOk, List, OnOk, length, string_bytes};
 ghost use Rattle.siman_lines.specs.Trouble.{address_text};
-ghost use Rattle.siman_print.specs.Fields.{option_value};
-ghost use Rattle.siman_print.specs.Lent.{value_of};
-ghost use Rattle.siman_print.specs.Line.{Number, Line as Row};
+ghost use Rattle.siman_print.specs.Line.{Line as Row};
 ghost use Rattle.siman_print.specs.Spelled.{line_spelled, lines_spelled};
 ghost use Rattle.siman_print.specs.declared.spelling.Spelling.TheVariants.{Text};
 ghost use Rattle.siman_operator.specs.Notes.{AreNotes, standing_rows, entity_rows, status_row, help_rows, stranger_row, station_row, greeting_rows};
 
+use crate::closing::number_value;
 use crate::notes::{put_entities, put_standing};
 use dis_records::Address;
 use siman_application::Application;
@@ -20,16 +19,6 @@ use std::net::{SocketAddr, SocketAddrV4};
 
 /// Most strangers that are noted.
 const MOST_STRANGERS: usize = 64;
-
-/// A number, or a missing value.
-fn count_value(number: Option<u64>) -> Value<'static>
-    ensures { value_of result ≡ option_value Number number }
-{
-    match number {
-        Some(number) => Value::Number(number),
-        None => Value::Missing,
-    }
-}
 
 /// What a session has counted.
 #[derive(Clone, Copy)]
@@ -56,7 +45,7 @@ fn put_counts(text: &mut String, counts: SessionCounts, orders: usize) -> Result
         Field::Keyed("dropped", Value::Number(counts.dropped)),
         Field::Keyed("strangers", Value::Number(counts.passed.strangers)),
         Field::Keyed("other", Value::Number(counts.passed.others)),
-        Field::Keyed("lost", count_value(counts.lost)),
+        Field::Keyed("lost", number_value(counts.lost)),
     ];
     put_named(text, Spelling::Text, "# status", &fields)
 }
@@ -205,7 +194,7 @@ pub(crate) fn greeting_text(
     let mut text = String::new(alloc);
     let fields = [
         Field::Bare("address", Value::Address(address)),
-        Field::Keyed("buffer", count_value(buffer)),
+        Field::Keyed("buffer", number_value(buffer)),
     ];
     put_named(&mut text, Spelling::Text, "# station", &fields)?;
     text.push_str(

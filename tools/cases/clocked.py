@@ -8,7 +8,7 @@ from cases import texts
 from cases.played import Player, bound, free_address
 from cases.trials import PATIENCE, Verdict
 from cases.waiting import ENTITY_STATE, seconds_of
-from pages import ACKNOWLEDGE, CREATE, RECEIVED, SENT, TOLD, Fault, Post, decoded, read_recording, request_of
+from pages import ACKNOWLEDGE, CREATE, RECEIVED, SENT, TOLD, Fault, Post, decoded, help_text, read_recording, request_of
 
 OWN, PEER = (1, 1), (2, 3)
 WAIT = 200  # milliseconds
@@ -291,8 +291,9 @@ def try_stood_still(trials):
 
 
 def try_refused(trials):
-    """`at` is refused, and why is said; `tick` and `status` are lines as ever."""
-    machine, lines = Machine(trials, "clock.refused"), [b"at 5", b"create 1:1 2:3:9", b"tick 1:1", b"at 18446744073709551615", b"status"]
+    """`at` is refused, and why is said, and `help` does not list it; `tick` and `status` are lines as ever."""
+    lines = [b"at 5", b"create 1:1 2:3:9", b"tick 1:1", b"at 18446744073709551615", b"help", b"status"]
+    machine = Machine(trials, "clock.refused")
     machine.says(*lines)
     machine.player.wait_for(lambda: any(line.startswith(b"# waiting ") for line in machine.player.lines))
     outcome, refused = machine.ends(), b""
@@ -302,6 +303,7 @@ def try_refused(trials):
     shown = int(status.split()[2].partition(b"=")[2])
     return [
         Verdict("what a station tells of at by the system's clock", ((2, refused),), (outcome.status, machine.player.errors)),
+        Verdict("what help lists by the system's clock", (True,), help_text(True).encode() in b"".join(machine.player.lines)),
         Verdict("how many entries it has", ([SENT],), [entry.kind for entry in machine.entries]),
         Verdict("the clock of its status", (True,), machine.began <= shown <= machine.ended),
     ]

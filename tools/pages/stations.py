@@ -7,7 +7,7 @@ from .logs import GrowingStory, lines_of, log_text
 from .scripts import Refused, read_line
 from .worlds import ORDERS, Stopped, World
 
-__all__ = ["HELP", "LONGEST_LINE", "MOST_STRANGERS_NOTED", "Post", "absolute_timestamp", "greeting"]
+__all__ = ["LONGEST_LINE", "MOST_STRANGERS_NOTED", "Post", "absolute_timestamp", "greeting", "help_text"]
 
 LONGEST_LINE = 65_536
 MOST_STRANGERS_NOTED = 64
@@ -17,15 +17,21 @@ HOUR, LATEST = 3_600_000_000, (1 << 64) - 1  # microseconds
 HELP = """\
 # create OWN TO, remove OWN TO, start OWN TO, stop OWN TO: an order; OWN is this station, S:A, and TO an entity, S:A:E
 # do OWN TO ACTION, query OWN TO ID .., set OWN TO ID VALUE: orders an action, asks for data, sets a datum
-# at N: the clock shows N; tick OWN: sends an order that is due again; tell OWN E: tells the state of its entity E
+# {clock}; tick OWN: sends an order that is due again; tell OWN E: tells the state of its entity E
 # status: the orders that are not answered, the entities and the counts; quit, or Ctrl-D: the end
 """
+BY_LINES, BY_SYSTEM = "at N: the clock shows N", "the system's clock sets the time"
 ENDS = "quit, or Ctrl-D, ends the recording whole; after Ctrl-C it has no end, and siman mend keeps its entries; help lists the lines"
 
 
 def greeting(address, buffer="N"):
     """What is printed once the link is open."""
     return f"# station {identifier_text(address)} buffer={buffer}\n# {ENDS}\n"
+
+
+def help_text(by_system):
+    """The lines that a station takes; no line sets the clock of the system."""
+    return HELP.format(clock=BY_SYSTEM if by_system else BY_LINES)
 
 
 def absolute_timestamp(time):
@@ -103,7 +109,7 @@ class Post(World):
             self.refuse(why)
         self.serve()
         if line == b"help":
-            self.note(HELP)
+            self.note(help_text(self.by_system))
         if line == b"status":
             self.note_status()
         self.end_thing()

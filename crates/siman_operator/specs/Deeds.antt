@@ -92,7 +92,7 @@ data_of p = record { station = p.station; recorder = p.recorder; log = p.printer
 -- what a line asks of a session is answered; nothing is printed, if it asks nothing
 abbrev pub AnswersQuestion : {L : Type 0} → (passed : L → PassedOver) → Question → PostData L → (old new : Printing) → Type 0
 AnswersQuestion passed questions.Nothing p old new = PrintsNothing old new
-AnswersQuestion passed questions.Help p old new = MayNote help_rows old new
+AnswersQuestion passed questions.Help p old new = MayNote (help_rows (is_system p.source)) old new
 AnswersQuestion passed questions.Status p old new =
     (lost : Option ℕ) × MayNote (status_rows p.address p.station.node p.clock.now p.recorder.entries p.station.dropped (passed p.station.line.line) lost) old new
 

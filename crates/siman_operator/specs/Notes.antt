@@ -144,12 +144,17 @@ abbrev pub status_rows : SiteApplication → Node → (clock records dropped : �
 status_rows address n clock records dropped passed lost =
     status_row clock records (length n.manager.orders) dropped passed lost ∷ (standing_rows n.manager clock ++ entity_rows address n.application)
 
--- WHICH LINES THERE ARE
-abbrev pub help_rows : List Line
-help_rows =
+-- what sets the clock, a line or the system, and the lines that go by it
+abbrev pub clock_row : (by_system : Bool) → Line
+clock_row true = named_line (codes "# the system's clock sets the time; tick OWN: sends an order that is due again; tell OWN E: tells the state of its entity E") []
+clock_row false = named_line (codes "# at N: the clock shows N; tick OWN: sends an order that is due again; tell OWN E: tells the state of its entity E") []
+
+-- WHICH LINES A STATION TAKES, if its clock is the system's (`by_system`), and if lines set it
+abbrev pub help_rows : (by_system : Bool) → List Line
+help_rows by_system =
     named_line (codes "# create OWN TO, remove OWN TO, start OWN TO, stop OWN TO: an order; OWN is this station, S:A, and TO an entity, S:A:E") []
     ∷ named_line (codes "# do OWN TO ACTION, query OWN TO ID .., set OWN TO ID VALUE: orders an action, asks for data, sets a datum") []
-    ∷ named_line (codes "# at N: the clock shows N; tick OWN: sends an order that is due again; tell OWN E: tells the state of its entity E") []
+    ∷ clock_row by_system
     ∷ named_line (codes "# status: the orders that are not answered, the entities and the counts; quit, or Ctrl-D: the end") [] ∷ []
 
 -- ---- strangers

@@ -5,7 +5,7 @@ ghost use Rattle.siman_lines.specs.Trouble.{address_text};
 ghost use Rattle.siman_print.specs.Line.{Line as Row};
 ghost use Rattle.siman_print.specs.Spelled.{line_spelled, lines_spelled};
 ghost use Rattle.siman_print.specs.declared.spelling.Spelling.TheVariants.{Text};
-ghost use Rattle.siman_operator.specs.Notes.{AreNotes, standing_rows, entity_rows, status_row, help_rows, stranger_row, station_row, greeting_rows};
+ghost use Rattle.siman_operator.specs.Notes.{AreNotes, standing_rows, entity_rows, status_row, clock_row, help_rows, stranger_row, station_row, greeting_rows};
 
 use crate::closing::number_value;
 use crate::notes::{put_entities, put_standing};
@@ -69,9 +69,20 @@ pub(crate) fn status_text(
     Ok(text)
 }
 
-/// Which lines there are.
-pub(crate) fn help_text(alloc: Global) -> Result<String, AllocError>
-    ensures { IfOk result (λ text. string_bytes text ≡ lines_spelled Text help_rows) }
+/// What sets the clock, and the lines that go by it.
+fn clock_help(by_system: bool) -> &'static str
+    ensures { result.now ≡ line_spelled Text (clock_row by_system) }
+{
+    if by_system {
+        "# the system's clock sets the time; tick OWN: sends an order that is due again; tell OWN E: tells the state of its entity E\n"
+    } else {
+        "# at N: the clock shows N; tick OWN: sends an order that is due again; tell OWN E: tells the state of its entity E\n"
+    }
+}
+
+/// Which lines a station takes, whose clock is the system's if `by_system`.
+pub(crate) fn help_text(alloc: Global, by_system: bool) -> Result<String, AllocError>
+    ensures { IfOk result (λ text. string_bytes text ≡ lines_spelled Text (help_rows by_system)) }
 {
     let mut text = String::new(alloc);
     text.push_str(
@@ -80,9 +91,7 @@ pub(crate) fn help_text(alloc: Global) -> Result<String, AllocError>
     text.push_str(
         "# do OWN TO ACTION, query OWN TO ID .., set OWN TO ID VALUE: orders an action, asks for data, sets a datum\n",
     )?;
-    text.push_str(
-        "# at N: the clock shows N; tick OWN: sends an order that is due again; tell OWN E: tells the state of its entity E\n",
-    )?;
+    text.push_str(clock_help(by_system))?;
     text.push_str(
         "# status: the orders that are not answered, the entities and the counts; quit, or Ctrl-D: the end\n",
     )?;

@@ -1,6 +1,6 @@
 //! The clock of a session: what sets it, when it ticks by itself, and how long it waits.
 
-ghost use Rattle.std.specs.Prelude.{◌≡◌};
+ghost use Rattle.std.specs.Prelude.{◌≡◌, ◌&&◌};
 ghost use Rattle.siman_manager.specs.Viewed.{viewed};
 ghost use Rattle.siman_operator.specs.Clocks.{clock_at, is_system, has_due, is_waiting, due_time_of, due_time, earlier, next_due, wait_end, wait_by, source_by, unit_by};
 
@@ -93,28 +93,28 @@ impl ClockSource {
         }
     }
 
-    /// Until when a session waits. `None`: for ever.
-    pub(crate) fn wait_end(self, manager: &Manager) -> Option<u64>
-        ensures { result ≡ wait_end self manager.now }
+    /// Whether a session ticks, given what its clock shows, and until when it waits otherwise.
+    pub(crate) fn pace(self, manager: &Manager, now: u64) -> Pace
+        ensures ticks { result.ticks ≡ (is_system self && has_due manager.now now) }
+        ensures until { result.until ≡ wait_end self manager.now }
     {
         match self {
-            ClockSource::Lines => None,
-            ClockSource::System(wait) => next_due(manager, wait),
+            ClockSource::Lines => Pace {
+                ticks: false,
+                until: None,
+            },
+            ClockSource::System(wait) => order_pace(manager, wait, now),
         }
     }
 }
 
-/// Whether an order is due.
-#[tactic(auto, unfolding(crate::specs::Clocks::has_due))]
-pub(crate) fn has_due(manager: &Manager, now: u64) -> bool
-    ensures { result ≡ has_due manager.now now }
-{
-    for place in 0..manager.order_count() {
-        if manager.is_due(place, now) {
-            return true;
-        }
-    }
-    false
+/// How a session goes on where no line comes.
+#[derive(Clone, Copy, Debug)]
+pub(crate) struct Pace {
+    /// Whether it ticks at once, since an order is due.
+    pub ticks: bool,
+    /// Until when it waits otherwise. `None`: for ever.
+    pub until: Option<u64>,
 }
 
 /// Whether an order waits.
@@ -159,13 +159,20 @@ fn earlier(a: Option<u64>, b: Option<u64>) -> Option<u64>
     }
 }
 
-/// Time at which the next order is due.
-fn next_due(manager: &Manager, wait: u64) -> Option<u64>
-    ensures { result ≡ next_due manager.now wait }
+/// Whether an order is due now, and the time at which the next one is, `wait` after it was sent. It
+/// looks at each order once.
+#[tactic(auto, unfolding(crate::specs::Clocks::has_due))]
+fn order_pace(manager: &Manager, wait: u64, now: u64) -> Pace
+    ensures ticks { result.ticks ≡ has_due manager.now now }
+    ensures until { result.until ≡ next_due manager.now wait }
 {
-    let mut next = None;
+    let mut ticks = false;
+    let mut until = None;
     for place in 0..manager.order_count() {
-        next = earlier(next, due_time(manager, wait, place));
+        until = earlier(until, due_time(manager, wait, place));
+        if manager.is_due(place, now) {
+            ticks = true;
+        }
     }
-    next
+    Pace { ticks, until }
 }

@@ -152,11 +152,12 @@ pub(crate) fn next_step<L: Line + Drop, R: Input<L>, W: Write>(
     ensures goes { IfOk result (λ come. GoesOnBy (R.remaining input.old) (R.remaining input.new) buffer.old buffer.new held.old held.new (Some come.coming)) }
     ensures ticks { IfOk result (λ come. is_tick come.coming ≡ ticks_at (data_of post.now)) }
 {
-    if post.ticks() {
+    let pace = post.pace();
+    if pace.ticks {
         return Ok(Come {
             coming: Coming::Tick,
             time: post.time(),
         });
     }
-    next_coming(input, post.link(), post.wait_end(), buffer, held)
+    next_coming(input, post.link(), pace.until, buffer, held)
 }

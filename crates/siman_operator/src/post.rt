@@ -10,7 +10,7 @@ ghost use Rattle.siman_operator.specs.Printing.{printing_of};
 ghost use Rattle.siman_operator.specs.Clocks.{wait_end};
 ghost use Rattle.siman_operator.specs.Closing.{session_text, PrintsEnd, Closes};
 
-use crate::clock::{ClockSource, has_due};
+use crate::clock::{ClockSource, Pace};
 use crate::closing::{SocketCounts, print_counts};
 use crate::printing::{EntryPrinter, PrintFault};
 use crate::tracing_line::TracingLine;
@@ -265,18 +265,14 @@ impl<'s, L: Line + Drop, W: Write> Post<'s, L, W> {
         self.clock.now
     }
 
-    /// Whether it ticks by itself: an order is due by the system's clock.
-    pub(crate) fn ticks(&self) -> bool
-        ensures { result ≡ ticks_at (data_of self.now) }
+    /// Whether it ticks by itself, since an order is due by the system's clock, and until when it
+    /// waits otherwise for what comes next.
+    pub(crate) fn pace(&self) -> Pace
+        ensures ticks { result.ticks ≡ ticks_at (data_of self.now) }
+        ensures until { result.until ≡ wait_end self.now.source self.now.station.node.manager }
     {
-        self.source.is_system() && has_due(&self.station.node.manager, self.clock.now)
-    }
-
-    /// Until when it waits for what comes next. `None`: for ever.
-    pub(crate) fn wait_end(&self) -> Option<u64>
-        ensures { result ≡ wait_end self.now.source self.now.station.node.manager }
-    {
-        self.source.wait_end(&self.station.node.manager)
+        let manager = &self.station.node.manager;
+        self.source.pace(manager, self.clock.now)
     }
 
     /// Sets its clock, given what the system's clock shows.

@@ -19,6 +19,7 @@ pub mod SessionLines
 pub mod Reasons
 pub mod Alone
 pub mod Begun
+pub mod Waited
 pub mod Played
 pub mod Ended
 pub mod Leavings

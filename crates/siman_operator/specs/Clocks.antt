@@ -1,5 +1,5 @@
 -- The clock of a session: what sets it, when it ticks by itself, and how long it waits (profile).
-use Rattle.std.specs.Prelude.{ℕ, ◌+◌, zero, suc, ◌*◌, ◌-◌, ◌^◌, Bool, true, false, nat_lt, min, length, slice_get, Option, Some, None, is_some, if◌then◌else◌}
+use Rattle.std.specs.Prelude.{ℕ, ◌+◌, zero, suc, ◌*◌, ◌-◌, ◌^◌, Bool, true, false, nat_lt, nat_le, min, length, slice_get, Option, Some, None, is_some, if◌then◌else◌}
 use Rattle.std.specs.Option.{option_map_or}
 use Rattle.exercise_model.specs.Place.{first_below}
 use Rattle.siman_manager.specs.Book.{Book}
@@ -63,6 +63,11 @@ earliest_below f (suc n) = earlier (earliest_below f n) (f n)
 -- THE TIME AT WHICH THE NEXT ORDER IS DUE, each so long after it was last sent
 abbrev pub next_due : Book → (wait : ℕ) → Option ℕ
 next_due b wait = earliest_below (due_time b wait) (length b.orders)
+
+-- a time has come, by what the clock shows; where there is none, it never comes
+abbrev pub is_reached : Option ℕ → (now : ℕ) → Bool
+is_reached None now = false
+is_reached (Some time) now = nat_le time now
 
 -- until when a session waits, if it does not wait for ever
 abbrev pub wait_end : ClockSource → Book → Option ℕ

@@ -1,7 +1,12 @@
 -- What comes to a session next: a line of its text, or datagrams before the line is whole (profile).
-use Rattle.std.specs.Prelude.{◌≡◌, ◌≤◌, ℕ, ◌+◌, Bool, true, false, List, length, take, Option, Some, None}
+use Rattle.std.specs.Prelude.{◌≡◌, ◌≤◌, ℕ, ◌+◌, Bool, true, false, ◌||◌, List, length, take, Option, Some, None, if◌then◌else◌}
 use Rattle.std.specs.Io.KnownBytes.{Consumes, IsAtEnd}
 use Rattle.byte_files.specs.Lines.{IsOneLine, HoldsLine}
+use Rattle.std.specs.Bool.{MatchBool}
+use Rattle.siman_lines.specs.declared.input.Ready.{Ready}
+use Rattle.siman_operator.specs.Clocks.{is_reached, wait_end}
+use Rattle.siman_operator.specs.Deeds.{PostData, ticks_at}
+use Rattle.siman_operator.specs.declared.coming.Come.{Come}
 use Rattle.siman_operator.specs.declared.coming.Coming.{Coming}
 use Rattle.siman_operator.specs.declared.coming.Coming.TheVariants as comings
 
@@ -52,3 +57,39 @@ ComesBy rest now buffer held (Some coming) = Comes rest now buffer held coming
 abbrev pub GoesOnBy : (old new : Option (List ℕ)) → (buffer buffer_after : List ℕ) → (held held_after : ℕ) → Option Coming → Type 0
 GoesOnBy old new buffer buffer_after held held_after step =
     (rest : Option (List ℕ)) → HasBegun rest old buffer held → ComesBy rest new buffer_after held_after step
+
+-- Why it comes.
+
+-- whether the text says it: a line that is whole, or the end of the text
+abbrev pub is_of_text : Coming → Bool
+is_of_text comings.Tick = false
+is_of_text comings.Datagrams = false
+is_of_text (comings.Line size) = true
+is_of_text comings.End = true
+
+-- WHY A WAIT UNTIL A TIME ENDED, by what it found last. A line or the end of the text comes only where there was text;
+-- datagrams, only where some may have come, or where the time that the system's clock showed has reached the end of the
+-- wait. Nothing waits for a tick
+abbrev pub ends_wait : (until : Option ℕ) → (found : Ready) → Coming → Bool
+ends_wait until found comings.Tick = false
+ends_wait until found comings.Datagrams = found.datagrams || is_reached until found.time
+ends_wait until found (comings.Line size) = found.text
+ends_wait until found comings.End = found.text
+
+-- WHAT COMES AFTER A WAIT, by what it found and what the text says then, if anything. It goes on only where the text says
+-- nothing, no datagrams may have come, and the time that the system's clock showed has not reached its end
+abbrev pub come_of : (until : Option ℕ) → (found : Ready) → (said : Option Coming) → Option Come
+come_of until found (Some coming) = Some (record { coming = coming; until = until; found = found })
+come_of until found None =
+    if found.datagrams || is_reached until found.time then Some (record { coming = comings.Datagrams; until = until; found = found }) else None
+
+-- what is found where nothing waits
+abbrev pub unwaited : (time : ℕ) → Ready
+unwaited time = record { text = false; datagrams = false; time = time }
+
+-- WHY THIS COMES TO A POST: a tick at once, at the time of its clock, exactly where an order is due by the system's
+-- clock; and else what ended its wait, which lasts until the next order is due
+abbrev pub ComesTo : {L : Type 0} → PostData L → Come → Type 0
+ComesTo p come =
+    MatchBool (ticks_at p) (come ≡ record { coming = comings.Tick; until = wait_end p.source p.station.node.manager; found = unwaited p.clock.now })
+    (ends_wait (wait_end p.source p.station.node.manager) come.found come.coming ≡ true)

@@ -1,12 +1,13 @@
 //! What comes to a session next: a line of its text, or before the line is whole datagrams or a tick.
 
-ghost use Rattle.std.specs.Prelude.{◌≡◌, ◌<◌, ◌-◌, ◌^◌, false, length, IfOk, IfSome, Some};
-ghost use Rattle.siman_operator.specs.Coming.{GoesOnBy, size_of, number_by, is_tick};
+ghost use Rattle.std.specs.Prelude.{◌≡◌, ◌<◌, ◌-◌, ◌^◌, ◌&&◌, false, true, length, IfOk, IfSome, Some};
+ghost use Rattle.siman_operator.specs.Clocks.{is_reached, wait_end};
+ghost use Rattle.siman_operator.specs.Coming.{GoesOnBy, size_of, number_by, is_tick, is_of_text, ends_wait, come_of, ComesTo};
 ghost use Rattle.siman_operator.specs.Deeds.{data_of, ticks_at};
 
 use crate::post::Post;
 use byte_files::{ReadFailed, fill};
-use siman_lines::{Input, Line};
+use siman_lines::{Input, Line, Ready};
 use std::io::{Read, Write};
 
 /// What comes next.
@@ -58,12 +59,14 @@ impl Coming {
     }
 }
 
-/// What comes next, and what the system's clock shows then.
+/// What comes next, and what the last wait for it found.
 #[derive(Clone, Copy, Debug)]
 pub(crate) struct Come {
     pub coming: Coming,
-    /// Microseconds since 1970.
-    pub time: u64,
+    /// Until when the wait lasts at most. `None`: for ever.
+    pub until: Option<u64>,
+    /// Nothing waits for a tick: then it has neither text nor datagrams, and the time of the clock.
+    pub found: Ready,
 }
 
 /// Reads one byte of a text, if it is ready. `held` is how much the buffer has of the line that has
@@ -78,6 +81,7 @@ fn read_on<R: Read>(
     requires { 0 < length buffer.old }
     ensures goes { IfOk result (GoesOnBy (R.remaining reader.old) (R.remaining reader.new) buffer.old buffer.new held.old held.new) }
     ensures no_tick { IfOk result (λ step. IfSome step (λ coming. is_tick coming ≡ false)) }
+    ensures text { IfOk result (λ step. IfSome step (λ coming. (ready && is_of_text coming) ≡ true)) }
 {
     if !ready {
         return Ok(None);
@@ -105,11 +109,36 @@ fn read_on<R: Read>(
 }
 
 /// Whether a time has come.
-fn is_reached(time: Option<u64>, now: u64) -> bool {
+fn is_reached(time: Option<u64>, now: u64) -> bool
+    ensures { result ≡ is_reached time now }
+{
     match time {
         Some(time) => time <= now,
         None => false,
     }
+}
+
+/// What comes after a wait until a time, by what it found and what the text says then, if its line
+/// is whole or it has ended. `None`: nothing yet, and the wait goes on.
+fn come_of(until: Option<u64>, found: Ready, said: Option<Coming>) -> Option<Come>
+    ensures { result ≡ come_of until found said }
+{
+    if let Some(coming) = said {
+        return Some(Come {
+            coming,
+            until,
+            found,
+        });
+    }
+    if found.datagrams || is_reached(until, found.time) {
+        let coming = Coming::Datagrams;
+        return Some(Come {
+            coming,
+            until,
+            found,
+        });
+    }
+    None
 }
 
 /// Waits for the next line of a text, for datagrams at a link, or until the system's clock shows
@@ -125,16 +154,14 @@ fn next_coming<L, R: Input<L>>(
     requires { 0 < length buffer.old }
     ensures goes { IfOk result (λ come. GoesOnBy (R.remaining input.old) (R.remaining input.new) buffer.old buffer.new held.old held.new (Some come.coming)) }
     ensures no_tick { IfOk result (λ come. is_tick come.coming ≡ false) }
+    ensures until { IfOk result (λ come. come.until ≡ until) }
+    ensures ends { IfOk result (λ come. ends_wait until come.found come.coming ≡ true) }
 {
     for _ in 0..u64::MAX {
-        let ready = input.wait(line, until);
-        let time = ready.time;
-        if let Some(coming) = read_on(ready.text, input, buffer, held)? {
-            return Ok(Come { coming, time });
-        }
-        if ready.datagrams || is_reached(until, time) {
-            let coming = Coming::Datagrams;
-            return Ok(Come { coming, time });
+        let found = input.wait(line, until);
+        let said = read_on(found.text, input, buffer, held)?;
+        if let Some(come) = come_of(until, found, said) {
+            return Ok(come);
         }
     }
     Err(ReadFailed)
@@ -151,13 +178,23 @@ pub(crate) fn next_step<L: Line + Drop, R: Input<L>, W: Write>(
     requires { 0 < length buffer.old }
     ensures goes { IfOk result (λ come. GoesOnBy (R.remaining input.old) (R.remaining input.new) buffer.old buffer.new held.old held.new (Some come.coming)) }
     ensures ticks { IfOk result (λ come. is_tick come.coming ≡ ticks_at (data_of post.now)) }
+    ensures until { IfOk result (λ come. come.until ≡ wait_end post.now.source post.now.station.node.manager) }
+    ensures comes { IfOk result (ComesTo (data_of post.now)) }
 {
     let pace = post.pace();
+    let until = pace.until;
     if pace.ticks {
-        return Ok(Come {
-            coming: Coming::Tick,
+        let found = Ready {
+            text: false,
+            datagrams: false,
             time: post.time(),
+        };
+        let coming = Coming::Tick;
+        return Ok(Come {
+            coming,
+            until,
+            found,
         });
     }
-    next_coming(input, post.link(), pace.until, buffer, held)
+    next_coming(input, post.link(), until, buffer, held)
 }

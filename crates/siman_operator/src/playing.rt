@@ -59,10 +59,10 @@ fn take_come<L: Line + Drop, W: Write, O: Write>(
     held: &[u8],
     come: Come,
 ) -> LineResult
-    ensures ends { TakesLine (telling L.passed) (command_taken post.old.address (is_tick come.coming) held.now) (at_time come.time (data_of post.old)) (data_of post.new) result }
+    ensures ends { TakesLine (telling L.passed) (command_taken post.old.address (is_tick come.coming) held.now) (at_time come.found.time (data_of post.old)) (data_of post.new) result }
     ensures goes { GoesOn (printed (data_of post.old) (O.contents out.old)) (printed (data_of post.new) (O.contents out.new)) }
 {
-    post.see_time(come.time);
+    post.see_time(come.found.time);
     if come.coming.is_tick() {
         return post.take_tick(alloc, out);
     }
@@ -81,7 +81,7 @@ fn take_coming<L: Line + Drop, W: Write, O: Write>(
     held: &[u8],
     come: Come,
 ) -> Came
-    ensures takes { TakesLine (telling L.passed) (command_taken post.old.address (is_tick come.coming) held.now) (at_time come.time (data_of post.old)) (data_of post.new) result.line }
+    ensures takes { TakesLine (telling L.passed) (command_taken post.old.address (is_tick come.coming) held.now) (at_time come.found.time (data_of post.old)) (data_of post.new) result.line }
     ensures print_stop { result.print_stop ≡ print_stop_at post.old.printer.fault post.new.printer.fault }
     ensures site { result.site ≡ post.old.address.site }
     ensures application { result.application ≡ post.old.address.application }

@@ -14,7 +14,7 @@ pub returns-then-is_tick-clause-ends : goal.returns-then-is_tick-clause-ends
 returns-then-is_tick-clause-ends g c =
     let told = telling g.L.Line.passed in
     let after = data_of c.take_tick.new.self in
-    subst (λ (b : Bool). TakesLine told (command_taken c.args.post.now.address b c.args.held.now) (at_time c.args.come.time (data_of c.args.post.now)) after c.take_tick.result)
+    subst (λ (b : Bool). TakesLine told (command_taken c.args.post.now.address b c.args.held.now) (at_time c.args.come.found.time (data_of c.args.post.now)) after c.take_tick.result)
     (sym (sym c.is_tick.ensures ∙ c.if-is_tick.true))
     (subst (λ (p : PostData g.row.L.Denot). TakesLine told (Some (commands.Asks p.address tasks.Repeat)) p after c.take_tick.result) c.see_time.ensures c.take_tick.ensures.ends)
 
@@ -27,7 +27,7 @@ pub returns-clause-ends : goal.returns-clause-ends
 returns-clause-ends g c =
     let told = telling g.L.Line.passed in
     let after = data_of c.take_line.new.self in
-    subst (λ (b : Bool). TakesLine told (command_taken c.args.post.now.address b c.args.held.now) (at_time c.args.come.time (data_of c.args.post.now)) after c.take_line.result)
+    subst (λ (b : Bool). TakesLine told (command_taken c.args.post.now.address b c.args.held.now) (at_time c.args.come.found.time (data_of c.args.post.now)) after c.take_line.result)
     (sym (sym c.is_tick.ensures ∙ c.if-is_tick.false))
     (subst (λ (p : PostData g.row.L.Denot). TakesLine told (said_by c.args.held.now) p after c.take_line.result) c.see_time.ensures
     (rw c.line_or_placeholder.ensures at c.take_line.ensures.ends))

@@ -135,14 +135,11 @@ pub(crate) fn play_lines<L: Line + Drop, R: Input<L>, W: Write, O: Write, E: Wri
     let mut held = 0;
     let mut noted = LinkNoted::nothing();
     for _ in 0..u64::MAX {
-        let come = match next_step(input, post, buffer, &mut held) {
-            Ok(come) => come,
-            Err(_) => {
-                return Played {
-                    told,
-                    stop: Stop::Unread,
-                };
-            }
+        let Ok(come) = next_step(input, post, buffer, &mut held) else {
+            return Played {
+                told,
+                stop: Stop::Unread,
+            };
         };
         let Some(size) = come.coming.size() else {
             return Played {

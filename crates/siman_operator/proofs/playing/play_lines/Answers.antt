@@ -8,9 +8,9 @@ use Rattle.siman_operator.proofs.playing.play_lines.Goals as goal
 pub loop-init : goal.loop-init
 loop-init g c = (c.requires, omega arith, none_going _ _ _ _ _ _ _ c.nothing-told.ensures, goes_none _)
 
-pub returns-in_default-clause-plays : goal.returns-in_default-clause-plays
-returns-in_default-clause-plays g c =
-    all_played c.loop.invariant.2 (record { goes = c.in-Ok.ensures.goes }) (sym c.size.ensures ∙ c.in_default.is)
+pub returns-in_default-size-clause-plays : goal.returns-in_default-size-clause-plays
+returns-in_default-size-clause-plays g c =
+    all_played c.loop.invariant.2 (record { goes = c.in-Ok.ensures.goes }) (sym c.size.ensures ∙ c.in_default-size.is)
 
 pub slice_bounds-said-end : goal.slice_bounds-said-end
 slice_bounds-said-end g c = size_within c.loop.invariant.2 (record { goes = c.in-Ok.ensures.goes }) (sym c.size.ensures ∙ c.in-Some.is)

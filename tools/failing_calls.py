@@ -1,7 +1,7 @@
 #!/usr/bin/env python3
 """tools/failing_calls.py CALL BYTES ERROR PROGRAM [WORD..]: runs a program of which calls of the system fail.
 
-Each CALL, `sendto`, `recvfrom` or `link`, whose buffer has BYTES bytes, or any number of them where BYTES is -, fails with the
+Each CALL, `sendto`, `recvfrom`, `link` or `fsync`, whose buffer has BYTES bytes, or any number of them where BYTES is -, fails with the
 error of this name (`EPERM`); or it moves no byte and tells so, where ERROR is `none`. A filter of the kernel (seccomp)
 does it, so nothing is loaded into the program and no rights are needed. Status 125: there is no such filter here.
 """
@@ -14,8 +14,8 @@ import sys
 
 NO_FILTER = 125
 CALLS = {
-    "x86_64": {"sendto": 44, "recvfrom": 45, "link": 86},
-    "aarch64": {"sendto": 206, "recvfrom": 207, "link": 37},
+    "x86_64": {"sendto": 44, "recvfrom": 45, "link": 86, "fsync": 74},
+    "aarch64": {"sendto": 206, "recvfrom": 207, "link": 37, "fsync": 82},
 }
 # Of prctl, and of the filter's instructions: load a word, jump where it is equal, answer.
 NO_NEW_RIGHTS, SET_FILTER, FILTER = 38, 22, 2

@@ -1,6 +1,7 @@
 """Files that are made: none is read and made at once, none that stands is lost, and none stands half."""
 import os
 import random
+import shlex
 import shutil
 import signal
 import subprocess
@@ -182,6 +183,29 @@ def try_room(trials):
     state(trials, "nothing is left beside a file that had no room", ["there"], lambda: sorted(os.listdir(trials.folder / "room")))
 
 
+def unsettled_makers(trials, examples):
+    """The words of each command that makes a file, with NEW for its name: all of them would make it."""
+    for words in makers(trials, examples):
+        if words[0] not in ("join", "chart"):
+            yield [*words, "NEW"]
+    yield ["join", examples[0], "NEW", "form=open"]
+    nothing = trials.file(bytes.fromhex("445352433030303101 0001 0002 0003 0000 00 00000000"))
+    yield ["chart", nothing, trials.file(b"DSCT0001" + bytes(4)), "NEW"]
+
+
+def try_unsettled(trials, examples):
+    """A disk that does not take the file: what stood is kept, and no answer is out. A device has nothing to settle."""
+    fails = [sys.executable, str(FAILING), "fsync", "-", "EIO"]
+    before = " ".join(shlex.quote(word) for word in fails) + " "
+    for words in unsettled_makers(trials, examples):
+        folder = f"unsettled.{words[0]}"
+        made(trials, folder, "there", OLD)
+        words = [f"{folder}/there" if word == "NEW" else word for word in words]
+        after(trials, [*words, "--force"], (UNWRITTEN,), f"{folder}/there", lambda left: left == OLD, before=before)
+        state(trials, f"nothing is left beside what {words[0]} did not settle", ["there"], lambda folder=folder: sorted(os.listdir(trials.folder / folder)))
+    trials.expect(["world", WORKED_SCRIPT, "/dev/null"], Outcome(0, WORKED_LINE, b""), before=before)
+
+
 def try_nobody(trials):
     """A folder that may not be written, as a user who is not root."""
     if os.geteuid() != 0 or not shutil.which("setpriv"):
@@ -259,5 +283,6 @@ def try_all(trials, examples):
     try_left(trials)
     try_streams(trials)
     try_room(trials)
+    try_unsettled(trials, examples)
     try_nobody(trials)
     try_kills(trials)

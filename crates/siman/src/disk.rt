@@ -4,7 +4,8 @@ use crate::host_line::HostLine;
 use crate::part::{PartFile, begin_part};
 use crate::sockets::{line_at, lines_of};
 use siman_console::{
-    Endpoint, FileKind, Known, Links, Listening, Outside, SystemCall, SystemFault, file_kind_of,
+    Endpoint, FileKind, Known, Links, Listening, Outside, Settle, SystemCall, SystemFault,
+    file_kind_of,
 };
 use std::alloc::Global;
 use std::fs::{File, Metadata, OpenOptions};
@@ -50,20 +51,13 @@ impl MadeFile {
             self.failed = Some(error.kind());
         }
     }
-}
 
-impl MadeFile {
-    /// Syncs a regular file; a device or a pipe has no disk to settle on. Records the error, if no
-    /// write failed before.
-    fn settle(&mut self) -> io::Result<()> {
-        if !self.file.metadata()?.is_file() {
-            return Ok(());
+    /// Syncs a regular file. What is no regular file has no disk to settle on.
+    fn sync(&mut self) -> io::Result<()> {
+        if self.file.metadata()?.is_file() {
+            self.file.sync_all()?;
         }
-        let settled = self.file.sync_all();
-        if self.failed.is_none() {
-            self.keep(&settled);
-        }
-        settled
+        Ok(())
     }
 }
 
@@ -75,14 +69,17 @@ impl Write for MadeFile {
     }
 
     fn flush(&mut self) -> io::Result<()> {
-        match self.part {
-            Some(_) => {
-                let settled = self.file.sync_all();
-                self.keep(&settled);
-                settled
-            }
-            None => Ok(()),
+        self.file.flush()
+    }
+}
+
+impl Settle for MadeFile {
+    fn settle(&mut self) -> io::Result<()> {
+        let settled = self.sync();
+        if self.failed.is_none() {
+            self.keep(&settled);
         }
+        settled
     }
 }
 

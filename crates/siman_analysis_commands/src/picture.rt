@@ -16,7 +16,7 @@ use exercise_check::Step;
 use exercise_findings::Findings;
 use exercise_model::ExerciseLog;
 use exercise_review::Register;
-use siman_outside::{Fault, Making, put_settled};
+use siman_outside::{Fault, Making, Settling, put_settled};
 use siman_print::{Field, Value, named_line};
 use std::alloc::{AllocError, Global};
 use std::io::Write;
@@ -187,16 +187,17 @@ impl Making for PictureTexts {
 
     ghost puts = { PutsPicture };
 
-    fn put<F: Write, W: Write>(
+    fn put<S: Settling<F>, F: Write, W: Write>(
         &self,
         _alloc: Global,
+        settling: &S,
         file: &mut F,
         out: &mut W,
     ) -> Result<u8, Fault<'static>> {
         if put(file, self.picture.as_bytes()).is_err() {
             return Err(Fault::Output);
         }
-        match put_settled(file, &self.answer, out) {
+        match put_settled(settling, file, &self.answer, out) {
             Ok(_) => Ok(self.status),
             Err(fault) => Err(fault),
         }

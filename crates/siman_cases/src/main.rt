@@ -16,7 +16,7 @@
 //!   refused
 //! - `file NAME`: a file with this name, which is filled
 //! - `file NAME.later`: a file that appears under NAME while the program makes one there
-//! - `file NAME.unsettled`: a file that is created under NAME cannot be settled on the disk
+//! - `file NAME.unsettled`: a file that is made or created under NAME cannot be settled on the disk
 //! - `shut NAME`, `folder NAME`, `odd NAME`, `full NAME`: a file that can't be opened or made: no
 //!   permission, a directory, a file in place of a directory in its path, no memory
 //! - `input`: standard input, which is filled; a `pause` in it: datagrams come to the station before

@@ -6,10 +6,12 @@ ghost use Rattle.siman_cases.specs.Done.{deed_of, deeds_of};
 use crate::done::{Done, endpoints, failure, had, letters, number};
 use http_server::Log;
 use siman_console::{
-    Endpoint, FileKind, Known, Links, Listening, Outside, SystemCall, SystemFault, file_kind_of,
+    Endpoint, FileKind, Known, Links, Listening, Outside, Settle, SystemCall, SystemFault,
+    file_kind_of,
 };
 use siman_trials::{
     Calls, Case, File, Given, WireLine, Written, found, line_with, lines_of, read_from, write_to,
+    write_unsettled,
 };
 use std::alloc::Global;
 use std::io;
@@ -32,8 +34,6 @@ pub(crate) struct Shelf<'a> {
     opened: Option<&'a File>,
     /// Whether a file appears under the name of the one that is being made, so that saving fails.
     appears: bool,
-    /// Whether the file that is created cannot be settled on the disk.
-    unsettled: bool,
     /// What a fault is explained by.
     known: Known,
     /// Number of files that were opened.
@@ -49,7 +49,7 @@ pub(crate) struct Shelf<'a> {
 /// Suffix that a case adds to the name of a file that appears only while one is made there.
 const LATER: &str = ".later";
 
-/// Suffix that a case adds to the name of a file that is created and then cannot be settled.
+/// Suffix that a case adds to the name of a file that is made or created and then cannot be settled.
 const UNSETTLED: &str = ".unsettled";
 
 /// A shelf with the files of a case, before any request.
@@ -64,7 +64,6 @@ pub(crate) fn filled(alloc: Global, case: &Case, makes: Calls, line_fails: Optio
         peer: None,
         opened: None,
         appears: false,
-        unsettled: false,
         known: Known::nothing(),
         count: 0,
         asked: String::new(alloc),
@@ -137,7 +136,16 @@ impl<'a> Shelf<'a> {
                     ..
                 },
             ) => Err(io::Error::from(*kind)),
-            _ => Ok(write_to(self.alloc, self.makes)),
+            _ => self.empty(name),
+        }
+    }
+
+    /// An empty file for this name, which cannot be settled where the case says so.
+    fn empty(&self, name: &str) -> io::Result<Written> {
+        let unsettled = format!(in self.alloc; "{name}{UNSETTLED}")?;
+        match self.stands(&unsettled) {
+            Some(_) => Ok(write_unsettled(self.alloc, self.makes)),
+            None => Ok(write_to(self.alloc, self.makes)),
         }
     }
 
@@ -150,15 +158,6 @@ impl<'a> Shelf<'a> {
     fn appears_at(&self, name: &str) -> io::Result<bool> {
         let later = format!(in self.alloc; "{name}{LATER}")?;
         Ok(self.stands(&later).is_some())
-    }
-
-    /// Begins to create a file under this name.
-    fn begin_created(&mut self, name: &str) -> io::Result<Written>
-        ensures { deeds_of self.new.done ≡ deeds_of self.old.done }
-    {
-        let unsettled = format!(in self.alloc; "{name}{UNSETTLED}")?;
-        self.unsettled = self.stands(&unsettled).is_some();
-        self.begin(name)
     }
 
     /// Begins to make a file that takes this name in the end. With `force` it may replace another
@@ -278,22 +277,22 @@ impl<'a> Outside for Shelf<'a> {
     }
 
     fn create(&mut self, name: &str) -> io::Result<Written> {
-        let answer = self.begin_created(name);
+        let answer = self.begin(name);
         self.keep(SystemCall::Make, &answer);
         self.note(Done::Created(letters(name), failure(&answer)));
         answer
     }
 
     fn close(&mut self, file: Written) -> io::Result<()> {
+        let mut file = file;
+        let answer = file.settle();
         self.left = Some(file.bytes);
-        if self.unsettled {
-            let answer = Err(io::Error::from(ErrorKind::Other));
-            self.keep(SystemCall::Write, &answer);
-            self.note(Done::Unsettled(ErrorKind::Other));
-            return answer;
+        self.keep(SystemCall::Write, &answer);
+        match &answer {
+            Ok(()) => self.note(Done::Left),
+            Err(error) => self.note(Done::Unsettled(error.kind())),
         }
-        self.note(Done::Left);
-        Ok(())
+        answer
     }
 
     fn known(&self) -> Known {

@@ -31,7 +31,7 @@ pub use siman_file_commands::{
 };
 pub use siman_outside::{
     CommandLine, Ended, Endpoint, FileKind, FilesFault, JoinForm, Known, LARGEST_CERTIFICATE,
-    LARGEST_RECORDING, Listening, NoWord, Notes, OneWord, Outside, Reading, SystemCall,
+    LARGEST_RECORDING, Listening, NoWord, Notes, OneWord, Outside, Reading, Settle, SystemCall,
     SystemFault, Task, TwoWords, Unread, ViewWord, asks_help, end, file_kind_of, read_words,
     say_of_certificate, say_of_recording,
 };

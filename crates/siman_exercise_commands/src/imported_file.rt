@@ -16,7 +16,8 @@ use exercise_recording::{
     Import, ImportFault, PacketRule, RecordingFault, RecordingView, put_head,
 };
 use siman_outside::{
-    Fault, ImportOpening, LARGEST_RECORDING, Making, Notes, Warning, put_settled, short_of,
+    Fault, ImportOpening, LARGEST_RECORDING, Making, Notes, Settling, Warning, put_settled,
+    short_of,
 };
 use siman_print::{Field, Spelling, Value, named_line, put_named};
 use std::alloc::{AllocError, Global};
@@ -312,14 +313,15 @@ impl Making for ImportedFile {
 
     ghost puts = { PutsImported };
 
-    fn put<F: Write, W: Write>(
+    fn put<S: Settling<F>, F: Write, W: Write>(
         &self,
         _alloc: Global,
+        settling: &S,
         file: &mut F,
         out: &mut W,
     ) -> Result<u8, Fault<'static>> {
         match put_both(file, &self.head, behind(&self.made.bytes, self.start)) {
-            Ok(()) => put_settled(file, &self.line, out),
+            Ok(()) => put_settled(settling, file, &self.line, out),
             Err(_) => Err(Fault::Output),
         }
     }

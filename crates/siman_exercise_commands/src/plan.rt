@@ -11,7 +11,7 @@ ghost use Rattle.siman_exercise_commands.specs.Plan.{stop_fault, Tells, TellsSto
 use crate::refusal::move_refusal;
 use byte_files::put;
 use siman_outside::{
-    Fault, Making, MovePlace, Notes, OfFile, Outside, Product, make_of_file, open_fault,
+    Fault, Making, MovePlace, Notes, OfFile, Outside, Product, Settling, make_of_file, open_fault,
     put_settled, read_text, short_text,
 };
 use siman_plans::{PlanText, PlanTextFault, Refusal, SourceReason, placed_source_reason, say_plan};
@@ -137,9 +137,10 @@ impl Making for PlanFile {
 
     ghost puts = { PutsPlan };
 
-    fn put<F: Write, W: Write>(
+    fn put<S: Settling<F>, F: Write, W: Write>(
         &self,
         alloc: Global,
+        settling: &S,
         file: &mut F,
         out: &mut W,
     ) -> Result<u8, Fault<'static>> {
@@ -147,7 +148,7 @@ impl Making for PlanFile {
             return Err(tell_stop(&self.said, refusal, out));
         }
         match put(file, &self.said.script) {
-            Ok(()) => put_settled(file, &self.said.rows, out),
+            Ok(()) => put_settled(settling, file, &self.said.rows, out),
             Err(_) => Err(Fault::Output),
         }
     }

@@ -14,7 +14,7 @@ use crate::recording_file::put_recording;
 use crate::warned::no_such_station;
 use exercise_model::{EntryView, LogEntry, Recording};
 use siman_outside::{
-    Fault, Making, Notes, OfFile, Product, end, put_of_file, put_settled, read_text,
+    Fault, Making, Notes, OfFile, Product, Settling, end, put_of_file, put_settled, read_text,
 };
 use siman_print::{Field, Value, named_line};
 use siman_scripts::{LARGEST_SCRIPT, Script, read_script};
@@ -139,15 +139,16 @@ impl Making for WorldFile {
 
     ghost puts = { PutsWorld };
 
-    fn put<F: Write, W: Write>(
+    fn put<S: Settling<F>, F: Write, W: Write>(
         &self,
         alloc: Global,
+        settling: &S,
         file: &mut F,
         out: &mut W,
     ) -> Result<u8, Fault<'static>> {
         let line = world_line(alloc, &self.recording)?;
         put_recording(alloc, &self.recording, file)?;
-        put_settled(file, &line, out)
+        put_settled(settling, file, &line, out)
     }
 }
 

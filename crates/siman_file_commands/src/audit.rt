@@ -17,8 +17,8 @@ use exercise_check::{Certificate, good_steps_have_no_cause, write_certificate};
 use exercise_conflict::put_blocked;
 use exercise_model::{ExerciseLog, entries_have_one_place, what_explains_holds};
 use siman_outside::{
-    Fault, Making, Notes, OfFile, OfRecording, Product, Reading, end, put_of_file, put_settled,
-    say_of_recording,
+    Fault, Making, Notes, OfFile, OfRecording, Product, Reading, Settling, end, put_of_file,
+    put_settled, say_of_recording,
 };
 use siman_print::{Spelling, counted};
 use std::alloc::{AllocError, Global};
@@ -170,14 +170,15 @@ impl Making for SequenceTexts {
 
     ghost puts = { PutsSequence };
 
-    fn put<F: Write, W: Write>(
+    fn put<S: Settling<F>, F: Write, W: Write>(
         &self,
         _alloc: Global,
+        settling: &S,
         file: &mut F,
         out: &mut W,
     ) -> Result<u8, Fault<'static>> {
         match put(file, &self.certificate) {
-            Ok(()) => put_settled(file, &self.line, out),
+            Ok(()) => put_settled(settling, file, &self.line, out),
             Err(_) => Err(Fault::Output),
         }
     }

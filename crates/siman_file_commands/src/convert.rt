@@ -7,7 +7,7 @@ ghost use Rattle.siman_outside.specs.Outside.{Has};
 ghost use Rattle.siman_file_commands.specs.Convert.{Carries};
 
 use exercise_recording::Conversion;
-use siman_outside::{Fault, Making, Notes, OfFile, Product, put_settled};
+use siman_outside::{Fault, Making, Notes, OfFile, Product, Settling, put_settled};
 use siman_print::counted;
 use std::alloc::Global;
 use std::io::{Read, Write};
@@ -39,14 +39,15 @@ impl Making for Carried {
 
     ghost puts = { PutsConverted };
 
-    fn put<F: Write, W: Write>(
+    fn put<S: Settling<F>, F: Write, W: Write>(
         &self,
         _alloc: Global,
+        settling: &S,
         file: &mut F,
         out: &mut W,
     ) -> Result<u8, Fault<'static>> {
         match self.conversion.write(file) {
-            Ok(()) => put_settled(file, &self.line, out),
+            Ok(()) => put_settled(settling, file, &self.line, out),
             Err(_) => Err(Fault::Output),
         }
     }

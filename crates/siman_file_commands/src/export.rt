@@ -9,7 +9,8 @@ ghost use Rattle.siman_print.specs.Spelled.{line_text};
 use exercise_model::ExerciseLog;
 use exercise_recording::{RecordingView, export, told_count};
 use siman_outside::{
-    Fault, LARGEST_RECORDING, Making, Notes, OfFile, Product, Reading, put_settled, read_bytes,
+    Fault, LARGEST_RECORDING, Making, Notes, OfFile, Product, Reading, Settling, put_settled,
+    read_bytes,
 };
 use siman_print::{Field, Value, named_line};
 use std::alloc::{AllocError, Global};
@@ -51,15 +52,16 @@ impl Making for ExportedFile {
 
     ghost puts = { PutsExported };
 
-    fn put<F: Write, W: Write>(
+    fn put<S: Settling<F>, F: Write, W: Write>(
         &self,
         alloc: Global,
+        settling: &S,
         file: &mut F,
         out: &mut W,
     ) -> Result<u8, Fault<'static>> {
         let log = RecordingView::over_limited(alloc, &self.bytes, LARGEST_RECORDING)?;
         match export(&log, file) {
-            Ok(()) => put_settled(file, &self.line, out),
+            Ok(()) => put_settled(settling, file, &self.line, out),
             Err(_) => Err(Fault::Output),
         }
     }

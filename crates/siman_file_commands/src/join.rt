@@ -9,7 +9,7 @@ use crate::openings::judge_openings;
 use exercise_model::Form;
 use exercise_recording::{FormWord, JoinFault, Joined, Joining, Joint};
 use siman_outside::{
-    Fault, JoinChoices, JoinForm, JoinLimit, LARGEST_RECORDING, Making, Outside, if_free,
+    Fault, JoinChoices, JoinForm, JoinLimit, LARGEST_RECORDING, Making, Outside, Settling, if_free,
     make_file, open_input, put_settled,
 };
 use siman_print::{Field, Value, named_line};
@@ -178,14 +178,15 @@ impl Making for JoinedFile {
 
     ghost puts = { λ joined. PutsBoth joined.joint.text (string_bytes joined.line) };
 
-    fn put<F: Write, W: Write>(
+    fn put<S: Settling<F>, F: Write, W: Write>(
         &self,
         _alloc: Global,
+        settling: &S,
         file: &mut F,
         out: &mut W,
     ) -> Result<u8, Fault<'static>> {
         match self.joint.write(file) {
-            Ok(()) => put_settled(file, &self.line, out),
+            Ok(()) => put_settled(settling, file, &self.line, out),
             Err(_) => Err(Fault::Output),
         }
     }

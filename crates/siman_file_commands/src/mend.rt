@@ -8,7 +8,9 @@ ghost use Rattle.siman_file_commands.specs.Mend.{torn_line, mended_text, Mends};
 ghost use Rattle.siman_print.specs.Spelled.{line_text};
 
 use exercise_recording::{FormatFault, Mended, Mending};
-use siman_outside::{Fault, LARGEST_TORN_RECORDING, Making, Notes, OfFile, Product, put_settled};
+use siman_outside::{
+    Fault, LARGEST_TORN_RECORDING, Making, Notes, OfFile, Product, Settling, put_settled,
+};
 use siman_print::{Field, Value, counted, named_line};
 use std::alloc::{AllocError, Global};
 use std::io::{Read, Write};
@@ -58,14 +60,15 @@ impl Making for MendedFile {
 
     ghost puts = { PutsMended };
 
-    fn put<F: Write, W: Write>(
+    fn put<S: Settling<F>, F: Write, W: Write>(
         &self,
         _alloc: Global,
+        settling: &S,
         file: &mut F,
         out: &mut W,
     ) -> Result<u8, Fault<'static>> {
         match self.mending.write(file) {
-            Ok(()) => put_settled(file, &self.line, out),
+            Ok(()) => put_settled(settling, file, &self.line, out),
             Err(_) => Err(Fault::Output),
         }
     }

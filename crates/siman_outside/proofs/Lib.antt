@@ -5,6 +5,7 @@ mod Openings
 mod Passings
 mod Shown
 mod Searches
+mod Settles
 mod Verdicts
 pub mod Offered
 mod Lasts

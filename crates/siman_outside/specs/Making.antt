@@ -15,7 +15,17 @@ use Rattle.siman_outside.specs.Outside.{Deed, Saved, Makes, Saves, Discards, Str
 abbrev pub Answered : Type 0
 Answered = Result ℕ Fault
 
--- After the flush of the file a line was written, with status 0, or a prefix of it; the file is unchanged.
+-- A FILE IS SETTLED BEFORE ITS ANSWER GOES OUT: with a status it is settled as it stands, and with a fault too, unless nothing of the answer is out
+abbrev pub IsSettledFirst : Answered → (settled left : Option (List ℕ)) → (out : Stream) → Type 0
+IsSettledFirst (Ok status) settled left out = settled ≡ left
+IsSettledFirst (Err fault) settled left out = (settled ≡ left) ⊎ Keeps out.old out.new
+
+-- the same of a file that is written here, unless nothing was written to it
+abbrev pub SettlesFirst : Answered → (settled : Option (List ℕ)) → (file out : Stream) → Type 0
+SettlesFirst (Ok status) settled file out = settled ≡ file.new
+SettlesFirst (Err fault) settled file out = IsSettledFirst (Err fault) settled file.new out ⊎ Keeps file.old file.new
+
+-- Once the file is settled a line was written, with status 0, or a prefix of it; the file is unchanged.
 abbrev pub PutsSettled : (line : List ℕ) → Answered → (file out : Stream) → Type 0
 PutsSettled line (Ok status) file out = (status ≡ 0) × Keeps file.old file.new × Appends out.old out.new line
 PutsSettled line (Err fault) file out = (fault ≡ Output) × Keeps file.old file.new × WritesPart out.old out.new line
@@ -51,9 +61,9 @@ abbrev pub AnswersSaved : Saved → (status : ℕ) → Answered → Type 0
 AnswersSaved (Ok x) status answered = answered ≡ Ok status
 AnswersSaved (Err kind) status answered = (fault : Fault) × IsFaultOf kind (saving_fault kind) fault × (answered ≡ Err fault)
 
--- AFTER AN ANSWER THE FILE IS SAVED, with its content, and after a fault it is discarded
+-- AFTER AN ANSWER THE FILE IS SAVED, with its content, all of which is settled, and after a fault it is discarded
 abbrev pub IsSaved : (left : Option (List ℕ)) → (put : Answered) → Deed → Answered → Type 0
-IsSaved left (Ok status) deed answered = (saved : Saved) × (deed ≡ Saves left saved) × AnswersSaved saved status answered
+IsSaved left (Ok status) deed answered = (saved : Saved) × (deed ≡ Saves left left saved) × AnswersSaved saved status answered
 IsSaved left (Err fault) deed answered = (deed ≡ Discards left) × (answered ≡ Err fault)
 
 -- A FILE IS MADE, which replaces an existing one or not, written and reported as `Puts` says, and then saved or discarded

@@ -79,9 +79,9 @@ pub data Deed : Type 0 where
   Reads : Option (List ℕ) → Deed
   -- A call asked whether a name has a file that a new one would have to replace.
   LooksInto : (name : List ℕ) → Bool → Deed
-  -- A file was made that is to take a name and replaces an existing one or not; it was saved with these bytes, if they are known, or discarded.
+  -- A file was made that is to take a name and replaces an existing one or not; it was saved with these bytes, of which these are settled on the disk, if they are known, or discarded.
   Makes : (name : List ℕ) → (force : Bool) → Found → Deed
-  Saves : Option (List ℕ) → Saved → Deed
+  Saves : Option (List ℕ) → (settled : Option (List ℕ)) → Saved → Deed
   Discards : Option (List ℕ) → Deed
   -- A call asked whether a name is taken.
   LooksFor : (name : List ℕ) → Bool → Deed

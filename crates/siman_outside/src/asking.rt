@@ -1,27 +1,17 @@
 //! Reads words by the table of commands: the task that they ask for.
 
 ghost use Rattle.std.specs.Prelude.{◌≡◌, ◌≤◌, length, map, option_map};
-ghost use Rattle.siman_outside.specs.Words.{asked_by, is_option, takes_of, takes_named, bare_asked, one_asked, two_asked, taken, last_apart, has_option, is_join_word, form_named, form_apart, parts_apart, join_choices_apart, are_names, fewest_pieces, pieces_asked, join_asked, with_choice, choice_apart, choices_apart, import_asked, station_named, station_asked, view_asked, prose_asked, why_asked, plan_asked, chart_asked};
+ghost use Rattle.siman_outside.specs.Words.{asked_by, is_option, takes_of, takes_named, bare_asked, one_asked, two_asked, taken, last_apart, has_option, is_join_word, form_named, form_apart, parts_apart, join_choices_apart, are_names, fewest_pieces, pieces_asked, join_asked, import_asked, station_asked, view_asked, prose_asked, why_asked, plan_asked, chart_asked};
 
 use crate::commands::{
-    ImportWords, JoinChoices, JoinForm, Listening, NoWord, OneWord, Reading, StationChoices,
-    StationWords, Takes, Task, TwoWords, ViewWord,
+    ImportWords, JoinChoices, JoinForm, NoWord, OneWord, Reading, Takes, Task, TwoWords, ViewWord,
 };
 use crate::import_words::choices_of;
 use crate::rows::CommandRow;
+use crate::station_words::station_words;
 use crate::table::{further_rows, rows};
 use siman_print::Spelling;
 use std::convert::AsStr;
-
-/// What no word behind the peers of a station says: it hears its peers alone, keeps Simulation
-/// Management alone, and lines set its clock.
-const NO_CHOICE: StationChoices = StationChoices {
-    listening: Listening {
-        anyone: false,
-        all: false,
-    },
-    by_system: false,
-};
 
 /// Whether a word is an option: it begins with a hyphen and is longer than one byte.
 pub(crate) fn is_option(word: &str) -> bool
@@ -91,7 +81,7 @@ fn two_words<S: AsStr>(
 
 /// The words before the last one, and the last one.
 #[tactic(auto, using(crate::proofs::Lasts::last_behind))]
-fn last_apart<S: AsStr>(words: &[S]) -> Option<(&[S], &str)>
+pub(crate) fn last_apart<S: AsStr>(words: &[S]) -> Option<(&[S], &str)>
     ensures { option_map (λ p. (map S.text p.0.now, p.1.now)) result ≡ last_apart (map S.text words.now) }
 {
     match words.split_last() {
@@ -101,7 +91,7 @@ fn last_apart<S: AsStr>(words: &[S]) -> Option<(&[S], &str)>
 }
 
 /// Whether any of the words is an option.
-fn has_option<S: AsStr>(words: &[S]) -> bool
+pub(crate) fn has_option<S: AsStr>(words: &[S]) -> bool
     ensures { result ≡ has_option (map S.text words.now) }
 {
     let mut others = words;
@@ -237,77 +227,6 @@ fn import_words<S: AsStr>(force: bool, words: &[S]) -> Option<Task<'_, S>>
         }
         _ => None,
     }
-}
-
-/// The choices with that of a word, if it is the word of one that they do not have.
-fn with_choice(mut choices: StationChoices, word: &str) -> Option<StationChoices>
-    ensures { result ≡ with_choice choices word.now }
-{
-    if word == "from=any" && !choices.listening.anyone {
-        choices.listening.anyone = true;
-    } else if word == "keep=all" && !choices.listening.all {
-        choices.listening.all = true;
-    } else if word == "clock=system" && !choices.by_system {
-        choices.by_system = true;
-    } else {
-        return None;
-    }
-    Some(choices)
-}
-
-/// The words without the last one, and the choices with that of this word, if it is the word of one
-/// that they do not have; else both as they are.
-#[tactic(auto, unfolding(crate::specs::Words::choice_apart))]
-fn choice_apart<S: AsStr>(words: &[S], choices: StationChoices) -> (&[S], StationChoices)
-    ensures { (map S.text result.0.now, result.1) ≡ choice_apart (map S.text words.now, choices) }
-{
-    match last_apart(words) {
-        Some((before, last)) => match with_choice(choices, last) {
-            Some(more) => (before, more),
-            None => (words, choices),
-        },
-        None => (words, choices),
-    }
-}
-
-/// The words without `from=any`, `keep=all` and `clock=system` at the end, in any order, and what
-/// these say.
-fn choices_apart<S: AsStr>(words: &[S]) -> (&[S], StationChoices)
-    ensures { (map S.text result.0.now, result.1) ≡ choices_apart (map S.text words.now) }
-{
-    let (names, choices) = choice_apart(words, NO_CHOICE);
-    let (names, choices) = choice_apart(names, choices);
-    choice_apart(names, choices)
-}
-
-/// The task of `station`, if the names include at least one peer.
-fn named_station<S: AsStr>(choices: StationChoices, names: &[S]) -> Option<Task<'_, S>>
-    ensures { option_map (asked_by S.text) result ≡ station_named choices (map S.text names.now) }
-{
-    match names {
-        [setup, address, recording, bind, peers @ ..] if !peers.is_empty() => {
-            Some(Task::Station(StationWords {
-                setup: setup.as_str(),
-                address: address.as_str(),
-                recording: recording.as_str(),
-                bind: bind.as_str(),
-                peers,
-                listening: choices.listening,
-                by_system: choices.by_system,
-            }))
-        }
-        _ => None,
-    }
-}
-
-fn station_words<S: AsStr>(words: &[S]) -> Option<Task<'_, S>>
-    ensures { option_map (asked_by S.text) result ≡ station_asked (map S.text words.now) }
-{
-    let (names, choices) = choices_apart(words);
-    if has_option(names) {
-        return None;
-    }
-    named_station(choices, names)
 }
 
 fn view_words<S: AsStr>(

@@ -1,12 +1,13 @@
 //! Making a file: writing it, printing the answer, and saving it.
 
-ghost use Rattle.std.specs.Prelude.{◌≡◌, ◌∷◌, [], List};
+ghost use Rattle.std.specs.Prelude.{◌≡◌, ◌∷◌, [], List, IfOk};
 ghost use Rattle.std.specs.IoError.{error_kind};
 ghost use Rattle.siman_outside.specs.Outside.{Deed, Adds, DidMake, stream};
-ghost use Rattle.siman_outside.specs.Making.{PutsSettled, PutsBlocked, saving_fault, IsSaved, MakesFile};
+ghost use Rattle.siman_outside.specs.Making.{PutsSettled, IsSettledFirst, PutsBlocked, saving_fault, IsSaved, MakesFile};
 
 use crate::fault::{Fault, of_error};
 use crate::outside::Outside;
+use crate::settle::{OnDisk, Settling};
 use byte_files::put;
 use std::alloc::Global;
 use std::io;
@@ -16,32 +17,37 @@ use std::io::{ErrorKind, Write};
 pub trait Making {
     ghost use Rattle.std.specs.Prelude.{ℕ, Result};
     ghost use Rattle.siman_outside.specs.declared.fault.Fault.{Fault};
+    ghost use Rattle.siman_outside.specs.Making.{SettlesFirst};
     ghost use Rattle.siman_outside.specs.Outside.{Stream, stream};
 
     /// The relation of the value to the status or fault, the made file and the output.
     ghost puts: { Self → Result ℕ Fault → (file out : Stream) → Type 0 };
 
-    /// Writes the whole file, flushes it so that it survives a power loss, and then writes the
+    /// Writes the whole file, settles it so that it outlasts a power loss, and then writes the
     /// answer. Returns the status.
-    fn put<F: Write, W: Write>(
+    fn put<S: Settling<F>, F: Write, W: Write>(
         &self,
         alloc: Global,
+        settling: &S,
         file: &mut F,
         out: &mut W,
     ) -> Result<u8, Fault<'static>>
-        ensures { puts self.now result (stream (F.contents file.old) (F.contents file.new)) (stream (W.contents out.old) (W.contents out.new)) };
+        ensures puts { puts self.now result (stream (F.contents file.old) (F.contents file.new)) (stream (W.contents out.old) (W.contents out.new)) }
+        ensures settled { SettlesFirst result (S.settled file.new) (stream (F.contents file.old) (F.contents file.new)) (stream (W.contents out.old) (W.contents out.new)) };
 }
 
-/// Flushes a written file, so that it survives a power loss, writes the line of the answer, and
+/// Settles a written file, so that it outlasts a power loss, writes the line of the answer, and
 /// returns status 0.
-pub fn put_settled<F: Write, W: Write>(
+pub fn put_settled<S: Settling<F>, F: Write, W: Write>(
+    settling: &S,
     file: &mut F,
     line: &str,
     out: &mut W,
 ) -> Result<u8, Fault<'static>>
-    ensures { PutsSettled line.now result (stream (F.contents file.old) (F.contents file.new)) (stream (W.contents out.old) (W.contents out.new)) }
+    ensures puts { PutsSettled line.now result (stream (F.contents file.old) (F.contents file.new)) (stream (W.contents out.old) (W.contents out.new)) }
+    ensures settled { IsSettledFirst result (S.settled file.new) (F.contents file.new) (stream (W.contents out.old) (W.contents out.new)) }
 {
-    if file.flush().is_err() {
+    if settling.settle(file).is_err() {
         return Err(Fault::Output);
     }
     match put(out, line.as_bytes()) {
@@ -76,6 +82,7 @@ fn save_or_discard<O: Outside>(
     file: O::Made,
     outside: &mut O,
 ) -> Result<u8, Fault<'static>>
+    requires settled { IfOk put (λ _. O.Made.settled file ≡ O.Made.contents file) }
     ensures { (deed : Deed) × Adds (O.deeds outside.old) (O.deeds outside.new) (deed ∷ []) × IsSaved (O.Made.contents file) put.entry deed result }
 {
     let status = match put {
@@ -106,7 +113,7 @@ pub fn make_file<M: Making, O: Outside, W: Write>(
     match outside.make(name, force) {
         Ok(file) => {
             let mut file = file;
-            let put = made.put(alloc, &mut file, out);
+            let put = made.put(alloc, &OnDisk, &mut file, out);
             save_or_discard(put, file, outside)
         }
         Err(error) => Err(of_error(&error, Fault::Output)),

@@ -1,8 +1,9 @@
 //! The surroundings of a program: its files.
 
 use crate::known::Known;
+use crate::settle::Settle;
 use std::io;
-use std::io::{Read, Write};
+use std::io::Read;
 
 /// The files that a program may open and make. For contracts an implementation may say what its
 /// files hold and which calls were made; that of the operating system says neither.
@@ -16,9 +17,9 @@ pub trait Outside {
     /// The reader of an opened file.
     type File: Read + Drop;
 
-    /// A file made for writing. Flushing a regular file of `make` makes all that was written to it
-    /// survive a power loss; for a file written in place a flush promises nothing.
-    type Made: Write + Drop;
+    /// A file made for writing. A regular file that is settled outlasts a power loss; what is written
+    /// in place, as a device or a pipe, has nothing to settle.
+    type Made: Settle + Drop;
 
     /// The calls so far, oldest first, if they are known.
     ghost deeds: { Self → Option (List Deed) } = { λ _. None };
@@ -61,7 +62,7 @@ pub trait Outside {
     /// Saves a made file: it takes its name, in one step, or the file there is unchanged.
     /// `AlreadyExists` if the file there must not be replaced.
     fn save(&mut self, file: Self::Made) -> io::Result<()>
-        ensures done { Adds (deeds self.old) (deeds self.new) (Saves (Self.Made.contents file) (save_result result) ∷ []) };
+        ensures done { Adds (deeds self.old) (deeds self.new) (Saves (Self.Made.contents file) (Self.Made.settled file) (save_result result) ∷ []) };
 
     /// Discards a made file: the file under its name is unchanged.
     fn discard(&mut self, file: Self::Made)

@@ -9,6 +9,7 @@ use crate::making::{Making, make_file, put_blocked_answer};
 use crate::notes::Notes;
 use crate::opening::{if_free, open_input};
 use crate::outside::Outside;
+use crate::settle::{ByFlush, Settling};
 use std::alloc::Global;
 use std::io::{Read, Write};
 
@@ -25,18 +26,19 @@ impl<M: Making> Product<M> {
     ghost use Rattle.siman_outside.specs.Making.{PutsProduct, MakesProduct};
     ghost use Rattle.siman_outside.specs.Outside.{DidMake, stream};
 
-    /// Writes the file to a writer, and then the answer; without a file writes the answer alone.
-    /// Returns the status.
-    pub fn put<F: Write, W: Write>(
+    /// Writes the file to a writer, settles it, and then writes the answer; without a file writes the
+    /// answer alone. Returns the status.
+    pub fn put<S: Settling<F>, F: Write, W: Write>(
         &self,
         alloc: Global,
+        settling: &S,
         file: &mut F,
         out: &mut W,
     ) -> Result<u8, Fault<'static>>
         ensures { PutsProduct M.puts self.now result (stream (F.contents file.old) (F.contents file.new)) (stream (W.contents out.old) (W.contents out.new)) }
     {
         match self {
-            Product::File(made) => made.put(alloc, file, out),
+            Product::File(made) => made.put(alloc, settling, file, out),
             Product::Nothing(answer) => put_blocked_answer(answer, out),
         }
     }
@@ -95,7 +97,7 @@ pub fn put_of_file<C: OfFile + Drop, R: Read + Drop, F: Write, W: Write>(
     ensures { PutsOfFile (C.reads command) C.Made.puts (R.remaining input) result (stream (F.contents file.old) (F.contents file.new)) (stream (W.contents out.old) (W.contents out.new)) }
 {
     match command.read(alloc, input, &mut Notes::nothing()) {
-        Ok(product) => product.put(alloc, file, out),
+        Ok(product) => product.put(alloc, &ByFlush, file, out),
         Err(fault) => Err(fault),
     }
 }

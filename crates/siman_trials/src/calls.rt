@@ -1,6 +1,7 @@
 //! Readers and writers whose calls move few bytes, or fail.
 
 use siman_lines::{Input, Ready};
+use siman_outside::Settle;
 use std::alloc::Global;
 use std::io;
 use std::io::{ErrorKind, Read, Write};
@@ -120,6 +121,8 @@ pub struct Written {
     pub bytes: Vec<u8>,
     calls: Calls,
     made: u64,
+    /// Whether it can be settled.
+    settles: bool,
 }
 
 /// Empty writer into memory, with limited calls.
@@ -128,6 +131,17 @@ pub fn write_to(alloc: Global, calls: Calls) -> Written {
         bytes: Vec::new(alloc),
         calls,
         made: 0,
+        settles: true,
+    }
+}
+
+/// Empty writer into memory, with limited calls, that cannot be settled.
+pub fn write_unsettled(alloc: Global, calls: Calls) -> Written {
+    Written {
+        bytes: Vec::new(alloc),
+        calls,
+        made: 0,
+        settles: false,
     }
 }
 
@@ -147,5 +161,14 @@ impl Write for Written {
 
     fn flush(&mut self) -> io::Result<()> {
         Ok(())
+    }
+}
+
+impl Settle for Written {
+    fn settle(&mut self) -> io::Result<()> {
+        if self.settles {
+            return Ok(());
+        }
+        Err(io::Error::from(ErrorKind::Other))
     }
 }

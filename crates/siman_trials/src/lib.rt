@@ -32,7 +32,9 @@ mod station_call;
 mod station_trial;
 mod wire;
 
-pub use calls::{Calls, Given, WELL, Written, read_from, read_with_waits, write_to};
+pub use calls::{
+    Calls, Given, WELL, Written, read_from, read_with_waits, write_to, write_unsettled,
+};
 pub use case::{Call, Case, begin_case};
 pub use entries::{TextEntries, entries_of};
 pub use file::{File, Stream, found};

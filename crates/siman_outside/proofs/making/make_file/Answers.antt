@@ -10,5 +10,5 @@ returns-in-Ok g c =
       _,
       adds_then _ _ _ _ _ c.in-Ok.ensures.done last.1,
       (λ holds. all_two (WasHeld holds) _ _ c.in-Ok.ensures.fresh (nothing_held holds _ _ _ _ last.2)),
-      (refl, refl, (_, c.put-put.result, c.put-put.ensures, last.2)),
+      (refl, refl, (_, c.put-put.result, c.put-put.ensures.puts, last.2)),
     )

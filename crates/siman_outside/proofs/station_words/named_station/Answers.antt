@@ -1,6 +1,6 @@
 use Rattle.std.proofs.Common.{arith}
 use Rattle.std.proofs.lemmas.Grind.{common_steps}
-use Rattle.siman_outside.proofs.asking.named_station.Goals as goal
+use Rattle.siman_outside.proofs.station_words.named_station.Goals as goal
 
 pub scale_in_slice-setup : goal.scale_in_slice-setup
 scale_in_slice-setup g c = grind (arith, common_steps)
